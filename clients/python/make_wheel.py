@@ -38,13 +38,14 @@ def build_wheel(wheel_directory, config_settings=None, metadata_directory=None):
     """The hook that pip calls; gives the name of the wheel."""
     files = {}
     for name in sorted(os.listdir(os.path.join(HERE, PACKAGE))):
-        if name.endswith(".py"):
+        if name.endswith((".py", ".txt")):
             with open(os.path.join(HERE, PACKAGE, name), "rb") as file:
                 files[f"{PACKAGE}/{name}"] = file.read()
     release = f"{PACKAGE}-{stated('version')}"
     info = f"{release}.dist-info"
     files[f"{info}/METADATA"] = metadata().encode()
     files[f"{info}/WHEEL"] = b"Wheel-Version: 1.0\nGenerator: make_wheel\nRoot-Is-Purelib: true\nTag: py3-none-any\n"
+    files[f"{info}/entry_points.txt"] = f"[console_scripts]\nzurtkvani = {stated('zurtkvani')}\n".encode()
     wheel = f"{release}-py3-none-any.whl"
     write_wheel(os.path.join(wheel_directory, wheel), info, files)
     return wheel

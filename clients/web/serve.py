@@ -6,7 +6,7 @@ usage: clients/web/serve.py STORE [NAME ..] [--edit] [--open] [--port PORT] [--p
 It prints the page's address, which holds a token and the names of the series to show. It listens on the loopback address alone.
 A request line is taken by POST to /request, only with the token and from the page's own origin; without --edit only open, close,
 view, zoom and pan are taken. The answer is the bytes of the line's frame. When the program ends, the page says with which status
-and at which place; no second one is started. It needs only the standard library.
+and at which place, and what that means; no second one is started. It needs only the standard library.
 """
 import argparse
 import hmac
@@ -23,6 +23,10 @@ import webbrowser
 
 HERE = os.path.dirname(os.path.realpath(__file__))
 ROOT = os.path.dirname(os.path.dirname(HERE))
+sys.path.insert(0, os.path.join(ROOT, "scripts"))
+
+from status_words import words_of_status  # noqa: E402
+
 FILES = {
     "/": ("index.html", "text/html; charset=utf-8"),
     "/page.js": ("page.js", "text/javascript; charset=utf-8"),
@@ -60,9 +64,9 @@ class Program:
         said = None
         for line in self.child.stderr:
             sys.stderr.write(line.decode(errors="replace"))
-            said = re.fullmatch(rb"chart: (status \d+ at \d+)\n", line) or said
+            said = re.fullmatch(rb"chart: status (\d+) at (\d+)\n", line) or said
         status = self.child.wait()
-        self.end = "the program has ended with " + (said[1].decode() if said else f"status {status}")
+        self.end = "the program has ended with " + (end_in_words(int(said[1]), int(said[2])) if said else f"status {status}")
         self.over.set()
 
     def read(self, size):
@@ -90,6 +94,12 @@ class Program:
             except OSError:
                 pass
         self.over.wait()
+
+
+def end_in_words(status, place):
+    """A status and its place, what they mean, and what to do."""
+    texts = words_of_status(status, place, "serve") or {}
+    return ". ".join([f"status {status} at {place}"] + [texts[key] for key in ("means", "do") if key in texts])
 
 
 class Handler(http.server.BaseHTTPRequestHandler):

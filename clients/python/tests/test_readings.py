@@ -62,8 +62,14 @@ class Readings(unittest.TestCase):
         text = "\ufefftime,value\n60,1\n\n61,2\n0,3\n120,x\n120,1.25\n120\n180,inf\n180,\n240,NaN\n2000-13-01,1\n180,4\n" + f"180,{10**18}1\n"
         status, sent, told = converted(text, "--step", "60", "--scale", "1")
         self.assertEqual((status, sent), (1, "60,1.0\n180,4.0\n"))
-        self.assertEqual([line.partition(":")[0] for line in told], [f"line {n}" for n in (4, 5, 6, 7, 8, 9, 12, 14)] + ["readings"])
+        self.assertEqual([line.partition(":")[0] for line in told], [f"line {n}" for n in (1, 4, 5, 6, 7, 8, 9, 12, 14)] + ["readings"])
         self.assertEqual(told[-1], "readings: 2 readings, 2 times without one, 8 lines that don't fit; the series: create NAME 60 60 1")
+
+    def test_a_first_row_of_data_is_no_header(self):
+        status, sent, told = converted('01.11.2026 00:00,"21,5"\n0,1\n', "--step", "1")
+        self.assertEqual((status, sent), (1, "0,1\n"))
+        self.assertEqual(told[0], "line 1: '01.11.2026 00:00' is no time")
+        self.assertEqual(converted("when,degrees_2\n0,1\n", "--step", "1")[2][0], "line 1: taken as the names of the columns")
 
     def test_a_slot_that_no_series_has(self):
         status, sent, told = converted(f"0,1\n{2**35 - 1},2\n{2**35},3\n", "--step", "1")
@@ -94,7 +100,7 @@ class Readme(unittest.TestCase):
         with open(os.path.join(ROOT, "clients/python/README.md"), encoding="utf-8") as file:
             text = file.read()
         examples = re.findall(r"^```\n(.*?)^```\n\n((?:    [^\n]*\n)+)", text, re.MULTILINE | re.DOTALL)
-        self.assertEqual(len(examples), 2)
+        self.assertEqual(len(examples), 3)
         with tempfile.TemporaryDirectory() as folder:
             os.symlink(PROGRAM, os.path.join(folder, "chart"))
             subprocess.run([sys.executable, "-m", "venv", os.path.join(folder, "env")], check=True)

@@ -87,7 +87,7 @@ class OverAStore(unittest.TestCase):
                 (8, "UnknownSeries", 0, 0, lambda: store.append("b", [1])),
                 (11, "OffGrid", 0, 0, lambda: store.set("a", 5, [1])),
                 (13, "ValueTooLarge", 0, 0, lambda: store.append("a", [10**18 + 1])),
-                (14, "RangeTooLong", 0, 0, lambda: store.set("a", 0, range(257))),
+                (14, "RangeTooLong", 0, 0, lambda: store.clear("a", 0, 4097)),
                 (16, "NoView", 0, 0, lambda: session.pan(1)),
                 (3, "BadFilter", 3, 0, lambda: session.view("a", 4, 4, 0, 9, where="v >")),
                 (2, "BadLine", 7, 0, lambda: store.append("", [1])),
@@ -108,10 +108,10 @@ class OverAStore(unittest.TestCase):
             with self.assertRaises(ValueError):
                 store.session().view("a", 4, 4, 0, 9, where="v > 1\ncreate b 0 1 0")
 
-    def test_values_are_whole_numbers(self):
+    def test_values_are_numbers(self):
         with self.store() as store:
             store.create("a", 0, 1)
-            for values in (["1 2"], [1.5], ["-"]):
+            for values in (["1 2"], ["-"], [1, 1.5]):
                 with self.assertRaises(TypeError):
                     store.append("a", values)
                 with self.assertRaises(TypeError):
@@ -127,10 +127,10 @@ class OverAStore(unittest.TestCase):
             store.create("a", -7, 5, 2)
             store.append("a", [-5, 150, None, 200])
             store.create("b", 0, 1)
-            with self.assertRaises(ValueError):
-                store.series()
-            with self.assertRaises(ValueError):
-                store.values("a")
+            self.assertEqual(store.series(), [("a", -7, 5, 2, 4), ("b", 0, 1, 0, 0)])
+            for ask in (lambda: store.values("a"), store.check, lambda: store.retain("free 1")):
+                with self.assertRaises(ValueError):
+                    ask()
         self.assertEqual(store.series(), [("a", -7, 5, 2, 4), ("b", 0, 1, 0, 0)])
         self.assertEqual(store.series()[0].step, 5)
         self.assertEqual(dict(store.values("a")), stored)
@@ -149,6 +149,32 @@ class OverAStore(unittest.TestCase):
             store.create("a", 0, 1, 3)
             store.append("a", values)
         self.assertEqual(list(store.values("a")), [(at, value) for at, value in enumerate(values) if value is not None])
+
+    def test_of_a_bulk_that_is_refused_no_value_stands_elsewhere(self):
+        path = self.path + ".small"
+        with Store.make(path, 2**19, program=PROGRAM) as store:
+            store.create("a", 0, 1)
+            with self.assertRaises(Refused) as met:
+                store.append("a", range(40_000))
+            self.assertEqual(met.exception.name, "Full")
+        values = list(Store(path, program=PROGRAM).values("a"))
+        self.assertGreater(len(values), 0)
+        self.assertTrue(all(time == value for time, value in values))
+
+    def test_a_store_is_made_once_and_counted(self):
+        with self.assertRaises(FileExistsError):
+            Store.make(self.path, program=PROGRAM)
+        with self.assertRaises(ValueError):
+            Store.make(self.path + ".b", 100, program=PROGRAM)
+        with self.assertRaises(ValueError):
+            Store.make(self.path + ".b", program=PROGRAM, series=[("a b", 0, 1, 0)])
+        self.assertEqual(os.listdir(os.path.dirname(self.path)), ["a.store"])
+        with self.store() as store:
+            store.create("a", 0, 1)
+            store.append("a", range(600))
+        self.assertEqual(self.store().check()[:2], (1, 600))
+        self.assertEqual([swept.clears for swept in self.store().retain("last a 100", "free 1")], [1, 0])
+        self.assertEqual(self.store().check().values, 100)
 
     def test_a_second_run_over_the_store(self):
         with self.store() as store:
@@ -177,7 +203,7 @@ class OverAStore(unittest.TestCase):
     def test_a_run_that_is_killed(self):
         with self.store() as store:
             store.create("a", 0, 1)
-            os.kill(store.child.pid, signal.SIGKILL)
+            os.kill(store.run.child.pid, signal.SIGKILL)
             for _ in range(2):
                 with self.assertRaises(Ended) as met:
                     store.append("a", [1])
@@ -195,7 +221,7 @@ class OverAStore(unittest.TestCase):
         with self.assertRaises(Ended) as met:
             store.append("a", [1])
         self.assertEqual(met.exception.status, 0)
-        self.assertIsNotNone(store.child.returncode)
+        self.assertIsNotNone(store.run.child.returncode)
 
 
 if __name__ == "__main__":

@@ -1,6 +1,8 @@
 """A client of the chart server: stores, sessions, and the pictures that they draw."""
 from .frames import Stopped
 from .picture import Picture
-from .store import Ended, Refused, Series, Session, Store
+from .run import Ended, Refused
+from .session import Session
+from .store import Checked, Point, Series, Store, Swept
 
-__all__ = ["Ended", "Picture", "Refused", "Series", "Session", "Stopped", "Store"]
+__all__ = ["Checked", "Ended", "Picture", "Point", "Refused", "Series", "Session", "Stopped", "Store", "Swept"]

@@ -2,6 +2,8 @@
 import struct
 import zlib
 
+from . import axes
+
 
 def height(value, lo, hi, h):
     """The row of a value, over the range lo to hi on h rows; it may lie off the canvas."""
@@ -9,7 +11,12 @@ def height(value, lo, hi, h):
 
 
 class Picture:
-    """A canvas of w by h pixels; rows count from the bottom."""
+    """A canvas of w by h pixels; rows count from the bottom. `lo` and `hi` are the whole numbers at its bottom and its top.
+
+    Where a session drew it `series` is the record of its series, `window` the two ends of its times, and `unit` what they count since 1970.
+    """
+
+    series = window = unit = None
 
     def __init__(self, w, h, lo, hi, rows):
         self.w, self.h, self.lo, self.hi = w, h, lo, hi
@@ -64,8 +71,27 @@ class Picture:
         head = struct.pack(">IIBBBBB", self.w, self.h, 1, 0, 0, 0, 0)
         return b"\x89PNG\r\n\x1a\n" + chunk(b"IHDR", head) + chunk(b"IDAT", zlib.compress(lines, 9)) + chunk(b"IEND", b"")
 
+    @property
+    def low(self):
+        """The real value at the bottom."""
+        return self.lo / 10 ** (self.series.scale if self.series else 0)
+
+    @property
+    def high(self):
+        """The real value at the top."""
+        return self.hi / 10 ** (self.series.scale if self.series else 0)
+
+    def to_svg(self):
+        """The picture with axes, as the text of an SVG in which each of its pixels is one; only of one that a session drew."""
+        if self.window is None:
+            raise ValueError("no session drew this picture, so its axes aren't known")
+        return axes.svg(self)
+
     def _repr_png_(self):
         return self.to_png()
+
+    def _repr_svg_(self):
+        return self.to_svg() if self.window else None
 
     def __array__(self, dtype=None, copy=None):
         """The picture as an array of numpy, h by w, with the row 0 at the top; True is black."""

@@ -1,8 +1,9 @@
 """Turns a CSV of readings, with dates and decimals, into the lines that the chart program's `load` takes.
 
 A row's time is a date in ISO 8601, as 2026-11-27T08:30:00Z or 2026-11-27 08:30 or 2026-11-27, or a number of seconds or
-milliseconds since 1970. A date without an offset is in UTC. Its value is a decimal; an empty one, `-`, NaN, NA and null are
-a time without a reading. A first row of which neither is one is a header.
+milliseconds since 1970. A date without an offset is in UTC. Its value is a decimal; an empty one, `-`, NaN, NA, null and None
+are a time without a reading. A first row is a header where neither of its fields is one or begins with a digit, a sign or a
+point; it is told.
 
 Sent is `time,value` for each reading that stands on a slot of the series: a whole number of steps behind its start. What
 doesn't fit is listed on standard error by the number of its line, and at the end how many rows there were of each kind. The
@@ -11,62 +12,14 @@ exit status is 1 where something didn't fit.
 import argparse
 import csv
 import os
-import re
 import sys
-from datetime import datetime, timedelta, timezone
-from decimal import Decimal
-from fractions import Fraction
 
-EPOCH = datetime(1970, 1, 1, tzinfo=timezone.utc)
-DATE = re.compile(
-    r"(\d{4})-(\d\d)-(\d\d)(?:[T ](\d\d):(\d\d)(?::(\d\d)(?:[.,](\d{1,9}))?)?\s*(?:(Z)|([+-])(\d\d):?(\d\d)?)?)?", re.ASCII | re.IGNORECASE
-)
-NUMBER = re.compile(r"[+-]?\d{1,19}(?:\.\d{1,9})?", re.ASCII)
-VALUE = re.compile(r"[+-]?(?:\d+\.?\d*|\.\d+)(?:e[+-]?\d{1,4})?", re.ASCII | re.IGNORECASE)
-MISSING = {"", "-", "nan", "na", "null"}
-PARTS = {"seconds": 1, "milliseconds": 1000}
-MOST = 10**18  # the greatest size of a value
+from .decimals import MISSING, MOST, decimal_text, whole_number
+from .timestamps import UNITS, TimeReader
+from .unfit import Unfit
+
+PARTS = ("seconds", "milliseconds")
 LAST_SLOT = 2**35 - 1
-
-
-class Unfit(Exception):
-    """Why a row has no place in the series."""
-
-
-def seconds_of(text, parts):
-    """The time of a field, in seconds since 1970; `parts` is how many of a number's units a second has."""
-    if NUMBER.fullmatch(text):
-        return Fraction(text) / parts
-    match = DATE.fullmatch(text)
-    if not match:
-        raise Unfit(f"{text!r} is no time")
-    year, month, day, hour, minute, second, rest, _, sign, hours, minutes = match.groups(default="0")
-    try:
-        date = datetime(*map(int, (year, month, day, hour, minute, second)), tzinfo=timezone.utc)
-    except ValueError:
-        raise Unfit(f"{text!r} is no time") from None
-    ahead = (int(hours) * 60 + int(minutes)) * 60 * (-1 if sign == "-" else 1)
-    return (date - EPOCH) // timedelta(seconds=1) + Fraction(f"0.{rest}") - ahead
-
-
-def number_of(text, scale):
-    """The value of a field as a whole number of the series, None where there is no reading."""
-    if text.lower() in MISSING:
-        return None
-    if not VALUE.fullmatch(text):
-        raise Unfit(f"{text!r} is no value")
-    number = Fraction(Decimal(text)) * 10**scale
-    if number.denominator != 1:
-        raise Unfit(f"{text!r} has more than {scale} decimals")
-    if abs(number) > MOST:
-        raise Unfit(f"{text!r} is too large")
-    return int(number)
-
-
-def decimal(number, scale):
-    """A whole number of the series as a decimal."""
-    digits = str(abs(number)).rjust(scale + 1, "0")
-    return ("-" if number < 0 else "") + digits[: len(digits) - scale] + (f".{digits[-scale:]}" if scale else "")
 
 
 class Grid:
@@ -74,23 +27,30 @@ class Grid:
 
     def __init__(self, words):
         self.step, self.scale, self.decimal_comma = words.step, words.scale, words.decimal_comma
-        self.read, self.written = PARTS[words.read], PARTS[words.write]
+        self.read, self.size = TimeReader(words.read), UNITS[words.write]
         self.start = None
         if words.start is not None:
             self.start = self.time_of(words.start)
 
     def time_of(self, text):
-        time = seconds_of(text, self.read) * self.written
-        if time.denominator != 1 or abs(time) > MOST:
+        """The time of a field, in the unit of the series."""
+        time, rest = divmod(self.read(text), self.size)
+        if rest or not -MOST <= time <= MOST:
             raise Unfit(f"{text!r} is no whole time of the series")
-        return int(time)
+        return time
+
+    def value_of(self, text):
+        """The value of a field as a whole number of the series, None where there is no reading."""
+        if text.lower() in MISSING:
+            return None
+        number, is_rounded = whole_number(text.replace(",", ".") if self.decimal_comma else text, self.scale)
+        if is_rounded:
+            raise Unfit(f"{text!r} has more than {self.scale} decimals")
+        return number
 
     def row(self, fields):
-        """The time and the number of a row, None where there is no reading."""
-        time, value = (field.strip() for field in fields)
-        if self.decimal_comma:
-            value = value.replace(",", ".")
-        time, number = self.time_of(time), number_of(value, self.scale)
+        """The time of a row's two fields, and their whole number, or None where there is no reading."""
+        time, number = self.time_of(fields[0].strip()), self.value_of(fields[1].strip())
         if number is None:
             return time, None
         if self.start is None:
@@ -112,6 +72,7 @@ def convert(rows, columns, grid, out):
             continue
         was_first, is_first = is_first, False
         if was_first and is_header(fields, columns, grid):
+            print(f"line {rows.line_num}: taken as the names of the columns", file=sys.stderr)
             continue
         try:
             if len(fields) < max(columns):
@@ -123,18 +84,22 @@ def convert(rows, columns, grid, out):
             continue
         counts["missing" if number is None else "fit"] += 1
         if number is not None and out:
-            out.write(f"{time},{decimal(number, grid.scale)}\n")
+            out.write(f"{time},{decimal_text(number, grid.scale)}\n")
     return counts
 
 
 def is_header(fields, columns, grid):
-    """Whether neither field of a first row is what a reading has."""
-    for column, reader in zip(columns, (lambda text: seconds_of(text, grid.read), lambda text: number_of(text, grid.scale))):
-        try:
-            reader(fields[column - 1].strip())
-        except (Unfit, IndexError):
+    """Whether a first row names the columns: neither of its fields is what a reading has, or looks like a number."""
+    for column, read in zip(columns, (grid.time_of, grid.value_of)):
+        if column > len(fields):
             continue
-        return False
+        field = fields[column - 1].strip()
+        try:
+            read(field)
+            return False
+        except Unfit:
+            if field[0] in "0123456789+-.,":
+                return False
     return True
 
 

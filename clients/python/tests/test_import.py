@@ -1,0 +1,245 @@
+"""`zurtkvani import`: files as people have them, into a store of the built program."""
+import contextlib
+import gzip
+import io
+import os
+import shutil
+import signal
+import subprocess
+import sys
+import tempfile
+import time
+import unittest
+
+ROOT = os.path.dirname(os.path.dirname(os.path.dirname(os.path.dirname(os.path.realpath(__file__)))))
+PROGRAM = os.path.join(ROOT, "crates/chart_program/out/chart_program")
+sys.path.insert(0, os.path.join(ROOT, "clients/python"))
+
+from zurtkvani_client import Store, command  # noqa: E402
+from zurtkvani_client.progress import bar  # noqa: E402
+
+LOGGER = (
+    "when,temp_C,pressure bar,state\n"
+    "2026-11-01T00:00:00.123Z,21.499999999999996,1.01,ok\n"
+    "2026-11-01T00:00:01.020Z,21.6,1.02,ok\n"
+    "2026-11-01T00:00:01.980Z,,1.03,ok\n"
+    "2026-11-01T00:00:03.301Z,21.75,1.035,bad\n"
+)
+START = 1793491200  # 2026-11-01T00:00:00Z
+
+
+class Imports(unittest.TestCase):
+    def setUp(self):
+        folder = tempfile.TemporaryDirectory()
+        self.addCleanup(folder.cleanup)
+        self.folder, self.path = folder.name, os.path.join(folder.name, "a.store")
+
+    def file(self, text, name="a.csv"):
+        path = os.path.join(self.folder, name)
+        with open(path, "wb") as file:
+            file.write(text if isinstance(text, bytes) else text.encode())
+        return path
+
+    def taken(self, text, *words, files=()):
+        """The exit status of an import, and what it told; a text is a file's."""
+        told = io.StringIO()
+        paths = [self.file(text)] if not files else [self.file(data, f"{at}.csv") for at, data in enumerate(files)]
+        with contextlib.redirect_stdout(told), contextlib.redirect_stderr(told):
+            try:
+                status = command.main(["import", *paths, "--store", self.path, "--program", PROGRAM, *words])
+            except SystemExit as end:
+                status = end.code
+        return status, told.getvalue()
+
+    def stored(self, name):
+        return list(Store(self.path, program=PROGRAM).values(name))
+
+    def series(self):
+        return Store(self.path, program=PROGRAM).series()
+
+    def test_a_logger_with_jitter_and_floats(self):
+        status, told = self.taken(LOGGER)
+        self.assertEqual(status, 0, told)
+        self.assertEqual(self.series(), [("temp_C", START, 1, 2, 4), ("pressure_bar", START, 1, 3, 4)])
+        self.assertEqual(self.stored("temp_C"), [(START, 2150), (START + 1, 2160), (START + 3, 2175)])
+        self.assertEqual(self.stored("pressure_bar"), [(START, 1010), (START + 1, 1020), (START + 2, 1030), (START + 3, 1035)])
+        kinds = ("rounded, half to even: 1", "moved to a slot: 4", "column passed over: 1")
+        for line in (*kinds, "temp_C: 3 taken, 1 without a value", "line 2: 21.499999999999996"):
+            self.assertIn(line, told)
+
+    def test_exact_refuses_what_would_be_moved_or_rounded(self):
+        status, told = self.taken(LOGGER, "--exact", "--start", "2026-11-01", "--step", "1s", "--scale", "2", "--columns", "temp_C")
+        self.assertEqual(status, 1)
+        self.assertIn("left out, no slot: 4", told)
+        status, told = self.taken("t,v\n0,1.25\n1,1.250\n2,1.5\n3,2\n", "--exact", "--scale", "1", "--step", "1")
+        self.assertEqual((status, self.stored("v")), (1, [(2, 15), (3, 20)]))
+        self.assertIn("left out, more decimals than the series: 2", told)
+
+    def test_half_goes_to_even(self):
+        text = "t,v\n0,0.5\n1,1.5\n2,2.5\n3,-0.5\n4,-1.5\n5,2.500000000000000000000000000000000001\n6,0.49999999999999999999999999999\n"
+        status, _ = self.taken(text, "--scale", "0")
+        self.assertEqual((status, self.stored("v")), (0, [(0, 0), (1, 2), (2, 2), (3, 0), (4, -2), (5, 3), (6, 0)]))
+
+    def test_snap_and_tolerance(self):
+        text = "t,v\n0,0\n9,1\n21,2\n25,3\n34,4\n"
+        words = ("--step", "10", "--start", "0", "--unit", "seconds")
+        self.assertEqual(self.taken(text, *words)[0], 1)
+        # 25 lies half a step from both, so it goes to 30 with 34.
+        self.assertEqual(self.stored("v"), [(0, 0), (10, 1), (20, 2), (30, 4)])
+        os.remove(self.path)
+        self.assertEqual(self.taken(text, *words, "--snap", "floor", "--replace")[0], 0)
+        self.assertEqual(self.stored("v"), [(0, 1), (20, 3), (30, 4)])
+        os.remove(self.path)
+        status, told = self.taken(text, *words, "--tolerance", "1s")
+        self.assertEqual((status, self.stored("v")), (1, [(0, 0), (10, 1), (20, 2)]))
+        self.assertIn("left out, no slot: 2", told)
+
+    def test_german_dates_and_commas(self):
+        text = "Zeit;Temperatur\n01.11.2026 00:00;21,5\n01.11.2026 00:10;22,25\n"
+        status, told = self.taken(text)
+        self.assertEqual(status, 2)
+        self.assertIn("--form", told)
+        self.assertFalse(os.path.exists(self.path))
+        self.assertEqual(self.taken(text, "--form", "%d.%m.%Y %H:%M", "--zone", "Europe/Zurich")[0], 0)
+        self.assertEqual(self.series(), [("Temperatur", START - 3600, 600, 2, 2)])
+        self.assertEqual(self.stored("Temperatur"), [(START - 3600, 2150), (START - 3000, 2225)])
+
+    def test_the_hour_that_clocks_have_twice(self):
+        # In Zurich 2026-10-25T03:00 summer time is 02:00 winter time: 2026-10-25T01:00:00Z, which is 1792890000.
+        hours = ["01:30", "02:00", "02:30", "02:00", "02:30", "03:00"]
+        text = "time,v\n" + "".join(f"2026-10-25 {hour},{at}\n" for at, hour in enumerate(hours))
+        self.assertEqual(self.taken(text, "--zone", "Europe/Zurich")[0], 0)
+        self.assertEqual(self.stored("v"), [(1792890000 + 1800 * (at - 3), at) for at in range(6)])
+        text = "time,w\n2026-03-29 02:30,1\n2026-03-29 03:30,1\n"
+        status, told = self.taken(text, "--zone", "Europe/Zurich", "--step", "30min")
+        self.assertEqual(status, 1)
+        self.assertIn("left out by the clocks of Europe/Zurich", told)
+
+    def test_units(self):
+        self.assertEqual(self.taken("t,v\n1793491200000,1\n1793491200500,2\n")[0], 0)
+        self.assertEqual(self.series()[0], ("v", START * 1000, 500, 0, 2))
+        text = "t,u\n" + "".join(f"2026-11-01T00:00:00.00000{at},1\n" for at in (1, 3, 4))
+        self.assertEqual(self.taken(text)[0], 0)
+        self.assertEqual(self.series()[1], ("u", START * 10**6 + 1, 1, 0, 4))
+
+    def test_nothing_is_lost_in_silence(self):
+        text = "t,v\n0,1\nx,2\n1,3\n2,y\n3\n4,inf\n1e3,5\n5,10000000000000000000\n"
+        status, told = self.taken(text, "--step", "1", "--start", "0")
+        self.assertEqual((status, self.stored("v")), (1, [(0, 1), (1, 3)]))
+        for line in ("left out, no time: 2", "left out, no value: 3", "left out, no such column: 1", "a.csv, line 3: 'x' is no time"):
+            self.assertIn(line, told)
+        status, told = self.taken("t,v\n-1,1\n0,4\n")
+        self.assertEqual((status, self.stored("v")), (1, [(0, 4), (1, 3)]))
+        self.assertIn("before the start", told)
+
+    def test_more_fields_than_the_header_names(self):
+        self.assertEqual(self.taken("t,v\n0,1,\n1,2,\n")[0], 0)
+        status, told = self.taken("t,v\n2,3,\n3,4,5\n")
+        self.assertEqual((status, self.stored("v")), (1, [(at, at + 1) for at in range(4)]))
+        self.assertIn("left out, fields behind the last column: 1", told)
+        self.assertEqual(self.taken("t,v\n0,a\n1,b\n", "--series", "w")[0], 2)
+
+    def test_no_header(self):
+        self.assertEqual(self.taken("0;1;2\n1;3;4\n")[0], 2)
+        self.assertEqual(self.taken("0;1;2\n1;3;4\n", "--time", "2", "--columns", "3,1", "--series", "a,b")[0], 0)
+        self.assertEqual((self.stored("a"), self.stored("b")), ([(1, 2), (3, 4)], [(1, 0), (3, 1)]))
+
+    def test_columns_by_name_or_number(self):
+        self.assertEqual(self.taken(LOGGER, "--time", "when", "--columns", "3", "--series", "p")[0], 0)
+        self.assertEqual([series.name for series in self.series()], ["p"])
+        status, told = self.taken(LOGGER, "--columns", "kettle")
+        self.assertEqual(status, 2)
+        self.assertIn("temp_C", told)
+
+    def test_kin_of_csv(self):
+        rows = "t{0}v{0}w\n0{0}1{0}2\n1{0}3{0}4\n"
+        for at, mark in enumerate("\t;|,"):
+            name = f"--series=a{at},b{at}"
+            self.assertEqual(self.taken(rows.format(mark), name)[0], 0)
+            self.assertEqual(self.stored(f"b{at}"), [(0, 2), (1, 4)])
+        self.assertEqual(self.taken(rows.format(",").encode("utf-16"), "--series", "c,d")[0], 0)
+        self.assertEqual(self.taken(gzip.compress(rows.format(",").encode()), "--series", "e,f")[0], 0)
+        self.assertEqual(self.taken(("\ufeff" + rows.format(",")).replace("\n", "\r\n"), "--series", "g,h")[0], 0)
+        for name in "dfh":
+            self.assertEqual(self.stored(name), [(0, 2), (1, 4)])
+
+    def test_standard_input(self):
+        words = [sys.executable, "-m", "zurtkvani_client", "import", "-", "--store", self.path, "--program", PROGRAM]
+        done = subprocess.run(words, input=LOGGER.encode(), cwd=os.path.join(ROOT, "clients/python"), stdout=subprocess.PIPE, check=True)
+        self.assertIn(b"with room for", done.stdout)
+        self.assertEqual(len(self.stored("temp_C")), 3)
+
+    def test_several_files(self):
+        files = ["t,v\n0,1\n1,2\n", "t,v\n2,3\n", "t,v\n"]
+        self.assertEqual(self.taken("", files=files)[0], 0)
+        self.assertEqual(self.stored("v"), [(0, 1), (1, 2), (2, 3)])
+        self.assertEqual(self.taken("", files=["t,v\n0,1\n1,2\n", "t,w\n2,3\n"])[0], 2)
+
+    def test_a_bar_on_a_terminal(self):
+        self.assertEqual(bar(1500, 0.5, 3), f"[{'#' * 15}{'.' * 15}]  50%  1,500 rows, 500 a second, 0:03 left")
+        self.assertEqual(bar(1500, None, 3), "1,500 rows, 500 a second")
+
+    def test_no_rows(self):
+        for text in ("", "\n\n", "t,v\n"):
+            self.assertEqual(self.taken(text)[0], 2)
+        self.assertFalse(os.path.exists(self.path))
+
+    def test_a_dry_run_makes_nothing(self):
+        status, told = self.taken(LOGGER, "--dry-run")
+        self.assertEqual(status, 0)
+        self.assertIn("temp_C: 3 taken", told)
+        self.assertEqual(os.listdir(self.folder), ["a.csv"])
+
+    def test_a_series_that_is_there_keeps_its_grid(self):
+        with Store.make(self.path, program=PROGRAM) as store:
+            store.create("v", 1000, 60, 1)
+        self.assertEqual(self.taken("t,v\n1060,1.25\n1125,2\n")[0], 0)
+        self.assertEqual(self.stored("v"), [(1060, 12), (1120, 20)])
+        self.assertEqual(self.taken("t,v\n1060,1.25\n", "--scale", "2")[0], 2)
+
+    def test_a_full_store(self):
+        text = "t,v\n" + "".join(f"{at},{at}\n" for at in range(60_000))
+        status, told = self.taken(text, "--size", "1M")
+        self.assertEqual(status, 1)
+        self.assertIn("Full", told)
+
+    def test_interrupted_and_run_again_it_ends_as_if_it_had_run_once(self):
+        text = "t,v,w\n" + "".join(f"{1793491200 + at},{at / 4},{-at}\n" for at in range(120_000))
+        once, again = self.path, os.path.join(self.folder, "b.store")
+        self.assertEqual(self.taken(text)[0], 0)
+        words = [sys.executable, "-m", "zurtkvani_client", "import", os.path.join(self.folder, "a.csv")]
+        words += ["--store", again, "--program", PROGRAM]
+        how = {"cwd": os.path.join(ROOT, "clients/python"), "stdout": subprocess.DEVNULL, "stderr": subprocess.DEVNULL}
+        for end in (signal.SIGINT, signal.SIGTERM, signal.SIGKILL):
+            child = subprocess.Popen(words, **how)
+            while not os.path.exists(again) and child.poll() is None:
+                time.sleep(0.01)
+            time.sleep(0.2)
+            child.send_signal(end)
+            self.assertNotEqual(child.wait(), 0)
+            self.path = again
+            while True:
+                with contextlib.suppress(Exception):
+                    self.series()
+                    break
+        subprocess.run(words, check=True, **how)
+        for name in "vw":
+            self.path = once
+            wanted = self.stored(name)
+            self.path = again
+            self.assertEqual(self.stored(name), wanted)
+        self.assertEqual(len(wanted), 120_000)
+
+    @unittest.skipUnless(shutil.which("sqlite3"), "sqlite3 isn't installed")
+    def test_what_sqlite_exports(self):
+        rows = "('2026-11-01 00:00:00', 1.5, null), ('2026-11-01 00:01:00', 2.25, 7)"
+        lines = f"create table a(at text, level real, flow real);\ninsert into a values {rows};\nselect * from a;\n"
+        done = subprocess.run(["sqlite3", "-csv", "-header"], input=lines, stdout=subprocess.PIPE, check=True, text=True)
+        exported = done.stdout
+        self.assertEqual(self.taken(exported)[0], 0)
+        self.assertEqual(self.stored("level"), [(START, 150), (START + 60, 225)])
+        self.assertEqual(self.stored("flow"), [(START + 60, 70)])
+
+
+if __name__ == "__main__":
+    unittest.main()

@@ -1,0 +1,136 @@
+"""The command `zurtkvani`: takes files of readings into a store.
+
+usage: zurtkvani import FILE .. --store STORE
+
+A FILE is a CSV, with whatever stands between two fields, gzip of one, `-` for standard input, or Parquet where pyarrow is installed.
+Where the store or a series isn't there it is made: a series for each column of values, under the column's name.
+"""
+import argparse
+import os
+import sys
+import zoneinfo
+
+from .durations import duration_text, nanoseconds_in
+from .importing import Import
+from .progress import Progress
+from .run import Ended, Refused
+from .sources import Unreadable
+from .timestamps import UNITS, date_text
+from .unfit import Unfit
+
+SIZES = {"": 1, "k": 2**10, "m": 2**20, "g": 2**30}
+
+
+def length(text):
+    try:
+        return nanoseconds_in(text)
+    except Unfit as why:
+        raise argparse.ArgumentTypeError(str(why)) from None
+
+
+def size(text):
+    digits, unit = (text[:-1], text[-1].lower()) if text[-1:].isalpha() else (text, "")
+    if not digits.isdigit() or unit not in SIZES:
+        raise argparse.ArgumentTypeError(f"{text!r} is no size, as 64M or 1G")
+    return int(digits) * SIZES[unit]
+
+
+def zone(text):
+    try:
+        return zoneinfo.ZoneInfo(text)
+    except (zoneinfo.ZoneInfoNotFoundError, ValueError, OSError):
+        raise argparse.ArgumentTypeError(f"{text!r} is no time zone, as Europe/Zurich") from None
+
+
+def delimiter(text):
+    if len(text.replace("\\t", "\t")) != 1:
+        raise argparse.ArgumentTypeError("a delimiter is one character, or \\t")
+    return text.replace("\\t", "\t")
+
+
+def names(text):
+    return [name.strip() for name in text.split(",")]
+
+
+def default_program():
+    """The program of the repository that this package lies in, else the command `chart`."""
+    beside = os.path.join(os.path.dirname(os.path.realpath(__file__)), "../../../chart")
+    return os.path.normpath(beside) if os.path.isfile(beside) else "chart"
+
+
+def words():
+    parser = argparse.ArgumentParser(prog="zurtkvani", description=__doc__, formatter_class=argparse.RawDescriptionHelpFormatter)
+    commands = parser.add_subparsers(dest="command", required=True, metavar="import")
+    add = commands.add_parser("import", help="take files of readings into a store").add_argument
+    add("files", nargs="+", metavar="FILE", help="a file of readings; - is standard input")
+    add("--store", required=True, help="the store's file; made where it isn't there")
+    add("--program", default=default_program(), help="the chart program")
+    add("--time", metavar="COLUMN", help="the column of the times, by its name or its number from 1; else it is looked for")
+    add("--columns", type=names, metavar="COLUMN,..", help="the columns of values; else all but those that hold words")
+    add("--series", type=names, metavar="NAME,..", help="the names of their series; else the columns' own")
+    add("--form", help="the form of the dates, as of strptime: '%%d.%%m.%%Y %%H:%%M'; else ISO 8601")
+    add("--zone", type=zone, help="the time zone of dates without an offset, as Europe/Zurich; else UTC")
+    add("--numbers", choices=UNITS, help="what times that are numbers count since 1970; else told by their size")
+    add("--delimiter", type=delimiter, help="what stands between two fields; else looked for")
+    add("--decimal-comma", action="store_true", help="values have a comma for the point; else looked for")
+    add("--encoding", help="of the text; else UTF-8, or UTF-16 by its first bytes")
+    add("--start", help="the start of new series, a time as in the file; else found")
+    add("--step", type=length, help="the step of new series, as 60s or 250ms; else found")
+    add("--scale", type=int, choices=range(10), help="the number of decimals of new series; else found")
+    add("--unit", choices=list(UNITS)[:3], help="what the series' times count since 1970; else seconds where these are enough")
+    snaps = ("nearest", "floor", "none")
+    add("--snap", choices=snaps, default="nearest", help="which slot takes a time between two: the nearest, the one before, or none")
+    add("--tolerance", type=length, help="how far from its slot a time may be, as 200ms; else any")
+    add("--exact", action="store_true", help="leave out what would have to be moved or rounded")
+    add("--replace", action="store_true", help="that a row replaces the one before where both have one slot is no fault")
+    add("--size", type=size, help="of a new store, as 64M; else reckoned from the rows")
+    add("--dry-run", action="store_true", help="store nothing, and tell all the same")
+    return parser
+
+
+def told(done):
+    """What an import found and did, line by line."""
+    for grid, targets in done.plan.groups:
+        for target in targets:
+            yield (
+                f"{target.series}: {target.taken:,} taken, {target.missing:,} without a value; start {grid.start} "
+                f"({date_text(grid.first)}), step {grid.step} ({duration_text(grid.gap)}), scale {target.scale}"
+            )
+    yield from done.report.lines()
+    yield f"{done.report.rows:,} rows, {done.report.left_out:,} times something was left out"
+
+
+def run(given):
+    """Does an import, tells of it, and gives the exit status."""
+    done = Import(given, Progress())
+    try:
+        done.run()
+    except (Unfit, Unreadable, OSError, EOFError, ValueError) as why:
+        return stopped(done, str(why), 1 if done.report.rows else 2)
+    except Refused as why:
+        return stopped(done, f"{why}: take a larger store, as by --size 1G" if why.name == "Full" else str(why), 1)
+    except Ended as why:
+        return stopped(done, str(why), 1)
+    except KeyboardInterrupt:
+        return stopped(done, "interrupted", 130)
+    if done.plan.made:
+        print(f"made {given.store}, {done.plan.made / 2**20:,.0f} MiB, with room for about {done.plan.made // 32:,} values")
+    for line in told(done):
+        print(line)
+    return 1 if done.report.left_out else 0
+
+
+def stopped(done, why, status):
+    """Tells why an import didn't come to its end, and gives the status."""
+    print(f"zurtkvani: {why}", file=sys.stderr)
+    if done.report.rows:
+        read = f"{done.report.rows:,} rows were read, and what was stored of them stays"
+        print(f"zurtkvani: {read}; the same command reads all of them again", file=sys.stderr)
+    return status
+
+
+def main(arguments=None):
+    given = words().parse_args(arguments)
+    if given.exact:
+        given.snap = "none"
+    return run(given)

@@ -1,0 +1,57 @@
+"""The file of a store: how large it has to be, and how one is made at once or not at all."""
+import os
+import subprocess
+import tempfile
+
+from .run import Listener
+
+BLOCK = 4096  # bytes
+LEAST_BLOCKS, MOST_BLOCKS = 128, 2**20
+OWN_BLOCKS = 66 + 17  # the journal's and the store's own
+UNKNOWN = 2**30  # bytes for a file of rows whose number isn't known
+
+
+def size_for(pages_per_row, rows, columns):
+    """The bytes of a store for so many rows, None where that isn't known, which need so many pages of 128 slots for each of so
+    many columns: twice what they take, and at least 4 MiB. The file has holes where nothing is stored, so it takes no more of the
+    disk than it holds."""
+    if rows is None:
+        return UNKNOWN
+    pages = int(2.1 * pages_per_row * rows * columns) + 64 * columns
+    return BLOCK * min(max(OWN_BLOCKS + pages, 1024), MOST_BLOCKS)
+
+
+def make_store(path, size, program, series=()):
+    """Makes a new file, of so many bytes, a store with some series, each a name, a start, a step and a scale. The file is there
+    once all of it is.
+
+    Raises FileExistsError where the file is there, ValueError where the size isn't one of a store, and Ended where the program can't do it.
+    """
+    if not LEAST_BLOCKS * BLOCK <= size <= MOST_BLOCKS * BLOCK:
+        raise ValueError(f"a store has {LEAST_BLOCKS * BLOCK:,} to {MOST_BLOCKS * BLOCK:,} bytes")
+    if os.path.exists(path):
+        raise FileExistsError(f"{path} is there")
+    with tempfile.TemporaryDirectory(dir=os.path.dirname(os.path.abspath(path)), prefix=".new-store-") as folder:
+        made = os.path.join(folder, "store")
+        with open(made, "wb") as file:
+            file.truncate(size)
+        lines = "".join(f"create {name} {start} {step} {scale}\n" for name, start, step, scale in series)
+        run_once(program, made, "init", b"")
+        if run_once(program, made, "run", lines.encode()) != b"done 0\n" * len(series):
+            raise ValueError("a series has a name, a start, a step or a scale that none may have")
+        os.link(made, path)
+
+
+def run_once(program, path, command, text):
+    """Runs a command of the program over some input, and gives its output. Raises Ended."""
+    with tempfile.TemporaryFile() as given:
+        given.write(text)
+        given.seek(0)
+        pipes = {"stdin": given, "stdout": subprocess.PIPE, "stderr": subprocess.PIPE}
+        with subprocess.Popen([program, path, command], **pipes) as child:
+            listener = Listener(child, command, path)
+            sent = child.stdout.read()
+            end = listener.end()
+    if end.status:
+        raise end
+    return sent

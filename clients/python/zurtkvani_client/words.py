@@ -1,0 +1,78 @@
+"""What statuses and refusals mean, in words: those of statuses.txt, which is docs/statuses.txt of the repository."""
+import os
+import stat
+
+TABLE = os.path.join(os.path.dirname(os.path.realpath(__file__)), "statuses.txt")
+# The name of each refusal, from number 1 on.
+NAMES = (
+    "LineTooLong", "BadLine", "BadFilter", "UnknownSession", "SessionOpen", "TooManySessions", "BadCache", "UnknownSeries",
+    "SeriesExists", "TooManySeries", "OffGrid", "BeforeStart", "ValueTooLarge", "RangeTooLong", "SeriesFull", "NoView",
+    "BadWindow", "BadCanvas", "BadRange", "ViewTooLarge", "Full", "LiveTooLarge", "OtherGrid", "SumTooLarge",
+)
+# Which numbers a refusal tells.
+TOLD = {2: "at byte {a}", 3: "at byte {a}", 20: "{a} of {b}", 21: "{a} of {b}", 22: "{a} of {b}"}
+
+
+def read_entries():
+    """The entries of the table in their order, each as its texts by their keys."""
+    with open(TABLE, encoding="utf-8") as file:
+        text = "".join(line for line in file if not line.startswith("#"))
+    return [dict(line.split(": ", 1) for line in entry.splitlines()) for entry in text.strip().split("\n\n")]
+
+
+ENTRIES = read_entries()
+
+
+def entry_of(status, place, command):
+    """The texts for the status and the place that a command ended with; none where the table has none."""
+    for entry in ENTRIES:
+        is_for = entry.get("at", str(place)) == str(place) and command in entry.get("of", command).split()
+        if entry.get("status") == str(status) and is_for:
+            return entry
+    return {}
+
+
+def refusal(number, a=0, b=0):
+    """A refusal of a request, in words."""
+    means = next((entry["means"] for entry in ENTRIES if entry.get("refusal") == str(number)), "")
+    # What the numbers stand for needs no words where they are told.
+    means = means.partition("; A is")[0].partition(": A is")[0]
+    told = f": {TOLD[number].format(a=a, b=b)}" if number in TOLD else ""
+    return f"refusal {number}, {NAMES[number - 1]}: {means[:1].lower()}{means[1:]}{told}"
+
+
+def end(status, place, command="serve", path=None):
+    """How the program ended over a store: the status and its place, what that means, and what to do. A place of None means that the
+    program said no status."""
+    if place is None:
+        return f"the program has ended with status {status}" + (", by a signal" if status < 0 else "")
+    entry = entry_of(status, place, command)
+    cause = why_not_opened(path) if status == 6 and path is not None else None
+    told = [cause or entry.get("means", ""), "" if cause else entry.get("do", "")]
+    return f"the program has ended with status {status} at {place}: " + ". ".join(filter(None, told))
+
+
+def why_not_opened(path):
+    """What the system tells of a store's file that can't be opened; None where it tells nothing."""
+    try:
+        found = os.stat(path)
+    except OSError as why:
+        return f"{path}: {why.strerror}"
+    if stat.S_ISDIR(found.st_mode):
+        return f"{path} is a folder"
+    if not stat.S_ISREG(found.st_mode):
+        return f"{path} is no plain file"
+    if not os.access(path, os.R_OK | os.W_OK):
+        return f"{path} may not be both read and written"
+    holder = holder_of(found)
+    return None if holder is None else f"another run holds {path}" + (f", process {holder}" if holder > 0 else "")
+
+
+def holder_of(found):
+    """The process that holds a lock on a file, as the system tells it now; below 1 where it is hidden, None where there is no lock."""
+    try:
+        with open("/proc/locks", encoding="ascii") as file:
+            locks = [line.split() for line in file]
+    except OSError:
+        return None
+    return next((int(words[4]) for words in locks if words[1] != "->" and words[5].endswith(f":{found.st_ino}")), None)
