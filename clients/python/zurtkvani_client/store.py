@@ -6,7 +6,7 @@ import subprocess
 import sys
 import threading
 
-from . import frames
+from . import client, frames
 
 MOST_VALUES = 256  # of one append or set
 # The name of each refusal and what it means, from number 1 on.
@@ -80,7 +80,7 @@ class Store:
         self.end, self.said, self.numbers = None, None, 0
         self.listener = threading.Thread(target=self._listen, daemon=True)
         self.listener.start()
-        self.fields, self.sessions = frames.Fields(self.child.stdout), {}
+        self.client = client.over(self.child.stdout)
         return self
 
     def __exit__(self, kind, *_):
@@ -161,7 +161,7 @@ class Store:
         try:
             self.child.stdin.write(line + b"\n")
             self.child.stdin.flush()
-            frame, picture = frames.accept(self.fields, self.sessions)
+            frame, picture = self.client.accept()
         except BaseException as why:
             # What the program may still answer belongs to no later request.
             self._stop()
