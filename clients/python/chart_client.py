@@ -3,8 +3,8 @@
 
 usage: chart_client.py [--library FILE] [EVERY]
 
-The client is the one in Python; with --library the proved one, in the shared library FILE. With EVERY a view's covers come before its picture,
-after 0, EVERY, 2 * EVERY, .. of its coefficients.
+The client is the one in Python; with --library the proved one, in the shared library FILE. With EVERY a view's covers come before its
+picture, after 0, EVERY, 2 * EVERY, .. of its coefficients.
 """
 import os
 import sys

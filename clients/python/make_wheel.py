@@ -1,5 +1,5 @@
-"""Makes the package's wheel, as pip asks for it: a zip of the modules, of the proved client's library where it was built, and what the wheel
-says of itself."""
+"""Makes the package's wheel, as pip asks for it: a zip of the modules, of the proved client's library where it was built, and what the
+wheel says of itself."""
 import base64
 import hashlib
 import os
