@@ -1,27 +1,31 @@
 #!/usr/bin/env python3
 """Reads frames on standard input, and writes a raw PBM for each View and Rows frame to standard output.
 
-usage: chart_client.py [EVERY]     EVERY: before a view's picture its covers, after 0, EVERY, 2 * EVERY, .. of its coefficients
+usage: chart_client.py [--library FILE] [EVERY]
+
+The client is the one in Python; with --library the proved one, in the shared library FILE. With EVERY a view's covers come before its
+picture, after 0, EVERY, 2 * EVERY, .. of its coefficients.
 """
 import os
 import sys
 
-from zurtkvani_client.frames import Fields, Stopped, accept
+from zurtkvani_client.client import ByHand, Proved, load
+from zurtkvani_client.frames import Stopped
 
 
-def draw_all(frames, pictures, every=None):
+def draw_all(frames, pictures, every=None, client_over=ByHand):
     """Reads frames from one stream, and writes their pictures to the other, with covers where `every` is given."""
-    fields, sessions = Fields(frames), {}
+    client = client_over(frames)
 
-    def write_covers(view, session):
-        for taken in range(0, len(view.sent), every):
-            pictures.write(view.cover(session, taken).to_pbm())
+    def write_covers(view, client):
+        for taken in range(0, view.count, every):
+            pictures.write(client.cover(view, taken).to_pbm())
             pictures.flush()
 
     while frames.peek(1):
-        start = fields.offset
+        start = client.offset
         try:
-            _, picture = accept(fields, sessions, write_covers if every else None)
+            _, picture = client.accept(write_covers if every else None)
         except Stopped as why:
             sys.exit(f"chart_client: the frame at byte {start}: {why}")
         if picture:
@@ -30,13 +34,17 @@ def draw_all(frames, pictures, every=None):
 
 
 def main(words):
+    client_over = ByHand
+    if words[:1] == ["--library"] and len(words) > 1:
+        calls = load(words[1])
+        client_over, words = (lambda frames: Proved(frames, calls)), words[2:]
     if words and not (len(words) == 1 and words[0].isascii() and words[0].isdigit() and int(words[0]) > 0):
-        sys.exit("chart_client: its only word is a whole number above 0")
+        sys.exit("chart_client: its words are --library FILE, and a whole number above 0")
     every = int(words[0]) if words else None
     if sys.stdin is None or sys.stdout is None:
         sys.exit("chart_client: standard input or output is closed")
     try:
-        draw_all(sys.stdin.buffer, sys.stdout.buffer, every)
+        draw_all(sys.stdin.buffer, sys.stdout.buffer, every, client_over)
     except OSError as why:
         # Python would write what is left when it ends, and fail once more.
         os.dup2(os.open(os.devnull, os.O_WRONLY), sys.stdout.fileno())

@@ -1,12 +1,16 @@
-"""Makes the package's wheel, as pip asks for it: a zip of the modules, and what the wheel says of itself."""
+"""Makes the package's wheel, as pip asks for it: a zip of the modules, of the proved client's library where it was built, and what the
+wheel says of itself."""
 import base64
 import hashlib
 import os
 import re
+import sysconfig
 import zipfile
 
 HERE = os.path.dirname(os.path.realpath(__file__))
 PACKAGE = "zurtkvani_client"
+LIBRARY = "libchart_client.so"
+PLACES = (os.path.join(HERE, PACKAGE, LIBRARY), os.path.join(HERE, "../../dist", LIBRARY))
 
 
 def stated(key):
@@ -41,11 +45,17 @@ def build_wheel(wheel_directory, config_settings=None, metadata_directory=None):
         if name.endswith((".py", ".txt")):
             with open(os.path.join(HERE, PACKAGE, name), "rb") as file:
                 files[f"{PACKAGE}/{name}"] = file.read()
+    tag, is_pure = "py3-none-any", "true"
+    library = next(filter(os.path.exists, PLACES), None)
+    if library and sysconfig.get_platform() == "linux-x86_64":
+        tag, is_pure = "py3-none-linux_x86_64", "false"
+        with open(library, "rb") as file:
+            files[f"{PACKAGE}/{LIBRARY}"] = file.read()
     release = f"{PACKAGE}-{stated('version')}"
     info = f"{release}.dist-info"
     files[f"{info}/METADATA"] = metadata().encode()
-    files[f"{info}/WHEEL"] = b"Wheel-Version: 1.0\nGenerator: make_wheel\nRoot-Is-Purelib: true\nTag: py3-none-any\n"
+    files[f"{info}/WHEEL"] = f"Wheel-Version: 1.0\nGenerator: make_wheel\nRoot-Is-Purelib: {is_pure}\nTag: {tag}\n".encode()
     files[f"{info}/entry_points.txt"] = f"[console_scripts]\nzurtkvani = {stated('zurtkvani')}\n".encode()
-    wheel = f"{release}-py3-none-any.whl"
+    wheel = f"{release}-{tag}.whl"
     write_wheel(os.path.join(wheel_directory, wheel), info, files)
     return wheel

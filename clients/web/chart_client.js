@@ -35,7 +35,7 @@ const LENGTHS = new Map([
 ]);
 
 // The name of each refusal and what it means, from number 1 on, as clients/python has them.
-const REFUSALS = [
+export const REFUSALS = [
   ["LineTooLong", "the line is too long"],
   ["BadLine", "the line is no request"],
   ["BadFilter", "the text is no filter"],
@@ -158,6 +158,17 @@ export class Picture {
         this.join(before.column, this.height(before.last), row.column, this.height(row.first));
       }
       before = row;
+    }
+  }
+
+  isBlank() {
+    return !this.pixels.includes(1);
+  }
+
+  /** Puts one of two colours in the place of each pixel. */
+  colour(colours, ink, paper) {
+    for (let at = 0; at < colours.length; at += 1) {
+      colours[at] = this.pixels[at] ? ink : paper;
     }
   }
 

@@ -1,10 +1,12 @@
 /**
- * The page of a store: a canvas on which the client of chart_client.js draws, and what moves its window.
+ * The page of a store: a canvas on which a client draws, and what moves its window. The client is the proved one, in the module
+ * chart_client.wasm; where the browser has no WebAssembly, or the module isn't there, it is that of chart_client.js. The page says which.
  *
  * The address names what is shown: `?series=NAME NAME ..&show=NAME&t0=T0&t1=T1&filter=TEXT&times=UNIT`, and behind `#token=` the
  * server's token. A picture has the size of the canvas in device pixels, and each of its pixels is one of the screen.
  */
 import { Client, Stopped } from "./chart_client.js";
+import { ProvedClient } from "./proved_client.js";
 
 const FARTHEST = 2n * 10n ** 18n; // the greatest size of an end of a window
 const MOST_PIXELS = 4096;
@@ -34,7 +36,7 @@ class Refused extends Error {
 /** One session of the program, and the client that draws its frames. Requests go one behind the other. */
 class Connection {
   constructor() {
-    this.client = new Client();
+    this.client = null; // one without sessions is made for the first answer
     this.turn = Promise.resolve();
     this.number = 0; // of the session; 0 while none is open
     this.bytes = 0; // of all frames so far
@@ -58,6 +60,7 @@ class Connection {
         throw new Error((await response.json()).error);
       }
       const bytes = new Uint8Array(await response.arrayBuffer());
+      this.client ??= await newClient();
       const came = performance.now();
       const [answer] = this.client.push(bytes);
       performance.measure("chart: answer", { start: asked, end: came });
@@ -112,8 +115,40 @@ class Connection {
       post("request", `close ${this.number}`, { keepalive: true }).catch(() => {});
     }
     this.number = 0;
-    this.client = new Client();
+    this.client = null;
   }
+}
+
+let unproved = null; // why the page isn't drawn by the proved client
+
+/** The module of the proved client; null where there is none. */
+const compiled = (async () => {
+  if (typeof WebAssembly === "undefined") {
+    throw new Error("this browser has no WebAssembly");
+  }
+  const response = await fetch("chart_client.wasm");
+  if (!response.ok) {
+    throw new Error((await response.json()).error);
+  }
+  return WebAssembly.compile(await response.arrayBuffer());
+})().catch((error) => {
+  unproved = error.message;
+  return null;
+});
+/** A client, the proved one where that runs; the page says which. */
+async function newClient() {
+  const module = await compiled;
+  let client = null;
+  try {
+    client = module && new ProvedClient(module);
+  } catch (error) {
+    unproved = error.message;
+  }
+  part("client").dataset.proved = String(client !== null);
+  part("client").textContent = client
+    ? "Drawn by the proved client, as a module for WebAssembly."
+    : `Drawn by the client in JavaScript, which isn't proved: ${unproved}.`;
+  return client ?? new Client();
 }
 
 const connection = new Connection();
@@ -221,9 +256,7 @@ function putPixels(picture, ink, paper) {
   canvas.style.height = `${picture.h / devicePixelRatio}px`;
   const image = new ImageData(picture.w, picture.h);
   const colours = new Uint32Array(image.data.buffer);
-  for (let at = 0; at < colours.length; at += 1) {
-    colours[at] = picture.pixels[at] ? ink : paper;
-  }
+  picture.colour(colours, ink, paper);
   canvas.getContext("2d").putImageData(image, 0, 0);
 }
 
@@ -242,7 +275,7 @@ function tell(frame, picture, began) {
     part(id).value = spelled(shown[id]);
     part(id).dataset.time = shown[id];
   }
-  const isBlank = !picture.pixels.includes(1);
+  const isBlank = picture.isBlank();
   part("hi").value = isBlank ? "" : frame.hi;
   part("lo").value = isBlank ? "" : frame.lo;
   const values = isBlank ? "no value to show" : `values from ${frame.lo} to ${frame.hi}`;

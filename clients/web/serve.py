@@ -1,7 +1,7 @@
 #!/usr/bin/env python3
 """A page for a store: gives the files of this folder to a browser, and answers its request lines by one `chart` that it starts.
 
-usage: clients/web/serve.py STORE [NAME ..] [--edit] [--open] [--port PORT] [--program PROGRAM]
+usage: clients/web/serve.py STORE [NAME ..] [--edit] [--open] [--port PORT] [--program PROGRAM] [--module MODULE]
 
 It prints the page's address, which holds a token and the names of the series to show. It listens on the loopback address alone.
 A request line is taken by POST to /request, only with the token and from the page's own origin; without --edit only open, close,
@@ -31,13 +31,15 @@ FILES = {
     "/": ("index.html", "text/html; charset=utf-8"),
     "/page.js": ("page.js", "text/javascript; charset=utf-8"),
     "/chart_client.js": ("chart_client.js", "text/javascript; charset=utf-8"),
+    "/proved_client.js": ("proved_client.js", "text/javascript; charset=utf-8"),
     "/page.css": ("page.css", "text/css; charset=utf-8"),
 }
+MODULE = "/chart_client.wasm"
 LONGEST = 8192
 READING = (b"open", b"close", b"view", b"zoom", b"pan")
 PATIENCE = 25  # seconds that a page waits for the program's end before it asks again
 HEADERS = {
-    "Content-Security-Policy": "default-src 'none'; script-src 'self'; style-src 'self'; connect-src 'self'; "
+    "Content-Security-Policy": "default-src 'none'; script-src 'self' 'wasm-unsafe-eval'; style-src 'self'; connect-src 'self'; "
     "base-uri 'none'; form-action 'none'; frame-ancestors 'none'",
     "X-Content-Type-Options": "nosniff",
     "Referrer-Policy": "no-referrer",
@@ -137,6 +139,8 @@ class Handler(http.server.BaseHTTPRequestHandler):
         if not self.is_own():
             return self.refuse(403, "another host or origin")
         path = self.path.partition("?")[0]
+        if path == MODULE:
+            return self.send_module()
         if path not in FILES:
             return self.refuse(404, "no such file")
         name, kind = FILES[path]
@@ -144,6 +148,13 @@ class Handler(http.server.BaseHTTPRequestHandler):
             return self.send(200, kind, it.read())
 
     do_HEAD = do_GET
+
+    def send_module(self):
+        """The module of the proved client, where it was built; without it the page draws by chart_client.js."""
+        if not os.path.exists(self.server.module):
+            return self.refuse(404, "its module isn't built")
+        with open(self.server.module, "rb") as it:
+            return self.send(200, "application/wasm", it.read())
 
     def do_POST(self):
         if not self.is_own():
@@ -201,9 +212,10 @@ def main():
     words.add_argument("--edit", action="store_true", help="take requests that edit, too")
     words.add_argument("--port", type=int, default=0, help="the port; else a free one")
     words.add_argument("--program", default=os.path.join(ROOT, "chart"), help="the chart program; else ./chart of the repository")
+    words.add_argument("--module", default=os.path.join(ROOT, "dist/chart_client.wasm"), help="the proved client's module; else the repository's")
     words = words.parse_intermixed_args()
     with Server(("127.0.0.1", words.port), Handler) as server:
-        server.token, server.edits = secrets.token_urlsafe(24), words.edit
+        server.token, server.edits, server.module = secrets.token_urlsafe(24), words.edit, words.module
         server.program = Program(words.program, words.store)
         query = "?" + urllib.parse.urlencode({"series": " ".join(words.names)}) if words.names else ""
         edit = "&edit" if words.edit else ""

@@ -104,7 +104,7 @@ class View:
         least = fields.number(8, -size, size)
         greatest = fields.number(8, least, size)
         self.span = (least, greatest) if size else None
-        fields.number(4, count, count)
+        self.count = fields.number(4, count, count)
         self.top = next(7 * k for k in range(1, 6) if 128**k >= self.slots)
         self.sent = dict(self.coefficients(fields, count))
         self.first = max(0, -((self.start - self.t0) // self.step))  # the window's slots go from here to below behind

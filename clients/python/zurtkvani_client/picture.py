@@ -1,4 +1,5 @@
 """A picture of a chart: pixels that are black or not."""
+import functools
 import struct
 import zlib
 
@@ -101,6 +102,38 @@ class Picture:
             raise ValueError("a picture keeps its pixels otherwise, so an array of them is a copy")
         black = numpy.frombuffer(bytes(self.pixels), dtype=numpy.uint8).reshape(self.h, self.w)[::-1] == ord("1")
         return black if dtype is None else black.astype(dtype)
+
+
+class BitPicture(Picture):
+    """A picture that was drawn elsewhere, as the bytes of a raw PBM."""
+
+    def __init__(self, w, h, lo, hi, pbm):
+        self.w, self.h, self.lo, self.hi, self.pbm = w, h, lo, hi, pbm
+
+    @functools.cached_property
+    def pixels(self):
+        bits = bytearray()
+        for row in reversed(list(self.packed_rows())):
+            bits += bin(int.from_bytes(b"\1" + row, "big"))[3 : 3 + self.w].encode()
+        return bits
+
+    def packed_rows(self):
+        size = (self.w + 7) // 8
+        for end in range(len(self.pbm) - (self.h - 1) * size, len(self.pbm) + 1, size):
+            yield self.pbm[end - size : end]
+
+    def to_pbm(self):
+        return self.pbm
+
+    def __array__(self, dtype=None, copy=None):
+        import numpy
+
+        if copy is False:
+            raise ValueError("a picture keeps its pixels otherwise, so an array of them is a copy")
+        size = (self.w + 7) // 8
+        rows = numpy.frombuffer(self.pbm, dtype=numpy.uint8, offset=len(self.pbm) - self.h * size).reshape(self.h, size)
+        black = numpy.unpackbits(rows, axis=1, count=self.w).view(bool)
+        return black if dtype is None else black.astype(dtype, copy=False)
 
 
 def chunk(kind, data):

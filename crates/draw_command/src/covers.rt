@@ -1,6 +1,6 @@
 //! The covers of a view, sent one after the other.
 
-ghost use Rattle.std.specs.Prelude.{◌≡◌, ◌≢◌, ◌≤◌, ◌<◌, ◌+◌, length, min, IfErr, IfSome, OnOk};
+ghost use Rattle.std.specs.Prelude.{◌≡◌, ◌≢◌, ◌≤◌, ◌<◌, IfErr, IfSome, OnOk};
 ghost use Rattle.block_disk.specs.Counts.{HasRisen};
 ghost use Rattle.block_disk.specs.View.{View};
 ghost use Rattle.chart_frames.specs.declared.frame.Frame.TheVariants.{View as AView};
@@ -67,23 +67,7 @@ fn send_view_covers<S: World>(
     'covers: while progress.taken() < view.count {
         let cover = progress.cover()?;
         send_picture(alloc, &cover, streams)?;
-        advance_by(&mut progress, every);
+        progress.advance_by(every);
     }
     Ok(())
-}
-
-/// Takes so many coefficients more, or all that are left.
-fn advance_by(progress: &mut Progress, count: u32)
-    requires few { progress.old.taken ≤ length progress.old.view.coefs }
-    ensures view { progress.new.view ≡ progress.old.view }
-    ensures holdings { progress.new.holdings ≡ progress.old.holdings }
-    ensures taken { progress.new.taken ≡ min (progress.old.taken + count) (length progress.old.view.coefs) }
-{
-    let mut steps = 0;
-    'steps: while steps < count {
-        if !progress.advance() {
-            return;
-        }
-        steps += 1;
-    }
 }

@@ -1,4 +1,4 @@
-ghost use Rattle.std.specs.Prelude.{◌≡◌, ◌+◌, ◌<◌, ◌↔◌, None, IfOk, IfErr, IsSome, OnErr, OnOk, IsTrue, if◌then◌else◌, length};
+ghost use Rattle.std.specs.Prelude.{◌≡◌, ◌+◌, ◌<◌, ◌↔◌, None, IfOk, IfErr, IsSome, OnErr, OnOk, IsTrue, if◌then◌else◌, length, min};
 ghost use Rattle.chart_frames.specs.Frames.{FitsView};
 ghost use Rattle.chart_client.specs.declared.errors.ClientError.TheVariants as client_errors;
 ghost use Rattle.chart_client.specs.Holdings.{holding_of};
@@ -73,6 +73,16 @@ impl<'a> Progress<'a> {
         }
         self.taken += 1;
         true
+    }
+
+    /// Takes so many of the coefficients that are left, or all of them.
+    pub fn advance_by(&mut self, count: u32)
+        ensures view { self.new.view ≡ self.old.view }
+        ensures holdings { self.new.holdings ≡ self.old.holdings }
+        ensures taken { self.new.taken ≡ min (self.old.taken + count) (length self.old.view.coefs) }
+    {
+        let left = self.view.count - self.taken;
+        self.taken += left.min(count);
     }
 
     /// How many coefficients are taken.

@@ -47,7 +47,7 @@ covers-preserved g c =
     record {
       view = next.view ∙ inv.view;
       holdings = next.holdings ∙ inv.holdings;
-      sent = covers_more c.args.every c.args.view.now c.args.client.now c.covers.progress.taken c.advance_by.new.progress.taken c.in_ok-cover.cover before (sent c.covers.streams) later
+      sent = covers_more c.args.every c.args.view.now c.args.client.now c.covers.progress.taken c.advance_by.new.self.taken c.in_ok-cover.cover before (sent c.covers.streams) later
           more draws made.done (omega (arith, next.taken, ap (λ v. length v.coefs) inv.view)) inv.sent;
       send_faults = made.quiet_sends (done_is_no_err _ _) ∙ inv.send_faults;
       left = made.left ∙ inv.left;

@@ -1,0 +1,197 @@
+/**
+ * The proved client, which stands in a module for WebAssembly: bytes of frames in, pictures out, by the calls of `Client` in
+ * chart_client.js.
+ *
+ *     const module = await WebAssembly.compile(bytes);        // of chart_client.wasm, which clients/native/build makes
+ *     const client = new ProvedClient(module);
+ *     for (const { frame, picture } of client.push(bytes)) { .. }
+ *     client.end();
+ *
+ * This text isn't proved. It hands bytes to the module and takes numbers and bits from it; what it has to keep to stands in
+ * crates/client_exports/src/lib.rt. What can't be drawn is thrown as a `Stopped`, and so is a module that traps or runs out of
+ * memory; a client that has thrown one takes nothing more, and another one has a memory of its own.
+ */
+import { REFUSALS, Stopped } from "./chart_client.js";
+
+const KINDS = ["", "done", "refused", "opened", "closed", "view", "rows", "live"];
+const [MORE, FRAME, BAD, MISSING, MISFIT, UNKNOWN, MEMORY] = Array.from({ length: 7 }, (_, code) => code);
+const HANDLE = 8; // bytes
+const ANSWER = 96;
+const LEAST_ROOM = 65536;
+
+/** A number where it is exact, as in chart_client.js. */
+const whole = (big) => (-(2n ** 53n) < big && big < 2n ** 53n ? Number(big) : big);
+
+/** A picture of w by h pixels: the bytes of a PBM, of which the rows begin at `front`. */
+export class BitPicture {
+  constructor(w, h, lo, hi, bytes) {
+    Object.assign(this, { w, h, lo, hi, bytes });
+    this.size = Math.ceil(w / 8);
+    this.front = bytes.length - h * this.size;
+  }
+
+  isBlank() {
+    return this.bytes.subarray(this.front).every((byte) => byte === 0);
+  }
+
+  /** Puts one of two colours in the place of each pixel. */
+  colour(colours, ink, paper) {
+    let at = 0;
+    for (let y = 0; y < this.h; y += 1) {
+      const row = this.front + y * this.size;
+      for (let x = 0; x < this.w; x += 1) {
+        colours[at] = this.bytes[row + (x >> 3)] & (128 >> (x & 7)) ? ink : paper;
+        at += 1;
+      }
+    }
+  }
+
+  toPbm() {
+    return this.bytes;
+  }
+}
+
+export class ProvedClient {
+  constructor(module) {
+    this.calls = new WebAssembly.Instance(module, {}).exports;
+    this.sized = 0;
+    this.handle = this.room(HANDLE + ANSWER);
+    this.answer = this.handle + HANDLE;
+    this.bytes(this.handle, HANDLE + ANSWER).fill(0);
+    this.require(this.call("chart_open"));
+  }
+
+  /** Takes more bytes, and gives each whole frame among them with its picture, null where it has none. */
+  *push(bytes) {
+    this.feed(bytes);
+    for (let frame = this.next(); frame; frame = this.next()) {
+      yield { frame, picture: this.draw(frame) };
+    }
+  }
+
+  feed(bytes) {
+    this.require(this.call("chart_feed", this.write(bytes), BigInt(bytes.length)));
+  }
+
+  /** The next frame, or null where more bytes are needed. */
+  next() {
+    const told = this.ask("chart_next");
+    this.pending = told.code === MORE ? told.a : 0;
+    return told.code === MORE ? null : frameOf(told);
+  }
+
+  draw({ w, h, lo, hi }) {
+    const { size } = this.ask("chart_draw");
+    return size === 0 ? null : new BitPicture(w, h, lo, hi, this.picture(size));
+  }
+
+  /** The cover of the view that `next` gave and that isn't drawn yet, after so many of its coefficients. */
+  cover({ w, h, lo, hi }, count) {
+    const { size } = this.ask("chart_cover", count);
+    return new BitPicture(w, h, lo, hi, this.picture(size));
+  }
+
+  picture(size) {
+    const at = this.buffer(size);
+    this.require(this.call("chart_picture", BigInt(at), BigInt(size)));
+    return this.bytes(at, size).slice();
+  }
+
+  /** Says that the stream has ended; within a frame that is an error. */
+  end() {
+    this.next();
+    if (this.pending > 0) {
+      throw new Stopped(`the stream ends within a frame, ${this.pending} bytes behind its first`);
+    }
+  }
+
+  /** Gives the stream's memory back to the module. */
+  close() {
+    this.call("chart_close");
+  }
+
+  /** What a call answers; where that is why nothing can be drawn, it is thrown. */
+  ask(name, ...words) {
+    this.call(name, ...words, BigInt(this.answer));
+    const view = new DataView(this.calls.memory.buffer, this.answer, ANSWER);
+    const [code, kind, session, number, w, h, step, count] = Array.from({ length: 8 }, (_, at) => view.getUint32(4 * at, true));
+    const [a, b] = [32, 40].map((at) => whole(view.getBigUint64(at, true)));
+    const [t0, t1, lo, hi, start] = [48, 56, 64, 72, 80].map((at) => whole(view.getBigInt64(at, true)));
+    const size = Number(view.getBigUint64(88, true));
+    if (code > FRAME) {
+      throw new Stopped(causeOf({ code, session, number, a }));
+    }
+    return { code, kind, session, number, w, h, step, count, a, b, t0, t1, lo, hi, start, size };
+  }
+
+  /** Calls the module with the handle. One that fails has to be given up. */
+  call(name, ...words) {
+    try {
+      return this.calls[name](BigInt(this.handle), ...words);
+    } catch (error) {
+      throw new Stopped(`the client's module fails: ${error.message}`);
+    }
+  }
+
+  require(holds) {
+    if (!holds) {
+      throw new Stopped("out of memory");
+    }
+  }
+
+  bytes(at, size) {
+    return new Uint8Array(this.calls.memory.buffer, at, size);
+  }
+
+  room(size) {
+    const at = Number(this.calls.host_alloc(BigInt(size)));
+    this.require(at);
+    return at;
+  }
+
+  /** Room for so many bytes, which stays until more is asked for. */
+  buffer(size) {
+    if (size > this.sized) {
+      if (this.sized > 0) {
+        this.calls.host_free(BigInt(this.place));
+      }
+      this.sized = 0;
+      this.place = this.room(Math.max(size, LEAST_ROOM));
+      this.sized = Math.max(size, LEAST_ROOM);
+    }
+    return this.place;
+  }
+
+  write(bytes) {
+    const at = this.buffer(Math.max(1, bytes.length));
+    this.bytes(at, bytes.length).set(bytes);
+    return BigInt(at);
+  }
+}
+
+function causeOf({ code, session, number, a }) {
+  const causes = new Map([
+    [BAD, `the field at byte ${a} breaks its rule`],
+    [MISSING, `the coefficient of level ${number}, index ${a} is missing`],
+    [MISFIT, "a coefficient doesn't fit"],
+    [UNKNOWN, `session ${session} isn't open`],
+    [MEMORY, "out of memory"],
+  ]);
+  return causes.get(code) ?? "the client is closed";
+}
+
+/** The frame that an answer tells, as an object with its `kind`, with the names of chart_client.js. */
+function frameOf({ kind, session, number, w, h, step, count, a, b, t0, t1, lo, hi, start }) {
+  const [name, meaning] = kind === 2 ? REFUSALS[number - 1] : [];
+  const fields = [
+    {},
+    { slots: a },
+    { number, a, b, name, meaning },
+    { session, cache: a },
+    { session },
+    { session, series: number, w, h, t0, t1, lo, hi, start, step, slots: a, count },
+    { session, w, h, lo, hi, count },
+    { session, on: a === 1 },
+  ];
+  return { kind: KINDS[kind], ...fields[kind] };
+}

@@ -1,0 +1,110 @@
+// The proved client's module on a worked stream of docs/FORMATS.md, whole and in pieces, and where it fails.
+// Run by `CHART_MODULE=FOLDER/chart_client.wasm node --test clients/web/proved_test.js`.
+import assert from "node:assert";
+import { readFileSync } from "node:fs";
+import { test } from "node:test";
+import { Client, Stopped } from "./chart_client.js";
+import { ProvedClient } from "./proved_client.js";
+
+const module = new WebAssembly.Module(readFileSync(process.env.CHART_MODULE));
+const bytesOf = (hex) => Uint8Array.from(hex.replace(/\s/g, "").match(/../g), (byte) => parseInt(byte, 16));
+const join = (...parts) => Uint8Array.from(parts.flatMap((part) => [...part]));
+
+const OPENED = bytesOf("00000009 03 00000001 00010000");
+const VIEW = bytesOf(`
+  0000011C 05 00000001 0000 0004 0004 0000000000000000 0000000000000004 0000000000000002 0000000000000007
+  0000000000000000 00000001 0000000000000004 01 0000000000000002 0000000000000007 00000008
+  0000070000000000 01 0000000000000000 0000000000000000
+  0000060000000000 01 0000000000000000 0000000000000000
+  0000050000000000 01 0000000000000000 0000000000000000
+  0000040000000000 01 0000000000000000 0000000000000000
+  0000030000000000 01 0000000000000000 0000000000000000
+  0000020000000000 03 0000000000000002 0000000000000005
+  0000010000000000 03 FFFFFFFFFFFFFFFD FFFFFFFFFFFFFFFD
+  0000010000000001 01 0000000000000000 0000000000000000`);
+const OTHERS = [
+  "00000009 01 0000000800000000", "00000012 02 14 0000000000000029 0000000000000028", "00000006 07 00000001 01", "00000006 07 00000001 00",
+  "0000003D 06 00000001 0003 0002 FFFFFFFFFFFFFFFF 0000000000000005 0001 0001 0000000000000001 FFFFFFFFFFFFFFFE 0000000000000004 0000000000000002",
+  "00000005 04 00000001",
+].map(bytesOf);
+const STREAM = join(OPENED, VIEW, ...OTHERS);
+
+/** What a client makes of a stream in pieces of this size. */
+function drawn(client, stream, size) {
+  const found = [];
+  for (let at = 0; at < stream.length; at += size) {
+    for (const { frame, picture } of client.push(stream.subarray(at, at + size))) {
+      const colours = picture && new Uint32Array(picture.w * picture.h);
+      picture?.colour(colours, 7, 3);
+      found.push({ frame, pbm: picture && [...picture.toPbm()], colours: colours && [...colours], isBlank: picture?.isBlank() });
+    }
+  }
+  client.end();
+  return found;
+}
+
+const SHARED = {
+  done: ["slots"], refused: ["number", "a", "b", "name", "meaning"], opened: ["session", "cache"], closed: ["session"], live: ["session", "on"],
+  view: ["session", "series", "w", "h", "t0", "t1", "lo", "hi", "start", "step", "slots"], rows: ["session", "w", "h", "lo", "hi"],
+}; // prettier-ignore
+const told = (found) => found.map(({ frame, ...rest }) => [frame.kind, SHARED[frame.kind].map((name) => frame[name]), rest]);
+
+for (const size of [1, 7, 100, STREAM.length]) {
+  test(`frames and pictures are those of the client in JavaScript, in pieces of ${size} bytes`, () => {
+    const found = told(drawn(new ProvedClient(module), STREAM, size));
+    assert.deepStrictEqual(found, told(drawn(new Client(), STREAM, size)));
+    assert.strictEqual(found.length, 8);
+    assert.deepStrictEqual(found[1][2].pbm.slice(-4), [0x40, 0x40, 0xa0, 0x20]);
+  });
+}
+
+test("covers come before the picture", () => {
+  const client = new ProvedClient(module);
+  client.feed(join(OPENED, VIEW));
+  client.draw(client.next());
+  const view = client.next();
+  assert.strictEqual(view.count, 8);
+  const covers = [0, 7, 8, 9].map((count) => Buffer.from(client.cover(view, count).toPbm().slice(-4)).toString("hex"));
+  assert.deepStrictEqual(covers, ["f0f0f0f0", "f0f0f070", "e0e0e060", "e0e0e060"]);
+  assert.deepStrictEqual(client.next(), view);
+  assert.deepStrictEqual([...client.draw(view).toPbm().slice(-4)], [0x40, 0x40, 0xa0, 0x20]);
+});
+
+const stops = (stream, message) => assert.throws(() => drawn(new ProvedClient(module), stream, 50), new Stopped(message));
+
+test("what can't be drawn", () => {
+  const bad = join(OPENED, VIEW);
+  bad[13 + 104] = 1;
+  stops(bad, "the field at byte 110 breaks its rule");
+  stops(VIEW, "session 1 isn't open");
+  stops(join(OPENED, VIEW).subarray(0, 100), "the stream ends within a frame, 87 bytes behind its first");
+  const view = VIEW.slice(0, VIEW.length - 25);
+  view.set([0, 0, 1, 3], 0);
+  view[87] = 7;
+  stops(join(OPENED, view), "the coefficient of level 1, index 1 is missing");
+});
+
+test("a module that traps or runs out of memory is given up, and another one draws", () => {
+  const trapped = new ProvedClient(module);
+  trapped.bytes(trapped.handle, 8).fill(0xff);
+  assert.throws(() => [...trapped.push(OPENED)], /^Error: the client's module fails: /);
+  const full = new ProvedClient(module);
+  for (let size = 2 ** 30; size >= 16; size /= 2) {
+    while (full.calls.host_alloc(BigInt(size)) !== 0n);
+  }
+  assert.throws(() => [...full.push(new Uint8Array(2 ** 20))], new Stopped("out of memory"));
+  assert.strictEqual(drawn(new ProvedClient(module), STREAM, 1000).length, 8);
+});
+
+test("a client that is closed says so, and its memory is used again", () => {
+  const client = new ProvedClient(module);
+  const before = client.calls.memory.buffer.byteLength;
+  for (let turn = 0; turn < 3000; turn += 1) {
+    assert.strictEqual([...client.push(STREAM)].length, 8);
+    client.close();
+    client.call("chart_open");
+  }
+  assert.ok(client.calls.memory.buffer.byteLength <= before + 2 ** 20);
+  client.close();
+  assert.throws(() => client.next(), new Stopped("the client is closed"));
+});

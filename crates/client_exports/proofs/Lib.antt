@@ -1,0 +1,3 @@
+mod Boxes
+mod Covers
+mod Handles

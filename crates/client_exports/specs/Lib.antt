@@ -1,0 +1,4 @@
+pub mod State
+pub mod Owned
+pub mod Steps
+pub mod Answers
