@@ -6,7 +6,7 @@ import sys
 import threading
 from itertools import islice
 
-from . import frames, words
+from . import client, frames, words
 
 IN_FLIGHT = 64  # edits that are sent before the first of them has to be answered
 
@@ -68,7 +68,7 @@ class Run:
         # A session of its own, so that Control-C reaches Python alone.
         self.child = subprocess.Popen([program, path, "serve"], start_new_session=True, **pipes)
         self.listener = Listener(self.child, "serve", path)
-        self.fields, self.sessions = frames.Fields(self.child.stdout), {}
+        self.client = client.over(self.child.stdout)
 
     def answer(self, line):
         """Sends a request line, and gives its frame and picture, None where it has none. Raises Refused and Ended."""
@@ -125,7 +125,7 @@ class Run:
 
     def _accept(self):
         """The next frame, and its picture."""
-        return frames.accept(self.fields, self.sessions)
+        return self.client.accept()
 
     def _send(self, data):
         self.sent += len(data)
