@@ -1,5 +1,5 @@
-"""Makes the package's wheel, as pip asks for it: a zip of the modules, of the proved client's library where it was built, and what the
-wheel says of itself."""
+"""Makes the package's wheel, as pip asks for it: a zip of the modules, of the words for statuses, of the proved client's library where
+it was built, and what the wheel says of itself."""
 import base64
 import hashlib
 import os
@@ -10,6 +10,7 @@ import zipfile
 HERE = os.path.dirname(os.path.realpath(__file__))
 PACKAGE = "zurtkvani_client"
 LIBRARY = "libchart_client.so"
+WORDS = os.path.join(HERE, "../../docs/statuses.txt")
 PLACES = (os.path.join(HERE, PACKAGE, LIBRARY), os.path.join(HERE, "../../dist", LIBRARY))
 
 
@@ -42,9 +43,11 @@ def build_wheel(wheel_directory, config_settings=None, metadata_directory=None):
     """The hook that pip calls; gives the name of the wheel."""
     files = {}
     for name in sorted(os.listdir(os.path.join(HERE, PACKAGE))):
-        if name.endswith((".py", ".txt")):
+        if name.endswith(".py"):
             with open(os.path.join(HERE, PACKAGE, name), "rb") as file:
                 files[f"{PACKAGE}/{name}"] = file.read()
+    with open(WORDS, "rb") as file:
+        files[f"{PACKAGE}/statuses.txt"] = file.read()
     tag, is_pure = "py3-none-any", "true"
     library = next(filter(os.path.exists, PLACES), None)
     if library and sysconfig.get_platform() == "linux-x86_64":

@@ -1,8 +1,10 @@
-"""What statuses and refusals mean, in words: those of statuses.txt, which is docs/statuses.txt of the repository."""
+"""What statuses and refusals mean, in words: those of docs/statuses.txt of the repository, of which a wheel has a copy."""
 import os
 import stat
 
-TABLE = os.path.join(os.path.dirname(os.path.realpath(__file__)), "statuses.txt")
+HERE = os.path.dirname(os.path.realpath(__file__))
+# In the package, or where the repository keeps it.
+PLACES = (os.path.join(HERE, "statuses.txt"), os.path.join(HERE, "../../../docs/statuses.txt"))
 # The name of each refusal, from number 1 on.
 NAMES = (
     "LineTooLong", "BadLine", "BadFilter", "UnknownSession", "SessionOpen", "TooManySessions", "BadCache", "UnknownSeries",
@@ -15,7 +17,7 @@ TOLD = {2: "at byte {a}", 3: "at byte {a}", 20: "{a} of {b}", 21: "{a} of {b}", 
 
 def read_entries():
     """The entries of the table in their order, each as its texts by their keys."""
-    with open(TABLE, encoding="utf-8") as file:
+    with open(next(filter(os.path.exists, PLACES)), encoding="utf-8") as file:
         text = "".join(line for line in file if not line.startswith("#"))
     return [dict(line.split(": ", 1) for line in entry.splitlines()) for entry in text.strip().split("\n\n")]
 

@@ -33,6 +33,12 @@ slots_good : (o : Option (List ℕ)) (P : Type 0) → P → IfSome o (λ input. 
 slots_good None P is = tt
 slots_good (Some input) P is = λ good. is
 
+-- the key that a view lacks has the number that is told
+keyed : (left before now : Option (List ℕ)) (every : Option ℕ) (why : Key → DrawEnd) (key : Key) → IfSome left (λ input. StopsAtFrame every input before now (why key))
+    → IfSome left (λ input. (k : Key) × (key_number key ≡ key_number k) × StopsAtFrame every input before now (why k))
+keyed left before now every why key ends =
+    told_so (λ input. StopsAtFrame every input before now (why key)) (λ input. (k : Key) × (key_number key ≡ key_number k) × StopsAtFrame every input before now (why k)) left (λ input stops. (key, refl, stops)) ends
+
 -- of what was sent, and of the counts of faults
 module _ {T : Type 0} (old new : View) (left left' before now : Option (List ℕ)) (faults : Faults) where
   -- ---- a plot
@@ -127,11 +133,6 @@ module _ {T : Type 0} (old new : View) (left left' before now : Option (List ℕ
   drawing_good every known stay (Err (BadCoefficient key)) ends = misfit_never every known _ left left' before now key ends
   drawing_good every known stay (Err (UnknownSession n)) ends = unopened_never every known _ left left' before now n ends
 
-  -- the key that a view lacks has the number that is told
-  keyed : (every : Option ℕ) (why : Key → DrawEnd) (key : Key) → IfSome left (λ input. StopsAtFrame every input before now (why key)) → IfSome left (λ input. (k : Key) × (key_number key ≡ key_number k) × StopsAtFrame every input before now (why k))
-  keyed every why key ends =
-      told_so (λ input. StopsAtFrame every input before now (why key)) (λ input. (k : Key) × (key_number key ≡ key_number k) × StopsAtFrame every input before now (why k)) left (λ input stops. (key, refl, stops)) ends
-
   draw_came : (r : Result T DrawEnd) → OnOk r (IfSome left (λ input. DrawsAll None input before now)) → OnOk r (IfSome left (λ input. length input ≤ 2 ^ 32)) → IfErr r (λ end. IfSome left (λ input. EndsDraw None input left' before now end))
       → (r ≡ Err ReadFault → HasRisen faults.reads faults.reads_now) → (r ≡ Err draw_end.SendFault → HasRisen faults.sends faults.sends_now) → Came Draw old new left left' before now faults (drawing_end r)
   draw_came (Ok all) done within ends read send = (within, done, tt)
@@ -140,8 +141,8 @@ module _ {T : Type 0} (old new : View) (left left' before now : Option (List ℕ
   draw_came (Err draw_end.SendFault) done within ends read send = (send refl, ends)
   draw_came (Err InputTooLong) done within ends read send = told_both left (2 ^ 32 ≡ 2 ^ 32) (λ input. DrawsWithin None input before now) refl ends
   draw_came (Err (BadFrame at)) done within ends read send = ends
-  draw_came (Err (Missing key)) done within ends read send = keyed None Missing key ends
-  draw_came (Err (BadCoefficient key)) done within ends read send = keyed None BadCoefficient key ends
+  draw_came (Err (Missing key)) done within ends read send = keyed left before now None Missing key ends
+  draw_came (Err (BadCoefficient key)) done within ends read send = keyed left before now None BadCoefficient key ends
   draw_came (Err (UnknownSession n)) done within ends read send = ends
 
   pub drawn : Known → Stay → AllDraw → OwnDraw → AllAccepted → OwnAccepted → (r : Result T DrawEnd) → OnOk r (IfSome left (λ input. DrawsAll None input before now)) → OnOk r (IfSome left (λ input. length input ≤ 2 ^ 32))
@@ -176,8 +177,8 @@ module _ {T : Type 0} (old new : View) (left left' before now : Option (List ℕ
     cover_came (Err draw_end.SendFault) done within ends read send = (send refl, ends)
     cover_came (Err InputTooLong) done within ends read send = told_both left (2 ^ 32 ≡ 2 ^ 32) (λ input. DrawsWithin (Some every) input before now) refl ends
     cover_came (Err (BadFrame at)) done within ends read send = ends
-    cover_came (Err (Missing key)) done within ends read send = keyed (Some every) Missing key ends
-    cover_came (Err (BadCoefficient key)) done within ends read send = keyed (Some every) BadCoefficient key ends
+    cover_came (Err (Missing key)) done within ends read send = keyed left before now (Some every) Missing key ends
+    cover_came (Err (BadCoefficient key)) done within ends read send = keyed left before now (Some every) BadCoefficient key ends
     cover_came (Err (UnknownSession n)) done within ends read send = ends
 
     pub covered : Known → Stay → (r : Result T DrawEnd) → OnOk r (IfSome left (λ input. DrawsAll (Some every) input before now)) → OnOk r (IfSome left (λ input. length input ≤ 2 ^ 32))
