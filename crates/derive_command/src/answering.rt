@@ -82,9 +82,10 @@ fn answer_request<P: PageWorld>(
         Ok(asked) => asked,
         Err(refusal) => return (Err(DeriveEnd::Refused { at, refusal }), store),
     };
-    let (chart, mut store) = chart_of_sum(
+    let mut store = store;
+    let chart = chart_of_sum(
         alloc,
-        store,
+        &mut store,
         asked.x,
         asked.y,
         asked.sum,

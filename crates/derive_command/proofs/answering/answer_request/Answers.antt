@@ -25,7 +25,7 @@ returns-in-Ok-chart-clause-does g c = λ total book told stands.
     let sent = g.P.Streams.sent in
     let w = g.met.P.PageWorld in
     let first = shown.pages c.args.store in
-    let mid = shown.pages c.chart_of_sum-chart.result.1 in
+    let mid = shown.pages c.chart_of_sum-chart.new.store in
     let new = shown.pages c.send_picture-answer.new.store in
     let asked = c.in-Ok.asked in
     let is = c.in-Ok.ensures.asked total book c.requires.sound told stands in
@@ -41,7 +41,7 @@ returns-in-Err-chart-clause-does g c = λ total book told stands.
     let sent = g.P.Streams.sent in
     let w = g.met.P.PageWorld in
     let first = shown.pages c.args.store in
-    let mid = shown.pages c.chart_of_sum-chart.result.1 in
+    let mid = shown.pages c.chart_of_sum-chart.new.store in
     let asked = c.in-Ok.asked in
     let is = c.in-Ok.ensures.asked total book c.requires.sound told stands in
     let P : Result Canvas SumError → Type 0 = λ r. IsChartAnswer book asked.x asked.y asked.sum.a asked.sum.b asked.grid asked.range r in
@@ -55,7 +55,7 @@ returns-in-Ok-chart-clause-goes g c =
     let w = g.met.P.PageWorld in
     let side = side_of g.P.Streams in
     let first = c.args.store in
-    let mid = c.chart_of_sum-chart.result.1 in
+    let mid = c.chart_of_sum-chart.new.store in
     let new = c.send_picture-answer.new.store in
     let looks = c.chart_of_sum-chart.ensures.looks in
     let made = c.send_picture-answer.ensures in
@@ -76,7 +76,7 @@ returns-in-Ok-chart-clause-cause g c =
     let side = side_of g.P.Streams in
     let sent = g.P.Streams.sent in
     let first = c.args.store in
-    let mid = c.chart_of_sum-chart.result.1 in
+    let mid = c.chart_of_sum-chart.new.store in
     let new = c.send_picture-answer.new.store in
     let looks = c.chart_of_sum-chart.ensures.looks in
     let made = c.send_picture-answer.ensures in
@@ -92,7 +92,7 @@ pub returns-in-Ok-chart-clause-left : goal.returns-in-Ok-chart-clause-left
 returns-in-Ok-chart-clause-left g c =
     let w = g.met.P.PageWorld in
     let first = shown.pages c.args.store in
-    let mid = shown.pages c.chart_of_sum-chart.result.1 in
+    let mid = shown.pages c.chart_of_sum-chart.new.store in
     c.send_picture-answer.ensures.left ∙ sym (w.beside_left mid) ∙ ap (λ (b : Beside). b.left) c.chart_of_sum-chart.ensures.looks.beside ∙ w.beside_left first
 
 pub returns-in-Err-chart-clause-goes : goal.returns-in-Err-chart-clause-goes
@@ -100,7 +100,7 @@ returns-in-Err-chart-clause-goes g c =
     let w = g.met.P.PageWorld in
     let side = side_of g.P.Streams in
     let first = c.args.store in
-    let mid = c.chart_of_sum-chart.result.1 in
+    let mid = c.chart_of_sum-chart.new.store in
     let pm = shown.pages mid in
     goes_looks (side first) (side mid) (shown.numbers first) (shown.numbers mid) first.catalog mid.catalog
     (record { reads_are = w.beside_read_faults (shown.pages first); sends_are = w.beside_send_faults (shown.pages first) })
@@ -111,7 +111,7 @@ pub returns-in-Err-chart-clause-cause : goal.returns-in-Err-chart-clause-cause
 returns-in-Err-chart-clause-cause g c =
     let side = side_of g.P.Streams in
     let first = c.args.store in
-    let mid = c.chart_of_sum-chart.result.1 in
+    let mid = c.chart_of_sum-chart.new.store in
     let P : Result Canvas SumError → Type 0 = λ r. Rattle.std.specs.Prelude.IfErr r (λ e. Rattle.series_pair.specs.Derived.IsChartCause e (shown.IsTold mid) (shown.total first) (shown.view first) (shown.view mid)) in
     chart_cause (side first) (side mid) c.args.at c.in-Err-chart.error c.end_at.result c.end_at.ensures (subst P c.in-Err-chart.is c.chart_of_sum-chart.ensures.cause)
 
@@ -119,13 +119,13 @@ pub returns-in-Err-chart-clause-left : goal.returns-in-Err-chart-clause-left
 returns-in-Err-chart-clause-left g c =
     let w = g.met.P.PageWorld in
     let first = shown.pages c.args.store in
-    let mid = shown.pages c.chart_of_sum-chart.result.1 in
+    let mid = shown.pages c.chart_of_sum-chart.new.store in
     sym (w.beside_left mid) ∙ ap (λ (b : Beside). b.left) c.chart_of_sum-chart.ensures.looks.beside ∙ w.beside_left first
 
 pub returns-in-Ok-chart-clause-faults : goal.returns-in-Ok-chart-clause-faults
 returns-in-Ok-chart-clause-faults g c =
     let first = c.args.store in
-    let mid = c.chart_of_sum-chart.result.1 in
+    let mid = c.chart_of_sum-chart.new.store in
     let new = c.send_picture-answer.new.store in
     let P : Result Canvas SumError → Type 0 = λ r. CountsFault (fault_in sum_fault r) (shown.view first) (shown.view mid) in
     counts_then (fault_in derive_fault c.send_picture-answer.result) (shown.view first) (shown.view mid) (shown.view new) (subst P c.in-Ok-chart.is c.chart_of_sum-chart.ensures.faults) c.send_picture-answer.ensures.faults
@@ -133,7 +133,7 @@ returns-in-Ok-chart-clause-faults g c =
 pub returns-in-Err-chart-clause-faults : goal.returns-in-Err-chart-clause-faults
 returns-in-Err-chart-clause-faults g c =
     let first = c.args.store in
-    let mid = c.chart_of_sum-chart.result.1 in
+    let mid = c.chart_of_sum-chart.new.store in
     let P : Result Canvas SumError → Type 0 = λ r. CountsFault (fault_in sum_fault r) (shown.view first) (shown.view mid) in
     let error = c.in-Err-chart.error in
     let E : DeriveEnd → Type 0 = λ e. CountsFault (derive_fault e) (shown.view first) (shown.view mid) in
