@@ -6,7 +6,8 @@ use Rattle.block_disk.proofs.Passing.{Between, now_back}
 use Rattle.gate_pages.specs.GateLaws.{goes_by, kept_told}
 use Rattle.gate_pages.specs.Journal.{page_count}
 use Rattle.stored_book.specs.Standing.{RecoversTo}
-use Rattle.store_commands.specs.Books.{HoldsAgain, LeavesSame}
+use Rattle.disk_store.specs.Held.{HoldsBook}
+use Rattle.store_commands.specs.Books.{HoldsAgain, LeavesSame, OfBook}
 use Rattle.chart_service.specs.Moments.{Since}
 use Rattle.chart_service.specs.MomentLaws.{since_so}
 use Rattle.draw_command.specs.Alone.{StaysAlone}
@@ -28,11 +29,12 @@ pub alone_leaves : (old new : View) → StaysAlone old new → LeavesSame (page_
 alone_leaves old new alone = λ total book holds.
     since_so old new (λ image sent. Now old image) (λ image sent. RecoversTo (page_count old.size) image total book) (λ image sent left. holds.images image left) (alone_since old new alone)
 
+-- and the disk holds the book afterwards
+pub alone_keeps : (old new : View) → StaysAlone old new → OfBook (page_count old.size) old (λ total book. HoldsBook (page_count old.size) total book new)
+alone_keeps old new alone = λ total book holds. record {
+  honest = kept_told old new alone.kept holds.honest;
+  images = λ image left. holds.images image (now_back old new (Between old new) alone.time image left);
+}
+
 pub alone_holds : (old new : View) → StaysAlone old new → HoldsAgain (page_count old.size) old new
-alone_holds old new alone = λ total book holds. (
-  book,
-  record {
-    honest = kept_told old new alone.kept holds.honest;
-    images = λ image left. holds.images image (now_back old new (Between old new) alone.time image left);
-  },
-)
+alone_holds old new alone = λ total book holds. (book, alone_keeps old new alone total book holds)

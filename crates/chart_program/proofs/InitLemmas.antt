@@ -11,7 +11,7 @@ use Rattle.stored_book.specs.Standing.{StandsForBook, RecoversTo}
 use Rattle.disk_store.specs.Held.{HoldsBook}
 use Rattle.empty_store.specs.Stores.{HasStore}
 use Rattle.empty_store.proofs.DisksMade.{marked}
-use Rattle.store_commands.specs.Books.{HoldsAgain, LeavesSame}
+use Rattle.store_commands.specs.Books.{HoldsAgain, LeavesSame, OfBook}
 use Rattle.chart_program.specs.Ran.{LeavesMade}
 
 -- an image that stands for pages from before recovers to the book
@@ -33,12 +33,13 @@ init_leaves old new disk = λ total book holds. record {
   here = λ at image low high left. recovers_on (page_count old.size) total book old image holds (disk.kept holds.honest (has_store (page_count old.size) total book old holds) at image low high left);
 }
 
+pub init_keeps : (old new : View) → LeavesMade old new → OfBook (page_count old.size) old (λ total book. HoldsBook (page_count old.size) total book new)
+init_keeps old new disk = λ total book holds.
+    let kept = disk.kept holds.honest (has_store (page_count old.size) total book old holds) in
+    record {
+      honest = disk.honest holds.honest;
+      images = λ image left. recovers_on (page_count old.size) total book old image holds (kept new.clock image (disk.moments holds.honest).goes_on.later (omega arith) left);
+    }
+
 pub init_holds : (old new : View) → LeavesMade old new → HoldsAgain (page_count old.size) old new
-init_holds old new disk = λ total book holds.
-    let kept = disk.kept holds.honest (has_store (page_count old.size) total book old holds) in (
-      book,
-      record {
-        honest = disk.honest holds.honest;
-        images = λ image left. recovers_on (page_count old.size) total book old image holds (kept new.clock image (disk.moments holds.honest).goes_on.later (omega arith) left);
-      },
-    )
+init_holds old new disk = λ total book holds. (book, init_keeps old new disk total book holds)

@@ -25,6 +25,9 @@ pub mod Knowing
 pub mod Drawings
 pub mod InitLemmas
 pub mod InitEnds
+pub mod OneCommand
+pub mod StorePages
+pub mod StreamPages
 pub mod RetainEnds
 pub mod LiveEnds
 pub mod DeriveEnds

@@ -29,6 +29,7 @@ use Rattle.block_disk.specs.View.{View}
 use Rattle.program_words.specs.declared.words.Command.{Command}
 use Rattle.program_words.specs.declared.words.Command.TheVariants.{Plot, Load, Demo, Run, Serve, Draw, Init, Check, ListSeries, Export, Retain, Cover, Live, Derive}
 use Rattle.chart_program.specs.Ran.{AreReplies, IsFrames, IsOfReplies, DrawsReplies, CoversReplies, CoversBook, SendsAll}
+use Rattle.chart_program.specs.Replies.{DrawsBook}
 use Rattle.draw_command.proofs.DrawnFrames.{Good, Stay}
 use Rattle.pbm_writer.specs.Picture.{picture}
 use Rattle.block_disk.specs.Streams.{sent_after}
@@ -298,6 +299,11 @@ replies_covered k draws own every input before now all = record {
       let d = own_by k own (Some every) input before now all n old new lines frames r spelled in
       record { drawings = d.drawings; pictured = d.pictured; holdings = d.holdings; bytes = d.bytes; sends = d.sends; sent = d.sent };
 }
+
+-- of the frames that answer lines the pictures of the book were sent
+pub draws_book : Known → AllDraw → OwnDraw → (every : Option ℕ) (input : List ℕ) (before now : Option (List ℕ)) → DrawsAll every input before now → DrawsBook every input before now
+draws_book k draws own None input before now all = replies_at k draws own input before now all
+draws_book k draws own (Some every) input before now all = replies_covered k draws own every input before now all
 
 covers_at : Known → AllDraw → OwnDraw → (command : Command) (old new : View) (input : List ℕ) (before now : Option (List ℕ)) → SendsAll command old new input before now → CoversBook command old new input before now
 covers_at k draws own (Plot w h) old new input before now all = tt

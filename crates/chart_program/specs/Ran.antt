@@ -57,16 +57,23 @@ use Rattle.chart_program.specs.CommandStatuses.{codes_of, IsOverStore, TakesNone
 use Rattle.chart_client.specs.declared.holding.Holding.{Holding}
 use Rattle.draw_command.specs.Covers.{picture_bytes, SendsFrames}
 use Rattle.draw_command.specs.Draws.{DrawsAll, DrawsTaken, DrawsWithin, IsCut, StopsAtFrame}
+pub use Rattle.chart_program.specs.Commands.{HasOperands, IsUnread}
+pub use Rattle.chart_program.specs.Course.{StandsOn}
+pub use Rattle.chart_program.specs.Derive.{AreDerived}
+pub use Rattle.chart_program.specs.Draw.{IsFrames}
+pub use Rattle.chart_program.specs.Export.{HoldsNamed}
+pub use Rattle.chart_program.specs.Init.{IsFree, LeavesMade, MakesStore}
+pub use Rattle.chart_program.specs.Load.{AreReadings}
+pub use Rattle.chart_program.specs.Plot.{IsSlots}
+pub use Rattle.chart_program.specs.Replies.{AreReplies, CoversReplies, DrawsReplies, IsOfReplies}
+pub use Rattle.chart_program.specs.Retain.{AreRetained}
+pub use Rattle.chart_program.specs.Serve.{AreLines}
 
 -- The words are those of a command, and where the input is told this is so of the command, of the disk before and now, of
 -- the input, and of what was sent before and now.
 abbrev pub ForCommand : {Z W : Type 0} → List (String Z) → (W → View) → (W → Option (List ℕ)) → (W → Option (List ℕ)) → W → W
     → (Command → View → View → List ℕ → Option (List ℕ) → Option (List ℕ) → Type 0) → Type 0
 ForCommand words view left sent old new IsSo = ByCommand words (λ command. IfSome (left old) (λ input. IsSo command (view old) (view new) input (sent old) (sent new)))
-
--- the words were no command's, since there was no memory to read them, and the world is as it was
-abbrev pub IsUnread : {W : Type 0} → Status → W → W → Type 0
-IsUnread end old new = (end.code ≡ 3) × (new ≡ old)
 
 -- over a disk that is too small for a store each command over one is turned away
 abbrev pub IsAwayFor : View → Status → Command → Option (List ℕ) → Option (List ℕ) → Option (List ℕ) → Option (List ℕ) → Type 0
@@ -220,14 +227,6 @@ NamesUnopened Draw old input place before now = StopsAtFrame None input before n
 NamesUnopened (Cover every) old input place before now = StopsAtFrame (Some every) input before now (draw_end.UnknownSession place)
 NamesUnopened command old input place before now = ⊥
 
--- What `init` leaves at each moment is what stood there before, or an empty store where there was none. It takes no input and
--- sends nothing, and where reads gave what the disk holds, they do so afterwards.
-pub record LeavesMade (old new : View) : Type 0 where
-  pub beside : new.beside ≡ old.beside
-  pub moments : Honest old → LeavesNew (page_count old.size) old new
-  pub kept : Honest old → HasStore (page_count old.size) old.image → LeavesOld (page_count old.size) old new
-  pub honest : Honest old → Honest new
-
 -- What a command leaves of the disk. A plot, `draw` and `cover` leave it alone, for the others but `init` time goes on.
 abbrev pub LeavesDisk : Command → View → View → Type 0
 LeavesDisk (Plot w h) old new = DiskKept old new
@@ -298,13 +297,6 @@ IsUndamaged Retain old = Never (page_count old.size) old
 IsUndamaged Live old = Never (page_count old.size) old
 IsUndamaged Derive old = Never (page_count old.size) old
 IsUndamaged command old = ⊥
-
--- an empty store was made where none was, and a crash now leaves it
-pub record MakesStore (old new : View) : Type 0 where
-  pub large : 128 ≤ old.size
-  pub fresh : Honest old → HasStore (page_count old.size) old.image → ⊥
-  pub store : Honest old → IsNewStore (page_count old.size) new.image
-  pub rests : Only new.image (Now new)
 
 -- the end where no store was made
 abbrev pub init_end : InitCause → End
@@ -416,21 +408,6 @@ SyncsByInput Serve old new input before now = SyncsServing old new input
 SyncsByInput Live old new input before now = SyncsLiving old new input
 SyncsByInput command old new input before now = ⊤
 
--- the input is slots, and no more than a plot takes
-pub record IsSlots (input : List ℕ) : Type 0 where
-  pub slots : List (Option ℤ)
-  pub spells : SpellsAll input slots
-  pub few : length slots ≤ most_slots
-  pub short : length input ≤ 2 ^ 32
-
--- the input is frames, and no more than `draw` takes, and a client rejects none
-pub record IsFrames (input : List ℕ) : Type 0 where
-  pub frames : List Frame
-  pub fit : All Fits frames
-  pub spelled : input ≡ flat_map spelling frames
-  pub accepted : NoneRejected frames
-  pub short : length input ≤ 2 ^ 32
-
 -- the input is no more than the command takes; `init`, `demo`, `check`, `list` and `export` take none
 abbrev pub IsWithin : Command → List ℕ → Type 0
 IsWithin (Plot w h) input = length input ≤ 2 ^ 32
@@ -447,65 +424,6 @@ IsWithin Retain input = length input ≤ 2 ^ 32
 IsWithin (Cover every) input = length input ≤ 2 ^ 32
 IsWithin Live input = length input ≤ 2 ^ 32
 IsWithin Derive input = length input ≤ 2 ^ 32
-
--- the lines are no more than a serving command takes, its disk holds a book, and no call of the disk failed
-pub record AreLines (old new : View) (input : List ℕ) : Type 0 where
-  pub short : length input ≤ 2 ^ 32
-  pub total : ℕ
-  pub book : List Series
-  pub holds : HoldsBook (page_count old.size) total book old
-  pub whole : HasRisen old.faults new.faults → ⊥
-
--- The lines are no more than a load takes, the disk's book has a series of the name, no line is bad and no set of the
--- runs is refused, and no call of the disk failed.
-pub record AreReadings (name : List ℕ) (old new : View) (input : List ℕ) : Type 0 where
-  pub short : length input ≤ 2 ^ 32
-  pub total : ℕ
-  pub book : List Series
-  pub holds : HoldsBook (page_count old.size) total book old
-  pub series : Series
-  pub named : IsNamed book name series
-  pub none_bad : (place : ℕ) (image : Image) → IsAtBad total name book series input place image → ⊥
-  pub none_refused : (at : ℕ) (refusal : Refusal) (image : Image) → IsAtRefusal total name book series input at refusal image → ⊥
-  pub whole : HasRisen old.faults new.faults → ⊥
-
--- the disk holds a book, and no call of it failed
-pub record StandsOn (old new : View) : Type 0 where
-  pub total : ℕ
-  pub book : List Series
-  pub holds : HoldsBook (page_count old.size) total book old
-  pub whole : HasRisen old.faults new.faults → ⊥
-
--- the disk holds a book with a series of this name, and no call of it failed
-pub record HoldsNamed (name : List ℕ) (old new : View) : Type 0 where
-  pub total : ℕ
-  pub book : List Series
-  pub holds : HoldsBook (page_count old.size) total book old
-  pub series : Series
-  pub named : IsNamed book name series
-  pub whole : HasRisen old.faults new.faults → ⊥
-
--- The lines are no more than `retain` takes, the disk holds a book, each line that isn't empty is a rule, a series that it
--- names is there, and no call of the disk failed.
-pub record AreRetained (old new : View) (input : List ℕ) : Type 0 where
-  pub short : length input ≤ 2 ^ 32
-  pub total : ℕ
-  pub book : List Series
-  pub holds : HoldsBook (page_count old.size) total book old
-  pub rules : List Rule
-  pub are : AreRules total book (told input) rules
-  pub whole : HasRisen old.faults new.faults → ⊥
-
--- The lines are no more than `derive` takes, the disk holds a book, each line that isn't empty is a request with an answer, and
--- no call of the disk failed.
-pub record AreDerived (old new : View) (input : List ℕ) : Type 0 where
-  pub short : length input ≤ 2 ^ 32
-  pub total : ℕ
-  pub book : List Series
-  pub holds : HoldsBook (page_count old.size) total book old
-  pub text : List ℕ
-  pub answers : AreAnswers book (told input) text
-  pub whole : HasRisen old.faults new.faults → ⊥
 
 -- the input is in the grammar of a command that takes one, and no more than it takes
 abbrev pub IsInput : Command → View → View → List ℕ → Type 0
@@ -535,75 +453,10 @@ pub record HasGoodInput {Z : Type 0} (words : List (String Z)) (left : Option (L
 abbrev pub of_done : List ℕ
 of_done = 0 ∷ 3 ∷ 4 ∷ 5 ∷ []
 
--- a store fits on the disk, reads give what it is, and it has none
-abbrev pub IsFree : View → Type 0
-IsFree disk = (128 ≤ disk.size) × Honest disk × (HasStore (page_count disk.size) disk.image → ⊥)
-
--- lines are answered by these frames, over a book and with no session open
-pub record AreReplies (old : State) (lines : List (Option (List ℕ))) (frames : List Frame) (new : State) : Type 0 where
-  pub sound : IsSound old
-  pub alone : old.sessions ≡ []
-  pub replied : RepliesToAll old lines frames new
-
--- The input is the frames that answer lines, all of them or those that name one session, and no more than `draw` takes.
-pub record IsOfReplies (input : List ℕ) : Type 0 where
-  pub old : State
-  pub new : State
-  pub lines : List (Option (List ℕ))
-  pub frames : List Frame
-  pub replied : AreReplies old lines frames new
-  pub spelled : (input ≡ flat_map spelling frames) ⊎ ((n : ℕ) × (input ≡ flat_map spelling (filter (names n) frames)))
-  pub short : length input ≤ 2 ^ 32
-
 -- the same of the input of a command that draws covers
 abbrev pub IsCoverOfReplies : Command → List ℕ → Type 0
 IsCoverOfReplies (Cover every) input = IsOfReplies input
 IsCoverOfReplies command input = ⊥
-
--- the pictures of the answered views were sent, each of the book as it was at that line
-pub record SendsPictures (old : State) (lines : List (Option (List ℕ))) (frames : List Frame) (new : State) (before now : Option (List ℕ)) : Type 0 where
-  pub drawings : List (Option Canvas)
-  pub pictured : ArePictured old lines frames drawings new
-  pub sent : now ≡ sent_after (flat_map picture_bytes drawings) before
-
--- the pictures of one session's answered views were sent, each of the book as it was at that line
-pub record SendsOwnPictures (n : ℕ) (old : State) (lines : List (Option (List ℕ))) (frames : List Frame) (new : State) (before now : Option (List ℕ)) : Type 0 where
-  pub drawings : List (Option Canvas)
-  pub pictured : AreOwnPictured n old lines frames drawings new
-  pub sent : now ≡ sent_after (flat_map picture_bytes drawings) before
-
--- Where the input is the frames that answer lines, the pictures of the book were sent; where it is those of one
--- session alone, that session's.
-pub record DrawsReplies (input : List ℕ) (before now : Option (List ℕ)) : Type 0 where
-  pub all : (old new : State) (lines : List (Option (List ℕ))) (frames : List Frame) → AreReplies old lines frames new
-      → input ≡ flat_map spelling frames → SendsPictures old lines frames new before now
-  pub own : (n : ℕ) (old new : State) (lines : List (Option (List ℕ))) (frames : List Frame) → AreReplies old lines frames new
-      → input ≡ flat_map spelling (filter (names n) frames) → SendsOwnPictures n old lines frames new before now
-
--- the covers and the pictures of the answered views were sent, each picture of the book as it was at that line
-pub record CoversPictures (every : ℕ) (old : State) (lines : List (Option (List ℕ))) (frames : List Frame) (new : State) (before now : Option (List ℕ)) : Type 0 where
-  pub drawings : List (Option Canvas)
-  pub pictured : ArePictured old lines frames drawings new
-  pub holdings : List Holding
-  pub bytes : List ℕ
-  pub sends : SendsFrames (Some every) frames drawings [] holdings bytes
-  pub sent : now ≡ sent_after bytes before
-
--- those of one session's answered views
-pub record CoversOwnPictures (every n : ℕ) (old : State) (lines : List (Option (List ℕ))) (frames : List Frame) (new : State) (before now : Option (List ℕ)) : Type 0 where
-  pub drawings : List (Option Canvas)
-  pub pictured : AreOwnPictured n old lines frames drawings new
-  pub holdings : List Holding
-  pub bytes : List ℕ
-  pub sends : SendsFrames (Some every) (filter (names n) frames) drawings [] holdings bytes
-  pub sent : now ≡ sent_after bytes before
-
--- The same as DrawsReplies, with covers before a view's picture.
-pub record CoversReplies (every : ℕ) (input : List ℕ) (before now : Option (List ℕ)) : Type 0 where
-  pub all : (old new : State) (lines : List (Option (List ℕ))) (frames : List Frame) → AreReplies old lines frames new
-      → input ≡ flat_map spelling frames → CoversPictures every old lines frames new before now
-  pub own : (n : ℕ) (old new : State) (lines : List (Option (List ℕ))) (frames : List Frame) → AreReplies old lines frames new
-      → input ≡ flat_map spelling (filter (names n) frames) → CoversOwnPictures every n old lines frames new before now
 
 -- a command that draws covers draws the book so
 abbrev pub CoversBook : Command → View → View → List ℕ → Option (List ℕ) → Option (List ℕ) → Type 0
@@ -623,13 +476,6 @@ IsStreaming (Cover every) = ⊤
 IsStreaming Live = ⊤
 IsStreaming Derive = ⊤
 IsStreaming command = ⊥
-
--- the operands of a command are in their ranges
-abbrev pub HasOperands : Command → Type 0
-HasOperands (Plot w h) = IsSide w × IsSide h
-HasOperands (Demo seed rounds) = IsSide rounds
-HasOperands (Cover every) = IsEvery every
-HasOperands command = ⊤
 
 -- What a command did, sent and left, and why it ended, by the status: the clauses of the program's call, of one command.
 pub record CommandEnds (command : Command) (old new : View) (left left' before now : Option (List ℕ)) (faults : Faults) (code place : ℕ) : Type 0 where

@@ -1,9 +1,9 @@
 //! The commands, each with its status.
-ghost use Rattle.std.specs.Prelude.{◌≡◌, ◌⊎◌, IfErr};
+ghost use Rattle.std.specs.Prelude.{◌≡◌, ◌⊎◌, IfErr, None, Some};
 ghost use Rattle.block_disk.specs.Counts.{HasRisen};
 ghost use Rattle.chart_grid.specs.Limits.{IsSide};
 ghost use Rattle.chart_world.specs.Faults.{CountsFault};
-ghost use Rattle.program_words.specs.declared.words.Command.TheVariants.{Plot, Draw, Init, Cover};
+ghost use Rattle.program_words.specs.declared.words.Command.TheVariants.{Plot, Draw, Cover};
 ghost use Rattle.chart_program.specs.Plotted.{plotting_end};
 ghost use Rattle.draw_command.specs.Draws.{IsNumbered};
 ghost use Rattle.program_words.specs.Words.{IsEvery};
@@ -12,7 +12,12 @@ ghost use Rattle.store_commands.specs.Away.{TurnsAway};
 ghost use Rattle.run_ends.specs.Statuses.{status_of};
 ghost use Rattle.store_commands.specs.Status.{code_fault, end_fault};
 ghost use Rattle.store_commands.specs.Traffic.{traffic};
-ghost use Rattle.chart_program.specs.Ran.{EndsCommand, HasOperands, LeavesDisk, IsFree, IsInitEnd, init_end};
+ghost use Rattle.chart_program.specs.Commands.{Does, EndsSo, HasOperands};
+ghost use Rattle.chart_program.specs.Course.{course};
+ghost use Rattle.chart_program.specs.Draw.{Draws};
+ghost use Rattle.chart_program.specs.Init.{IsFree, LeavesMade};
+ghost use Rattle.chart_program.specs.Plot.{OfPlot};
+ghost use Rattle.chart_program.specs.Ran.{EndsCommand, IsInitEnd, init_end};
 
 use crate::input::{InputEnd, MOST_SLOTS};
 use crate::plot::{PlotEnd, plot};
@@ -44,6 +49,7 @@ pub(crate) fn status_of_command<W: World>(
 ) -> (Status, W)
     requires { HasOperands command }
     ensures ends { EndsCommand command (W.view world) (W.view result.1) (traffic W.left W.sent W.read_faults W.send_faults world result.1) result.0 }
+    ensures does { Does command (course W.view W.left W.sent world result.1) result.0 }
     ensures faults { CountsFault (code_fault result.0.code) (W.view world) (W.view result.1) }
 {
     match command {
@@ -94,7 +100,7 @@ fn init<W: World>(alloc: Global, world: W) -> (End, W)
     ensures away { TurnsAway (W.view world) (traffic W.left W.sent W.read_faults W.send_faults world result.1) (status_of result.0) }
     ensures untaken { W.left result.1 ≡ W.left world }
     ensures sent { W.sent result.1 ≡ W.sent world }
-    ensures disk { LeavesDisk Init (W.view world) (W.view result.1) }
+    ensures disk { LeavesMade (W.view world) (W.view result.1) }
     ensures faults { CountsFault (end_fault result.0) (W.view world) (W.view result.1) }
     ensures ready { IsFree (W.view world) → (HasRisen (W.view world).faults (W.view result.1).faults → ⊥) → (result.0 ≡ End.Done) ⊎ (result.0 ≡ End.NoMemory) }
 {
@@ -121,6 +127,7 @@ fn plot_status<W: World>(alloc: Global, w: u16, h: u16, world: &mut W) -> Status
     requires wide { IsSide w }
     requires high { IsSide h }
     ensures ends { EndsCommand (Plot w h) (W.view world.old) (W.view world.new) (traffic W.left W.sent W.read_faults W.send_faults world.old world.new) result }
+    ensures does { EndsSo result (OfPlot w h (course W.view W.left W.sent world.old world.new)) }
     ensures faults { CountsFault (code_fault result.code) (W.view world.old) (W.view world.new) }
 {
     let answer = plot(alloc, w, h, world);
@@ -147,6 +154,7 @@ fn plotting_end(answer: Result<(), PlotEnd>) -> End
 /// Sends the pictures of the input's frames, and says how that ended.
 fn draw_status<W: World>(alloc: Global, world: &mut W) -> Status
     ensures ends { EndsCommand Draw (W.view world.old) (W.view world.new) (traffic W.left W.sent W.read_faults W.send_faults world.old world.new) result }
+    ensures does { EndsSo result (Draws None (course W.view W.left W.sent world.old world.new)) }
     ensures faults { CountsFault (code_fault result.code) (W.view world.old) (W.view world.new) }
 {
     one_frame_a_spelling();
@@ -165,6 +173,7 @@ fn draw_status<W: World>(alloc: Global, world: &mut W) -> Status
 fn cover_status<W: World>(alloc: Global, every: u32, world: &mut W) -> Status
     requires { IsEvery every }
     ensures ends { EndsCommand (Cover every) (W.view world.old) (W.view world.new) (traffic W.left W.sent W.read_faults W.send_faults world.old world.new) result }
+    ensures does { EndsSo result (Draws (Some every) (course W.view W.left W.sent world.old world.new)) }
     ensures faults { CountsFault (code_fault result.code) (W.view world.old) (W.view world.new) }
 {
     one_frame_a_spelling();
@@ -172,6 +181,10 @@ fn cover_status<W: World>(alloc: Global, every: u32, world: &mut W) -> Status
     spellings_are_good();
     more_bytes_mend_nothing();
     covers_narrow_to_the_picture();
+    replies_draw_the_book();
+    one_session_draws_the_book();
+    replies_are_accepted();
+    own_replies_are_accepted();
     let answer = cover(alloc, every, world);
     status_of(drawing_end(answer))
 }

@@ -1,10 +1,20 @@
-ghost use Rattle.std.specs.Prelude.{◌≡◌, ◌≢◌, ◌⊎◌, [], ◌∷◌, map, Contains, string_bytes, IfSome};
+ghost use Rattle.std.specs.Prelude.{◌≡◌, ◌≢◌, ◌⊎◌, ℕ, List, [], ◌∷◌, map, Contains, Option, string_bytes, IfSome};
 ghost use Rattle.block_disk.specs.Counts.{HasRisen};
 ghost use Rattle.chart_world.specs.Faults.{CountsFault};
 ghost use Rattle.program_words.specs.CommandLine.{plain_words};
-ghost use Rattle.program_words.specs.declared.words.Command.TheVariants.{Draw, Init};
+ghost use Rattle.program_words.specs.declared.words.Command.TheVariants.{Check, Cover, Demo, Draw, Export, Init, ListSeries, Plot};
 ghost use Rattle.program_words.specs.Words.{AreCommand, AreWordsOf, ByCommand, Spells, IsWrong};
 ghost use Rattle.store_commands.specs.Status.{code_fault};
+ghost use Rattle.series_export.specs.declared.window.Window.{Window};
+ghost use Rattle.chart_program.specs.Check.{OfCheck};
+ghost use Rattle.chart_program.specs.Commands.{ByPage};
+ghost use Rattle.chart_program.specs.Cover.{OfCover};
+ghost use Rattle.chart_program.specs.Demo.{OfDemo};
+ghost use Rattle.chart_program.specs.Draw.{OfDraw};
+ghost use Rattle.chart_program.specs.Export.{OfExport};
+ghost use Rattle.chart_program.specs.Init.{OfInit};
+ghost use Rattle.chart_program.specs.ListSeries.{OfList};
+ghost use Rattle.chart_program.specs.Plot.{OfPlot};
 ghost use Rattle.chart_program.specs.CommandStatuses.{all_codes, codes_of, TakesNone, BarsBy};
 ghost use Rattle.chart_program.specs.Lives.{IsLived};
 ghost use Rattle.chart_program.specs.Ran.{ForCommand, ForStreams, IsUnread, IsAwayFor, SendsAll, SendsPart, StopsWith, StopsAtDisk, IsBadInput, IsTooMuch, IsCutShort, IsInput, HasGoodInput, IsFree, IsWithin, LeavesDisk, LeavesTold, HoldsNow, IsDamaged, IsUndamaged, IsMade, IsTooSmall, IsThere, IsRefusedWith, IsUnknown, IsRefusedLine, TellsUnnamed, ReadsFew, ReadsByInput, SyncsByInput, Lacks, Misfits, NamesUnopened, DrawsReplies, IsOfReplies, IsCoverOfReplies, CoversBook, BeginStream};
@@ -101,6 +111,16 @@ pub fn chart<W: World>(alloc: Global, words: &[String], world: W) -> (Status, W)
     // and so is `cover`
     ensures covered { HasGoodInput words.now (W.left world) IsCoverOfReplies → Contains (DONE ∷ NO_MEMORY ∷ READ_FAULT ∷ SEND_FAULT ∷ []) result.0.code }
     ensures ready { AreWordsOf Init words.now → IsFree (W.view world) → (HasRisen (W.view world).faults (W.view result.1).faults → ⊥) → (result.0.code ≡ DONE) ⊎ (result.0.code ≡ NO_MEMORY) }
+
+    // what each command did, sent and left, by how it ended: a page of specs/ for each
+    ensures plot { (w h : ℕ) → ByPage words.now W.view W.left W.sent world result.1 result.0 (Plot w h) (OfPlot w h) }
+    ensures demo { (seed rounds : ℕ) → ByPage words.now W.view W.left W.sent world result.1 result.0 (Demo seed rounds) (OfDemo seed rounds) }
+    ensures draw { ByPage words.now W.view W.left W.sent world result.1 result.0 Draw OfDraw }
+    ensures init { ByPage words.now W.view W.left W.sent world result.1 result.0 Init OfInit }
+    ensures check { ByPage words.now W.view W.left W.sent world result.1 result.0 Check OfCheck }
+    ensures list { ByPage words.now W.view W.left W.sent world result.1 result.0 ListSeries OfList }
+    ensures export { (name : List ℕ) (window : Option Window) → ByPage words.now W.view W.left W.sent world result.1 result.0 (Export name window) (OfExport name window) }
+    ensures cover { (every : ℕ) → ByPage words.now W.view W.left W.sent world result.1 result.0 (Cover every) (OfCover every) }
 {
     one_frame_a_spelling();
     length_is_told();

@@ -1,4 +1,4 @@
-use Rattle.std.proofs.Common.{sym, subst}
+use Rattle.std.proofs.Common.{None, sym, subst}
 use Rattle.chart_world.specs.Faults.{CountsFault}
 use Rattle.run_ends.specs.Statuses.{code_of, place_of}
 use Rattle.run_ends.specs.declared.ending.End.{End}
@@ -9,7 +9,11 @@ use Rattle.program_words.specs.declared.words.Command.TheVariants.{Draw}
 use Rattle.chart_program.specs.Served.{faults_of}
 use Rattle.chart_program.specs.Ran.{CommandEnds}
 use Rattle.chart_program.proofs.Faults.{counts_drawn}
+use Rattle.chart_program.specs.Course.{course}
+use Rattle.chart_program.specs.Draw.{Draws}
 use Rattle.chart_program.proofs.Drawings.{drawn}
+use Rattle.chart_program.proofs.Parsing.{Known}
+use Rattle.chart_program.proofs.StreamPages.{drawn_by}
 use Rattle.chart_program.proofs.commands.draw_status.Goals as goal
 
 pub returns-clause-ends : goal.returns-clause-ends
@@ -39,3 +43,11 @@ returns-clause-faults g c =
     let E : End → Type 0 = λ x. CountsFault (end_fault x) (view old) (view new) in
     counts_end c.drawing_end.result c.status_of.result (view old) (view new) c.status_of.ensures.status
     (subst E (sym c.drawing_end.ensures) (counts_drawn view g.W.Streams.read_faults g.W.Streams.send_faults w.beside_read_faults w.beside_send_faults old new e.disk.kept answer e.read e.send e.quiet_reads e.quiet_sends))
+
+pub returns-clause-does : goal.returns-clause-does
+returns-clause-does g c =
+    let at = course g.W.Disk.view g.W.Streams.left g.W.Streams.sent c.args.world.now c.draw-answer.new.streams in
+    let e = c.draw-answer.ensures in
+    let known : Known = record { one = c.one_frame_a_spelling.ensures; told = c.length_is_told.ensures; good = c.spellings_are_good.ensures } in
+    let E : End → Type 0 = λ x. Draws None at x in
+    (c.drawing_end.result, c.status_of.ensures.status, subst E (sym c.drawing_end.ensures) (drawn_by at None known c.more_bytes_mend_nothing.ensures.stays c.replies_draw_the_book.ensures c.one_session_draws_the_book.ensures c.replies_are_accepted.ensures c.own_replies_are_accepted.ensures c.draw-answer.result e.done e.within e.ends e.disk))

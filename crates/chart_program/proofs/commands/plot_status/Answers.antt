@@ -11,7 +11,10 @@ use Rattle.chart_program.specs.Plotted.{plotting_end}
 use Rattle.chart_program.specs.Served.{faults_of}
 use Rattle.chart_program.specs.Ran.{CommandEnds}
 use Rattle.chart_program.proofs.Faults.{told_plotted}
+use Rattle.chart_program.specs.Course.{course}
+use Rattle.chart_program.specs.Plot.{OfPlot}
 use Rattle.chart_program.proofs.Drawings.{plotted}
+use Rattle.chart_program.proofs.StreamPages.{of_plot}
 use Rattle.chart_program.proofs.commands.plot_status.Goals as goal
 
 pub returns-clause-ends : goal.returns-clause-ends
@@ -36,3 +39,10 @@ returns-clause-faults g c =
     let E : End → Type 0 = λ x. CountsFault (end_fault x) old new in
     counts_end c.plotting_end.result c.status_of.result old new c.status_of.ensures.status
     (subst E (sym c.plotting_end.ensures) (counts_told (fault_in plot_fault answer) (end_fault (plotting_end answer)) old new (told_plotted answer) c.plot-answer.ensures.faults))
+
+pub returns-clause-does : goal.returns-clause-does
+returns-clause-does g c =
+    let at = course g.W.Disk.view g.W.Streams.left g.W.Streams.sent c.args.world.now c.plot-answer.new.streams in
+    let e = c.plot-answer.ensures in
+    let E : End → Type 0 = λ x. OfPlot c.args.w c.args.h at x in
+    (c.plotting_end.result, c.status_of.ensures.status, subst E (sym c.plotting_end.ensures) (of_plot at c.args.w c.args.h c.plot-answer.result e.done e.within e.ends e.unsent e.disk))

@@ -4,7 +4,10 @@ use Rattle.run_ends.specs.Statuses.{code_of, place_of}
 use Rattle.run_ends.specs.declared.status.Status.{Status}
 use Rattle.store_commands.specs.Faulting.{counts_end}
 use Rattle.chart_program.specs.Served.{faults_of}
+use Rattle.chart_program.specs.Commands.{Does}
+use Rattle.chart_program.specs.Course.{Course, course}
 use Rattle.chart_program.specs.Ran.{CommandEnds}
+use Rattle.chart_program.proofs.StorePages.{of_check, of_demo, of_export, of_init, of_list}
 use Rattle.chart_program.proofs.CommandsEnd.{load_ends, run_ends, serve_ends}
 use Rattle.chart_program.proofs.InitEnds.{init_ends}
 use Rattle.chart_program.proofs.StoreShown.{check_ends, demo_ends, export_ends, list_ends}
@@ -246,3 +249,99 @@ returns-in-Derive-clause-ends g c =
     let faults = faults_of (reads old) (reads new) (sends old) (sends new) in
     let P : Command → Type 0 = λ command. CommandEnds command (view old) (view new) (left old) (left new) (sent old) (sent new) faults status.code status.place in
     subst P (sym c.in-Derive.is) (derive_ends (view old) (view new) (left old) (left new) (sent old) (sent new) faults status.code status.place c.derive.ensures.ends c.derive.ensures.away)
+
+-- ---- the pages
+
+pub returns-in-Plot-clause-does : goal.returns-in-Plot-clause-does
+returns-in-Plot-clause-does g c =
+    let at = course g.W.Disk.view g.W.Streams.left g.W.Streams.sent c.args.world c.plot_status-status.new.world in
+    let P : Command → Type 0 = λ command. Does command at c.plot_status-status.result in
+    subst P (sym c.in-Plot.is) c.plot_status-status.ensures.does
+
+pub returns-in-Draw-clause-does : goal.returns-in-Draw-clause-does
+returns-in-Draw-clause-does g c =
+    let at = course g.W.Disk.view g.W.Streams.left g.W.Streams.sent c.args.world c.draw_status-status.new.world in
+    let P : Command → Type 0 = λ command. Does command at c.draw_status-status.result in
+    subst P (sym c.in-Draw.is) c.draw_status-status.ensures.does
+
+pub returns-in-Cover-clause-does : goal.returns-in-Cover-clause-does
+returns-in-Cover-clause-does g c =
+    let at = course g.W.Disk.view g.W.Streams.left g.W.Streams.sent c.args.world c.cover_status-status.new.world in
+    let P : Command → Type 0 = λ command. Does command at c.cover_status-status.result in
+    subst P (sym c.in-Cover.is) c.cover_status-status.ensures.does
+
+pub returns-in-Demo-clause-does : goal.returns-in-Demo-clause-does
+returns-in-Demo-clause-does g c =
+    let at = course g.W.Disk.view g.W.Streams.left g.W.Streams.sent c.args.world c.run_demo-end.result.1 in
+    let P : Command → Type 0 = λ command. Does command at c.status_of.result in
+    let end = c.run_demo-end.result.0 in
+    let e = c.run_demo-end.ensures in
+    subst P (sym c.in-Demo.is) (end, c.status_of.ensures.status, of_demo at (g.W.Streams.send_faults c.args.world) (g.W.Streams.send_faults c.run_demo-end.result.1) c.in-Demo.seed c.in-Demo.count end e.ends e.away e.untaken)
+
+pub returns-in-Check-clause-does : goal.returns-in-Check-clause-does
+returns-in-Check-clause-does g c =
+    let at = course g.W.Disk.view g.W.Streams.left g.W.Streams.sent c.args.world c.check_store-end.result.1 in
+    let P : Command → Type 0 = λ command. Does command at c.status_of-in-Check.result in
+    let end = c.check_store-end.result.0 in
+    let e = c.check_store-end.ensures in
+    subst P (sym c.in-Check.is) (end, c.status_of-in-Check.ensures.status, of_check at (g.W.Streams.send_faults c.args.world) (g.W.Streams.send_faults c.check_store-end.result.1) end e.ends e.away e.untaken)
+
+pub returns-in-ListSeries-clause-does : goal.returns-in-ListSeries-clause-does
+returns-in-ListSeries-clause-does g c =
+    let at = course g.W.Disk.view g.W.Streams.left g.W.Streams.sent c.args.world c.list_series-end.result.1 in
+    let P : Command → Type 0 = λ command. Does command at c.status_of-in-ListSeries.result in
+    let end = c.list_series-end.result.0 in
+    let e = c.list_series-end.ensures in
+    subst P (sym c.in-ListSeries.is) (end, c.status_of-in-ListSeries.ensures.status, of_list at (g.W.Streams.send_faults c.args.world) (g.W.Streams.send_faults c.list_series-end.result.1) end e.ends e.away e.untaken)
+
+pub returns-in-Export-clause-does : goal.returns-in-Export-clause-does
+returns-in-Export-clause-does g c =
+    let at = course g.W.Disk.view g.W.Streams.left g.W.Streams.sent c.args.world c.export_values-end.result.1 in
+    let P : Command → Type 0 = λ command. Does command at c.status_of-in-Export.result in
+    let end = c.export_values-end.result.0 in
+    let e = c.export_values-end.ensures in
+    subst P (sym c.in-Export.is) (end, c.status_of-in-Export.ensures.status, of_export at (g.W.Streams.send_faults c.args.world) (g.W.Streams.send_faults c.export_values-end.result.1) c.in-Export.name c.in-Export.window end e.ends e.away e.untaken)
+
+pub returns-in-Init-clause-does : goal.returns-in-Init-clause-does
+returns-in-Init-clause-does g c =
+    let at = course g.W.Disk.view g.W.Streams.left g.W.Streams.sent c.args.world c.init-end.result.1 in
+    let P : Command → Type 0 = λ command. Does command at c.status_of-in-Init.result in
+    let end = c.init-end.result.0 in
+    let e = c.init-end.ensures in
+    subst P (sym c.in-Init.is) (end, c.status_of-in-Init.ensures.status, of_init at end e.ends e.away e.untaken e.sent e.disk e.ready)
+
+pub returns-in-Load-clause-does : goal.returns-in-Load-clause-does
+returns-in-Load-clause-does g c =
+    let at = course g.W.Disk.view g.W.Streams.left g.W.Streams.sent c.args.world c.load_series.result.1 in
+    let P : Command → Type 0 = λ command. Does command at c.load_series.result.0 in
+    subst P (sym c.in-Load.is) tt
+
+pub returns-in-Run-clause-does : goal.returns-in-Run-clause-does
+returns-in-Run-clause-does g c =
+    let at = course g.W.Disk.view g.W.Streams.left g.W.Streams.sent c.args.world c.run_status.result.1 in
+    let P : Command → Type 0 = λ command. Does command at c.run_status.result.0 in
+    subst P (sym c.in-Run.is) tt
+
+pub returns-in-Serve-clause-does : goal.returns-in-Serve-clause-does
+returns-in-Serve-clause-does g c =
+    let at = course g.W.Disk.view g.W.Streams.left g.W.Streams.sent c.args.world c.serve_status.result.1 in
+    let P : Command → Type 0 = λ command. Does command at c.serve_status.result.0 in
+    subst P (sym c.in-Serve.is) tt
+
+pub returns-in-Retain-clause-does : goal.returns-in-Retain-clause-does
+returns-in-Retain-clause-does g c =
+    let at = course g.W.Disk.view g.W.Streams.left g.W.Streams.sent c.args.world c.retain.result.1 in
+    let P : Command → Type 0 = λ command. Does command at c.retain.result.0 in
+    subst P (sym c.in-Retain.is) tt
+
+pub returns-in-Live-clause-does : goal.returns-in-Live-clause-does
+returns-in-Live-clause-does g c =
+    let at = course g.W.Disk.view g.W.Streams.left g.W.Streams.sent c.args.world c.live.result.1 in
+    let P : Command → Type 0 = λ command. Does command at c.live.result.0 in
+    subst P (sym c.in-Live.is) tt
+
+pub returns-in-Derive-clause-does : goal.returns-in-Derive-clause-does
+returns-in-Derive-clause-does g c =
+    let at = course g.W.Disk.view g.W.Streams.left g.W.Streams.sent c.args.world c.derive.result.1 in
+    let P : Command → Type 0 = λ command. Does command at c.derive.result.0 in
+    subst P (sym c.in-Derive.is) tt

@@ -10,7 +10,8 @@ use Rattle.chart_program.proofs.LivesLemmas.{lives_told}
 use Rattle.chart_program.proofs.Parsing.{told_good, replies_good, covers_book}
 use Rattle.chart_program.proofs.Codes.{told_both}
 use Rattle.chart_program.proofs.Words.{of_command, with_operands, chart_codes, streams, one_init, one_draw, completes, covers_complete, good_never, wrong_never, wrong_end}
-use Rattle.program_words.specs.declared.words.Command.TheVariants.{Draw, Init}
+use Rattle.chart_program.proofs.OneCommand.{by_words}
+use Rattle.program_words.specs.declared.words.Command.TheVariants.{Check, Cover, Demo, Draw, Export, Init, ListSeries, Plot}
 use Rattle.chart_program.proofs.top.chart.Goals as goal
 
 pub returns-in-Err-NoMemory-clause-codes : goal.returns-in-Err-NoMemory-clause-codes
@@ -523,3 +524,77 @@ pub returns-in-Err-NoMemory-clause-faults : goal.returns-in-Err-NoMemory-clause-
 returns-in-Err-NoMemory-clause-faults g c =
     let view = g.W.Disk.view c.args.world in
     counts_as c.status_of-in-Err-NoMemory.result (status 3 0) view view c.status_of-in-Err-NoMemory.ensures.status (counts_none view view refl refl refl)
+
+-- ---- the pages
+
+pub returns-in-Ok-clause-plot : goal.returns-in-Ok-clause-plot
+returns-in-Ok-clause-plot g c = λ w h own. inr (by_words c.in-Ok.command (Plot w h) _ _ _ c.in-Ok.ensures.command own.1 c.status_of_command.ensures.does)
+
+pub returns-in-Err-Wrong-clause-plot : goal.returns-in-Err-Wrong-clause-plot
+returns-in-Err-Wrong-clause-plot g c = λ w h own. absurd (wrong_never c.in-Err-Wrong.place _ (Plot w h) own.0 own.1 (wrong_end c.in-Err-Wrong.field-0 c.in-Err-Wrong.place _ c.in-Err-Wrong.field-0-is c.in-Err-Wrong.ensures.wrong))
+
+pub returns-in-Err-NoMemory-clause-plot : goal.returns-in-Err-NoMemory-clause-plot
+returns-in-Err-NoMemory-clause-plot g c = λ w h own. inl (c.status_of-in-Err-NoMemory.ensures.code, refl)
+
+pub returns-in-Ok-clause-demo : goal.returns-in-Ok-clause-demo
+returns-in-Ok-clause-demo g c = λ seed rounds own. inr (by_words c.in-Ok.command (Demo seed rounds) _ _ _ c.in-Ok.ensures.command own.1 c.status_of_command.ensures.does)
+
+pub returns-in-Err-Wrong-clause-demo : goal.returns-in-Err-Wrong-clause-demo
+returns-in-Err-Wrong-clause-demo g c = λ seed rounds own. absurd (wrong_never c.in-Err-Wrong.place _ (Demo seed rounds) own.0 own.1 (wrong_end c.in-Err-Wrong.field-0 c.in-Err-Wrong.place _ c.in-Err-Wrong.field-0-is c.in-Err-Wrong.ensures.wrong))
+
+pub returns-in-Err-NoMemory-clause-demo : goal.returns-in-Err-NoMemory-clause-demo
+returns-in-Err-NoMemory-clause-demo g c = λ seed rounds own. inl (c.status_of-in-Err-NoMemory.ensures.code, refl)
+
+pub returns-in-Ok-clause-draw : goal.returns-in-Ok-clause-draw
+returns-in-Ok-clause-draw g c = λ own. inr (by_words c.in-Ok.command Draw _ _ _ c.in-Ok.ensures.command own.1 c.status_of_command.ensures.does)
+
+pub returns-in-Err-Wrong-clause-draw : goal.returns-in-Err-Wrong-clause-draw
+returns-in-Err-Wrong-clause-draw g c = λ own. absurd (wrong_never c.in-Err-Wrong.place _ Draw own.0 own.1 (wrong_end c.in-Err-Wrong.field-0 c.in-Err-Wrong.place _ c.in-Err-Wrong.field-0-is c.in-Err-Wrong.ensures.wrong))
+
+pub returns-in-Err-NoMemory-clause-draw : goal.returns-in-Err-NoMemory-clause-draw
+returns-in-Err-NoMemory-clause-draw g c = λ own. inl (c.status_of-in-Err-NoMemory.ensures.code, refl)
+
+pub returns-in-Ok-clause-init : goal.returns-in-Ok-clause-init
+returns-in-Ok-clause-init g c = λ own. inr (by_words c.in-Ok.command Init _ _ _ c.in-Ok.ensures.command own.1 c.status_of_command.ensures.does)
+
+pub returns-in-Err-Wrong-clause-init : goal.returns-in-Err-Wrong-clause-init
+returns-in-Err-Wrong-clause-init g c = λ own. absurd (wrong_never c.in-Err-Wrong.place _ Init own.0 own.1 (wrong_end c.in-Err-Wrong.field-0 c.in-Err-Wrong.place _ c.in-Err-Wrong.field-0-is c.in-Err-Wrong.ensures.wrong))
+
+pub returns-in-Err-NoMemory-clause-init : goal.returns-in-Err-NoMemory-clause-init
+returns-in-Err-NoMemory-clause-init g c = λ own. inl (c.status_of-in-Err-NoMemory.ensures.code, refl)
+
+pub returns-in-Ok-clause-check : goal.returns-in-Ok-clause-check
+returns-in-Ok-clause-check g c = λ own. inr (by_words c.in-Ok.command Check _ _ _ c.in-Ok.ensures.command own.1 c.status_of_command.ensures.does)
+
+pub returns-in-Err-Wrong-clause-check : goal.returns-in-Err-Wrong-clause-check
+returns-in-Err-Wrong-clause-check g c = λ own. absurd (wrong_never c.in-Err-Wrong.place _ Check own.0 own.1 (wrong_end c.in-Err-Wrong.field-0 c.in-Err-Wrong.place _ c.in-Err-Wrong.field-0-is c.in-Err-Wrong.ensures.wrong))
+
+pub returns-in-Err-NoMemory-clause-check : goal.returns-in-Err-NoMemory-clause-check
+returns-in-Err-NoMemory-clause-check g c = λ own. inl (c.status_of-in-Err-NoMemory.ensures.code, refl)
+
+pub returns-in-Ok-clause-list : goal.returns-in-Ok-clause-list
+returns-in-Ok-clause-list g c = λ own. inr (by_words c.in-Ok.command ListSeries _ _ _ c.in-Ok.ensures.command own.1 c.status_of_command.ensures.does)
+
+pub returns-in-Err-Wrong-clause-list : goal.returns-in-Err-Wrong-clause-list
+returns-in-Err-Wrong-clause-list g c = λ own. absurd (wrong_never c.in-Err-Wrong.place _ ListSeries own.0 own.1 (wrong_end c.in-Err-Wrong.field-0 c.in-Err-Wrong.place _ c.in-Err-Wrong.field-0-is c.in-Err-Wrong.ensures.wrong))
+
+pub returns-in-Err-NoMemory-clause-list : goal.returns-in-Err-NoMemory-clause-list
+returns-in-Err-NoMemory-clause-list g c = λ own. inl (c.status_of-in-Err-NoMemory.ensures.code, refl)
+
+pub returns-in-Ok-clause-export : goal.returns-in-Ok-clause-export
+returns-in-Ok-clause-export g c = λ name window own. inr (by_words c.in-Ok.command (Export name window) _ _ _ c.in-Ok.ensures.command own.1 c.status_of_command.ensures.does)
+
+pub returns-in-Err-Wrong-clause-export : goal.returns-in-Err-Wrong-clause-export
+returns-in-Err-Wrong-clause-export g c = λ name window own. absurd (wrong_never c.in-Err-Wrong.place _ (Export name window) own.0 own.1 (wrong_end c.in-Err-Wrong.field-0 c.in-Err-Wrong.place _ c.in-Err-Wrong.field-0-is c.in-Err-Wrong.ensures.wrong))
+
+pub returns-in-Err-NoMemory-clause-export : goal.returns-in-Err-NoMemory-clause-export
+returns-in-Err-NoMemory-clause-export g c = λ name window own. inl (c.status_of-in-Err-NoMemory.ensures.code, refl)
+
+pub returns-in-Ok-clause-cover : goal.returns-in-Ok-clause-cover
+returns-in-Ok-clause-cover g c = λ every own. inr (by_words c.in-Ok.command (Cover every) _ _ _ c.in-Ok.ensures.command own.1 c.status_of_command.ensures.does)
+
+pub returns-in-Err-Wrong-clause-cover : goal.returns-in-Err-Wrong-clause-cover
+returns-in-Err-Wrong-clause-cover g c = λ every own. absurd (wrong_never c.in-Err-Wrong.place _ (Cover every) own.0 own.1 (wrong_end c.in-Err-Wrong.field-0 c.in-Err-Wrong.place _ c.in-Err-Wrong.field-0-is c.in-Err-Wrong.ensures.wrong))
+
+pub returns-in-Err-NoMemory-clause-cover : goal.returns-in-Err-NoMemory-clause-cover
+returns-in-Err-NoMemory-clause-cover g c = λ every own. inl (c.status_of-in-Err-NoMemory.ensures.code, refl)
