@@ -3,8 +3,6 @@
 Each row is done as it comes, so memory doesn't grow with the file. A reading goes to its slot whatever was stored before, so an import
 that was cut short is run again and ends as if it had run once.
 """
-from itertools import chain, islice
-
 from .decimals import MISSING, whole_number
 from .planning import Plan
 from .report import Report
@@ -13,8 +11,6 @@ from .store import Store
 from .timestamps import date_text
 from .unfit import Unfit
 
-BATCH = 4096  # lines between two looks at how much the program has read
-MOST_SENT = 2**31  # bytes to one run of the program, which takes 2^32
 # What can come of a row or a value, besides that it is stored as it stands.
 ROUNDED, SNAPPED = "rounded, half to even", "moved to a slot"
 NO_COLUMN, NO_TIME, NO_VALUE, NO_SLOT = "left out, no such column", "left out, no time", "left out, no value", "left out, no slot"
@@ -35,25 +31,16 @@ class Import:
         sources = [Source(path, self.given.delimiter, self.given.encoding) for path in self.given.files]
         try:
             self.plan.begin(sources)
-            if not self.given.dry_run:
-                self.send(self.lines(sources))
-            else:
+            if self.given.dry_run:
                 for _ in self.lines(sources):
                     pass
+            else:
+                with self.store as store:
+                    store.send_edits(self.lines(sources))
         finally:
             self.progress.end()
             for source in sources:
                 source.close()
-
-    def send(self, lines):
-        """Stores what `set` lines say."""
-        is_over = False
-        while not is_over:
-            with self.store as store:
-                while not is_over and store.sent < MOST_SENT:
-                    batch = list(islice(lines, 1))
-                    is_over = not batch
-                    store.send_edits(chain(batch, islice(lines, BATCH)))
 
     def lines(self, sources):
         """The `set` lines of all rows."""

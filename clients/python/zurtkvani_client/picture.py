@@ -4,6 +4,7 @@ import struct
 import zlib
 
 from . import axes
+from .timestamps import UNITS, date_text
 
 
 def height(value, lo, hi, h):
@@ -81,6 +82,13 @@ class Picture:
     def high(self):
         """The real value at the top."""
         return self.hi / 10 ** (self.series.scale if self.series else 0)
+
+    def __repr__(self):
+        told = f"{self.w} by {self.h} pixels, {self.low} to {self.high}"
+        if self.window:
+            ends = (date_text(time * UNITS[self.unit]) for time in self.window)
+            told = f"{self.series.name}, {' to '.join(ends)}, {told}"
+        return f"<Picture: {told}>"
 
     def to_svg(self):
         """The picture with axes, as the text of an SVG in which each of its pixels is one; only of one that a session drew."""
