@@ -6,6 +6,7 @@ that was cut short is run again and ends as if it had run once.
 from .decimals import MISSING, whole_number
 from .planning import Plan
 from .report import Report
+from .set_lines import TAKEN
 from .sources import Source
 from .store import Store
 from .timestamps import date_text
@@ -93,12 +94,12 @@ class Import:
 
     def take(self, target, fields, time, place):
         """Takes what a row has for a series; gives the `set` line that it ends, or None."""
-        if target.index >= len(fields):
+        try:
+            text = fields[target.index]
+            number, is_rounded = whole_number(text.replace(",", ".") if self.plan.has_commas else text, target.scale)
+        except IndexError:
             self.report.leave_out(NO_COLUMN, place, f"it has {len(fields)} fields")
             return None
-        text = fields[target.index]
-        try:
-            number, is_rounded = whole_number(text.replace(",", ".") if self.plan.has_commas else text, target.scale)
         except Unfit as why:
             if text.strip().lower() in MISSING:
                 target.missing += 1
@@ -112,8 +113,8 @@ class Import:
             self.report.note(ROUNDED, place, text)
         target.taken += 1
         line = target.lines.add(time, number)
-        if target.lines.replaced > target.replaced:
-            target.replaced += 1
+        if line is TAKEN:
             note = self.report.note if self.given.replace else self.report.leave_out
             note(REPLACED, place, f"{target.series}, {text}")
+            return None
         return line

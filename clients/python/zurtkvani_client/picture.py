@@ -71,7 +71,7 @@ class Picture:
         white = bytes(255 - byte for byte in range(256))
         lines = b"".join(b"\0" + row.translate(white) for row in self.packed_rows())
         head = struct.pack(">IIBBBBB", self.w, self.h, 1, 0, 0, 0, 0)
-        return b"\x89PNG\r\n\x1a\n" + chunk(b"IHDR", head) + chunk(b"IDAT", zlib.compress(lines, 9)) + chunk(b"IEND", b"")
+        return b"\x89PNG\r\n\x1a\n" + chunk(b"IHDR", head) + chunk(b"IDAT", zlib.compress(lines)) + chunk(b"IEND", b"")
 
     @property
     def low(self):

@@ -22,7 +22,7 @@ class Target:
     def __init__(self, column, scale):
         self.index, self.series, self.scale = column.index, column.series, scale
         self.lines = None
-        self.taken = self.missing = self.replaced = 0
+        self.taken = self.missing = 0
 
 
 class Plan:
