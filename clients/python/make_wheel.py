@@ -42,10 +42,11 @@ def write_wheel(path, info, files):
 def build_wheel(wheel_directory, config_settings=None, metadata_directory=None):
     """The hook that pip calls; gives the name of the wheel."""
     files = {}
-    for name in sorted(os.listdir(os.path.join(HERE, PACKAGE))):
-        if name.endswith(".py"):
-            with open(os.path.join(HERE, PACKAGE, name), "rb") as file:
-                files[f"{PACKAGE}/{name}"] = file.read()
+    for folder in (PACKAGE, f"{PACKAGE}/gateway"):
+        for name in sorted(os.listdir(os.path.join(HERE, folder))):
+            if name.endswith(".py"):
+                with open(os.path.join(HERE, folder, name), "rb") as file:
+                    files[f"{folder}/{name}"] = file.read()
     with open(WORDS, "rb") as file:
         files[f"{PACKAGE}/statuses.txt"] = file.read()
     tag, is_pure = "py3-none-any", "true"
