@@ -83,7 +83,8 @@ def step_of(text):
 
 
 def seconds(nanoseconds):
-    return nanoseconds // SECOND if nanoseconds % SECOND == 0 else nanoseconds / SECOND
+    """A time as Prometheus tells it, in seconds; of what is finer than a millisecond, six decimals."""
+    return nanoseconds // SECOND if nanoseconds % SECOND == 0 else round(nanoseconds / SECOND, 6)
 
 
 def evaluation(gateway, first, step, count):
@@ -118,7 +119,7 @@ def pairs_of(times, values):
 
 @in_form
 async def query(gateway, words, _request):
-    at, tree = time_of(word(words, "time", str(time.time()))), promql.parse(word(words, "query"))
+    at, tree = time_of(word(words, "time", f"{time.time():.3f}")), promql.parse(word(words, "query"))
     asked = evaluation(gateway, at, SECOND, 1)
     if isinstance(tree, Selector) and tree.range is not None:
         result = [raw for known in asked.found(tree) if (raw := await raw_values(asked.reads, known, at, tree.range))["values"]]
