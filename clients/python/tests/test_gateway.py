@@ -8,8 +8,10 @@ import io
 import json
 import os
 import random
+import signal
 import socket
 import tempfile
+import threading
 import time
 import unittest
 import urllib.parse
@@ -139,7 +141,7 @@ class Writes(OverAGateway):
         ):
             headers = {"Content-Type": "application/x-www-form-urlencoded"} if path == "/query" else {}
             self.assertEqual(self.gateway.ask(path, data, **{name.replace("-", "_"): value for name, value in headers.items()})[0], status, path)
-        self.assertEqual(sorted(os.listdir(self.gateway.stores)), ["gateway.store", "names.json"])
+        self.assertEqual(sorted(os.listdir(self.gateway.stores)), ["gateway.lock", "gateway.store", "names.json"])
 
 
 class Reads(OverAGateway):
@@ -348,6 +350,63 @@ class Growing(unittest.TestCase):
                 self.assertEqual(gateway.write(lines)[0], 503)
                 self.assertEqual(gateway.ask("/healthz")[0], 503)
                 self.assertIn(b"full", gateway.ask("/healthz")[1])
+            finally:
+                gateway.close()
+
+
+class Busy(unittest.TestCase):
+    def test_what_comes_faster_than_the_disk_is_sent_away(self):
+        with tempfile.TemporaryDirectory() as folder:
+            gateway = Gateway(folder, {"write": 'waiting_points = 1000\nseconds = "2s"'}, SECOND).start()
+            try:
+                self.assertEqual(gateway.write(f"w v=0 {T}")[0], 204)
+                (child,) = gateway.children()
+                os.kill(child, signal.SIGSTOP)
+                lines = ["\n".join(f"w v={at} {T + number * 1000 + at}" for at in range(900)) for number in range(4)]
+                waiting = [threading.Thread(target=gateway.write, args=(one,)) for one in lines[:3]]
+                for one in waiting:
+                    one.start()
+                time.sleep(0.7)
+                status, text, headers = gateway.ask("/write?precision=s", lines[3])
+                self.assertEqual((status, headers.get("Retry-After")), (503, "1"), text)
+                self.assertEqual(gateway.ask("/healthz")[0], 200)
+                for one in waiting:
+                    one.join()
+                os.kill(child, signal.SIGCONT)
+                for one in lines:
+                    ends = time.monotonic() + 30
+                    while gateway.write(one)[0] != 204:
+                        self.assertLess(time.monotonic(), ends)
+                        time.sleep(0.1)
+                self.assertEqual(gateway.stop(), 0)
+                self.assertEqual(len(gateway.exported("w_v")), 3600)
+            finally:
+                gateway.close()
+
+    def test_two_gateways_over_one_folder(self):
+        with tempfile.TemporaryDirectory() as folder:
+            one, other = Gateway(folder, {}, SECOND).start(), Gateway(folder, {}, SECOND)
+            try:
+                with self.assertRaisesRegex(AssertionError, "another gateway"):
+                    other.start()
+                self.assertEqual(one.ask("/healthz")[0], 200)
+            finally:
+                one.close()
+                other.close()
+
+    def test_bodies_of_nothing_but_bad_lines_hold_nobody_up(self):
+        with tempfile.TemporaryDirectory() as folder:
+            gateway = Gateway(folder, {}, SECOND).start()
+            try:
+                bad = threading.Thread(target=gateway.write, args=(gzip.compress(b"bad\n" * 2**20),), kwargs={"Content_Encoding": "gzip"})
+                bad.start()
+                slowest = 0
+                while bad.is_alive():
+                    begun = time.monotonic()
+                    self.assertEqual(gateway.ask("/ping")[0], 204)
+                    slowest = max(slowest, time.monotonic() - begun)
+                bad.join()
+                self.assertLess(slowest, 2)
             finally:
                 gateway.close()
 

@@ -13,7 +13,7 @@ if MISSING:
 
 from zurtkvani_client import frames  # noqa: E402
 from zurtkvani_client.gateway import (  # noqa: E402
-    child, configuration, csv_points, evaluating, intake, labels, line_protocol, matching, names, promql, remote_write, rules,
+    child, collectd_points, configuration, csv_points, evaluating, intake, labels, line_protocol, matching, names, promql, remote_write, rules,
 )
 from zurtkvani_client.unfit import Unfit  # noqa: E402
 
@@ -104,7 +104,7 @@ class LineProtocol(unittest.TestCase):
     def points(self, text, database="", precision="s"):
         outcome = intake.Outcome()
         reader = line_protocol.Reader("db", "_")
-        found = list(reader.points(text if isinstance(text, bytes) else text.encode(), database, precision, 5 * 10**9, outcome))
+        found = filter(None, reader.points(text if isinstance(text, bytes) else text.encode(), database, precision, 5 * 10**9, outcome))
         return [(dict(point.key), point.time, point.value) for point in found], outcome
 
     def test_points(self):
@@ -178,7 +178,7 @@ class RemoteWrite(unittest.TestCase):
 
     def points(self, message):
         outcome = intake.Outcome()
-        return [(dict(point.key), point.time, point.value) for point in remote_write.points(message, outcome)], outcome.left_out
+        return [(dict(point.key), point.time, point.value) for point in filter(None, remote_write.points(message, outcome))], outcome.left_out
 
     def test_points(self):
         found, left_out = self.points(message_of(self.SERIES))
@@ -240,9 +240,30 @@ class Csv(unittest.TestCase):
     def test_points(self):
         outcome = intake.Outcome()
         text = "time,value\n1700000000,1.5\n2023-11-14T22:13:21Z,2\n1700000002.5,-\n1700000003000,3\nsoon,4\n1700000004,x\n1,2,3\n"
-        found = [(point.time, point.value) for point in csv_points.points(text, (), "", outcome)]
+        found = [(point.time, point.value) for point in filter(None, csv_points.points(text, (), "", outcome))]
         self.assertEqual(found, [(1700000000 * 10**9, "1.5"), (1700000001 * 10**9, "2"), (1700000003 * 10**9, "3")])
-        self.assertEqual((outcome.left_out, len(outcome.errors)), (1, 3))
+        self.assertEqual((outcome.left_out, outcome.bad), (1, 3))
+
+
+class Collectd(unittest.TestCase):
+    # As collectd's documentation of write_http shows it, with another value that is none.
+    BODY = """[{"values": [1901474177, null], "dstypes": ["counter", "gauge"], "dsnames": ["value", "rx"], "time": 1280959128.25, "interval": 10,
+      "host": "leeloo.octo.it", "plugin": "cpu", "plugin_instance": "0", "type": "cpu", "type_instance": "idle"}]"""
+
+    def points(self, body):
+        outcome = intake.Outcome()
+        return list(filter(None, collectd_points.points(body, outcome))), outcome
+
+    def test_points(self):
+        (point,), outcome = self.points(self.BODY)
+        self.assertEqual(dict(point.key), {"__name__": "collectd_cpu_cpu", "host": "leeloo.octo.it", "plugin_instance": "0", "type_instance": "idle"})
+        self.assertEqual((point.time, point.value, outcome.left_out), (1280959128_250_000_000, 1901474177, 1))
+
+    def test_what_is_no_value_list_is_told(self):
+        for body in ("", "{", "[1]", '[{"values":[1]}]', '[{"values":[1],"dsnames":[],"time":1,"plugin":"a","type":"b"}]', "[" * 100_000,
+                     '[{"values":["x"],"dsnames":["a"],"time":1,"plugin":"a","type":"b"}]', '[{"values":[1],"dsnames":["a"],"time":1e999999,"plugin":"a","type":"b"}]'):
+            found, outcome = self.points(body)
+            self.assertEqual((found, outcome.bad), ([], 1), body[:50])
 
 
 class Values(unittest.TestCase):
@@ -308,7 +329,7 @@ class Queries(unittest.TestCase):
 
     def test_what_isnt_understood_says_what_is(self):
         for text in (
-            "", "rate(a[5m])", "a[5m", "a offset 5m", "a @ 1", "a and b", "a > 1", "a ^ 2", "topk(1, a)", "min_over_time(a)", "min_over_time(a[5m:1m])",
+            "", "1" + "+1" * 200, "rate(a[5m])", "a[5m", "a offset 5m", "a @ 1", "a and b", "a > 1", "a ^ 2", "topk(1, a)", "min_over_time(a)", "min_over_time(a[5m:1m])",
             '{}', '{a=~".*"}', "a{b=c}", "a b", "1 +", "(a", 'a{b="c"', "a[5]", "a[0s]", "a{b=~\"(c+)+\"}", "a{b=~\"(\"}", "(" * 100 + "a" + ")" * 100,
             'a{b="\\q"}', "$x", "a{b=~\"(?=x)\"}", "a" * 30000, 'a{b=~".*.*.*.*.*"}', "a[40y]", 'a{b="\\UFFFFFFFF"}',
         ):

@@ -12,17 +12,19 @@ def points(body, outcome):
     try:
         listed = json.loads(body, parse_float=str)
     except (ValueError, RecursionError) as why:
-        outcome.errors.append(f"the body is no JSON: {why}")
+        outcome.fail(f"the body is no JSON: {why}")
         return
     for at, one in enumerate(listed if isinstance(listed, list) else [listed]):
         try:
             found = list(of_list(one))
         except (KeyError, TypeError, ValueError, AttributeError, InvalidOperation, OverflowError) as why:
-            outcome.errors.append(f"value list {at} isn't one of collectd's: {why!r}")
+            outcome.fail(f"value list {at} isn't one of collectd's: {why!r}")
+            yield None
             continue
         for key, plugin, time, value in found:
             if value is None or isinstance(value, float) and not math.isfinite(value):
                 outcome.left_out += 1
+                yield None
             else:
                 yield Point(key, plugin, time, value)
 

@@ -9,7 +9,8 @@ from .labels import text_of
 from .stores import FULL, NoRoom
 
 PART = 2000  # points that are taken in before others have their turn
-SHOWN = 3  # reasons that an answer tells
+SHOWN = 5  # bad lines, and reasons, that an answer tells
+MOST_WORDS = 400  # signs of one of them
 
 Point = collections.namedtuple("Point", "key measurement time value")  # the time in nanoseconds, the value a text or an int
 
@@ -19,20 +20,29 @@ class Busy(Exception):
 
 
 class Outcome:
-    """What became of the points of a request."""
+    """What became of the points of a request. Of what is wrong the first few are told, however many there are."""
 
     def __init__(self):
-        self.taken = self.dropped = self.left_out = 0
-        self.reasons = {}  # in words, with how many points each dropped
-        self.errors = []  # what was no point
+        self.taken = self.dropped = self.left_out = self.bad = 0
+        self.reasons, self.errors = {}, []  # why points were dropped, with how many; and what was no point
 
     def drop(self, why, count=1):
         self.dropped += count
-        self.reasons[why] = self.reasons.get(why, 0) + count
+        if why in self.reasons or len(self.reasons) < SHOWN:
+            self.reasons[why] = self.reasons.get(why, 0) + count
+
+    def fail(self, why):
+        self.bad += 1
+        if len(self.errors) < SHOWN:
+            self.errors.append(shortened(why))
 
     def words(self):
-        told = [f"{why} ({count})" if count > 1 else why for why, count in list(self.reasons.items())[:SHOWN]]
-        return "; ".join(told) + ("; .." if len(self.reasons) > SHOWN else "")
+        told = [shortened(why) + (f" ({count})" if count > 1 else "") for why, count in self.reasons.items()]
+        return "; ".join(told) + ("; .." if sum(self.reasons.values()) < self.dropped else "")
+
+
+def shortened(words):
+    return words if len(words) <= MOST_WORDS else words[:MOST_WORDS] + ".."
 
 
 class Intake:
@@ -47,14 +57,16 @@ class Intake:
             raise Busy("too many points wait for the disk")
 
     async def take(self, points, outcome):
-        """Stores the points of an iterator, and comes back once all are acknowledged. What can't be stored is told by the outcome.
+        """Stores the points of an iterator, and comes back once all are acknowledged. What can't be stored is told by the outcome. The iterator gives
+        None for what is no point, so that others have their turn however many of these there are.
 
         Raises Busy, NoRoom, child.Down, child.Lost and asyncio.TimeoutError, behind which some of them are stored and some aren't.
         """
         waiting, part = [], []
-        for point in points:
-            part.append(point)
-            if len(part) == PART:
+        for at, point in enumerate(points, 1):
+            if point is not None:
+                part.append(point)
+            if at % PART == 0:
                 waiting += await self._part(part, outcome)
                 part = []
         waiting += await self._part(part, outcome)

@@ -22,7 +22,7 @@ TIME = re.compile(r"-?\d{1,19}", re.ASCII)
 TRUTHS = {**dict.fromkeys(("t", "T", "true", "True", "TRUE"), 1), **dict.fromkeys(("f", "F", "false", "False", "FALSE"), 0)}
 NO_NUMBER = {"nan", "inf", "+inf", "-inf", "infinity"}
 MOST_JOINED = 2**16  # bytes of a line with line feeds within its texts
-MOST_KEPT = 50_000  # heads that are remembered
+MOST_KEPT, MOST_HEAD = 50_000, 500  # heads that are remembered, and signs of one
 SHOWN = 200  # bytes of a bad line that an answer shows
 
 
@@ -35,16 +35,21 @@ class Reader:
 
     def __init__(self, database_label, separator):
         self.database_label, self.separator = database_label, separator
-        self.heads, self.keys = {}, {}
+        self.keys = {}
 
     def points(self, body, database, precision, now, outcome):
-        """The points of a body, one by one. What is no point, and what is left out, is told by the outcome."""
+        """The points of a body, one by one, and None for a line or a field that is none. What is no point, and what is left out, is told by the
+        outcome."""
         size = PRECISIONS[precision]
         for line in whole_lines(body.decode("utf-8", "surrogateescape")):
+            if not line or line[0] == "#":
+                yield None
+                continue
             try:
                 yield from self.line(line, database, size, now, outcome)
             except Bad as why:
-                outcome.errors.append(f"unable to parse '{shown(line)}': {why}")
+                outcome.fail(f"unable to parse '{shown(line)}': {why}")
+                yield None
 
     def line(self, line, database, size, now, outcome):
         head, fields, time = pieces(line)
@@ -54,11 +59,12 @@ class Reader:
             time = int(time) * size
         else:
             raise Bad("bad timestamp")
-        found = [(name, value) for name, value in fields_of(fields)]
-        for name, text in found:
-            value = value_of(text)
+        # Where one field of a line is bad none of it is taken.
+        found = [(name, value_of(text)) for name, text in fields_of(fields)]
+        for name, value in found:
             if value is None:
                 outcome.left_out += 1
+                yield None
             else:
                 yield Point(*self.key(head, name, database), time, value)
 
@@ -70,7 +76,8 @@ class Reader:
             found = key_of({**tags, NAME: measurement + self.separator + unescaped(field)}), measurement
             if len(self.keys) >= MOST_KEPT:
                 self.keys.clear()
-            self.keys[head, field, database] = found
+            if len(head) < MOST_HEAD:
+                self.keys[head, field, database] = found
         return found
 
     def head(self, head, database):
@@ -94,19 +101,17 @@ class Reader:
 
 
 def whole_lines(text):
-    """The lines of a body that aren't empty and no comments. A line feed within a quoted text ends no line."""
+    """The lines of a body. A line feed within a quoted text ends no line."""
     joined, at = "", 0
     while at <= len(text):
         end = text.find("\n", at)
         end = len(text) if end < 0 else end
         line, at = joined + text[at:end], end + 1
-        if '"' in line and len(QUOTE.findall(line)) % 2 and len(line) < MOST_JOINED:
+        if '"' in line and line[0] != "#" and len(QUOTE.findall(line)) % 2 and len(line) < MOST_JOINED:
             joined = line + "\n"
             continue
         joined = ""
-        line = line.strip(" \r\t")
-        if line and line[0] != "#":
-            yield line
+        yield line.strip(" \r\t")
     if joined:
         yield joined.strip()
 
@@ -163,5 +168,5 @@ def unescaped(text):
 
 
 def shown(line):
-    line = line.encode("utf-8", "replace").decode()
+    line = "".join(sign if sign.isprintable() else "?" for sign in line[: SHOWN + 1])
     return line if len(line) <= SHOWN else line[:SHOWN] + ".."

@@ -28,7 +28,7 @@ TOKEN = re.compile(
 PIECE = re.compile(r"(\d+)(ms|[smhdwy])", re.ASCII)
 ESCAPE = re.compile(r"\\(x[0-9a-fA-F]{2}|u[0-9a-fA-F]{4}|U[0-9a-fA-F]{8}|[0-7]{3}|.)", re.DOTALL)
 ESCAPES = {"n": "\n", "t": "\t", "r": "\r", "a": "\a", "b": "\b", "f": "\f", "v": "\v", "\\": "\\", '"': '"', "'": "'"}
-MOST_DEPTH = 50
+MOST_DEPTH, MOST_SIGNS = 50, 100
 MOST_TEXT = 20_000
 LONGEST = 10**18  # nanoseconds of a range or a step: 31 years
 
@@ -88,6 +88,8 @@ class Parser:
 
     def __init__(self, text):
         self.tokens, self.at, self.depth = tokens_of(text), 0, 0
+        if sum(kind == "sign" and sign in ("+", "-", "*", "/") for kind, sign, _ in self.tokens) > MOST_SIGNS:
+            raise Wrong(f"a query has at most {MOST_SIGNS} of + - * /")
 
     @property
     def next(self):

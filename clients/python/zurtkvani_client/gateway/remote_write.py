@@ -11,6 +11,7 @@ import struct
 from .intake import Point
 from .labels import key_of
 
+MOST_LABELS = 500  # of a series
 VARINT, EIGHT, BYTES, FOUR = 0, 1, 2, 5  # kinds of a field
 
 
@@ -77,32 +78,33 @@ def sample_of(data):
     return value, time
 
 
-def series_of(data):
-    """The labels of a time series, and its samples."""
-    labels, samples = {}, []
+def points(message, outcome):
+    """The points of a message, and None for what is none. NaN, by which Prometheus marks that a series ends, is left out, and so are the infinite
+    ones."""
+    for number, held in fields(memoryview(message)):
+        if number == 1:
+            yield from points_of_series(held, outcome)
+        yield None
+
+
+def points_of_series(data, outcome):
+    labels, key = {}, None
     for number, held in fields(data):
         if number == 1:
+            if key is not None or len(labels) >= MOST_LABELS:
+                raise Bad(f"a series has labels behind its samples, or more than {MOST_LABELS}")
             name, value = labels_of(held)
             labels[name] = value
         elif number == 2:
-            samples.append(sample_of(held))
-    return labels, samples
-
-
-def points(message, outcome):
-    """The points of a message. NaN, by which Prometheus marks that a series ends, is left out, and so are the infinite ones."""
-    for number, held in fields(memoryview(message)):
-        if number != 1:
-            continue
-        labels, samples = series_of(held)
-        key = key_of(labels)
-        if not key and samples:
-            raise Bad("a series has no labels")
-        for value, time in samples:
+            key = key or key_of(labels)
+            if not key:
+                raise Bad("a series has no labels")
+            value, time = sample_of(held)
             if math.isfinite(value):
                 yield Point(key, None, time * 10**6, text_of(value))
             else:
                 outcome.left_out += 1
+                yield None
 
 
 def text_of(value):

@@ -1,5 +1,6 @@
 """The stores of a gateway: which series there are, in which store each is, and how new series and new stores are made."""
 import asyncio
+import fcntl
 import os
 
 from .. import store_file
@@ -13,6 +14,7 @@ from .names import Names, sync_folder
 from .rules import grid_for, rule_for
 
 MOST_SERIES = 512  # of a store
+MOST_LABELS = 4000  # bytes of a series' labels
 FULL, EXISTS, TOO_MANY = 21, 9, 10  # refusals
 
 
@@ -33,6 +35,11 @@ class Known:
         return dict(self.key)
 
 
+def require_short(key):
+    if sum(len(name.encode()) + len(value.encode()) for name, value in key) > MOST_LABELS:
+        raise Unfit(f"the labels have more than {MOST_LABELS:,} bytes")
+
+
 class NoRoom(Exception):
     """No store has room, and no further one may be made."""
 
@@ -45,11 +52,12 @@ class Stores:
         self.names = None
         self.keepers, self.full = [], set()
         self.by_key, self.by_name, self.inner = {}, {}, {}
-        self.making = asyncio.Lock()
+        self.making, self.lock = asyncio.Lock(), None
 
     async def start(self):
         """Makes the folder and the first store where they aren't there, and starts the runs. Raises names.Damaged and OSError."""
         os.makedirs(self.given.folder, exist_ok=True)
+        self.lock = alone_in(self.given.folder)
         self.names = Names(os.path.join(self.given.folder, "names.json"))
         found = list(self.given.files)
         found += [name for at in range(2, self.given.most + 1) if os.path.exists(self._path(name := self._further(at))) and name not in found]
@@ -105,6 +113,7 @@ class Stores:
             refused, grids = {}, {}
             for key, _, time in wanted:
                 try:
+                    require_short(key)
                     grids[key] = grid_for(rule_for(self.rules, key), time)
                 except Unfit as why:
                     refused[key] = str(why)
@@ -159,3 +168,14 @@ class Stores:
                 raise NoRoom(f"{text_of(key)} can't be made: {frame.hex()}")
             self._take(Known(key, keeper, record))
             tell("a series is made", path=keeper.path, name=names[key], series=text_of(key), step=record.step, scale=record.scale)
+
+
+def alone_in(folder):
+    """A lock that two gateways over one folder can't have; it goes with the process that has it."""
+    file = open(os.path.join(folder, "gateway.lock"), "w")
+    try:
+        fcntl.flock(file, fcntl.LOCK_EX | fcntl.LOCK_NB)
+    except BlockingIOError:
+        file.close()
+        raise OSError(f"another gateway works on {folder}") from None
+    return file

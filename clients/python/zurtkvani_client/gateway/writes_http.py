@@ -10,7 +10,6 @@ from .labels import NAME, key_of
 from .line_protocol import PRECISIONS
 from .stores import NoRoom
 
-SHOWN = 5  # bad lines that an answer tells
 MOST_NAME = 1000  # bytes of a series' name in an address
 VERSION = "1.8.0-zurtkvani"  # as InfluxDB's clients read it
 
@@ -61,7 +60,7 @@ async def influx(gateway, request, database, answer):
                 await take(gateway, gateway.line_reader.points(body, database, precision, time.time_ns(), outcome), outcome)
             except Failed as why:
                 return answer(503, why.words, **{"Retry-After": str(why.seconds)})
-    told = "\n".join(outcome.errors[:SHOWN])
+    told = "\n".join(outcome.errors)
     if outcome.errors and not outcome.taken and not outcome.dropped:
         return answer(400, told)
     if outcome.errors or outcome.dropped:
@@ -70,7 +69,8 @@ async def influx(gateway, request, database, answer):
 
 
 def answer_1(status, words, **headers):
-    return json_answer(status, {"error": words}, **{"X-Influxdb-Error": words.split("\n")[0][:500], "X-Influxdb-Version": VERSION}, **headers)
+    line = "".join(sign if sign.isprintable() else " " for sign in words[:500])
+    return json_answer(status, {"error": words}, **{"X-Influxdb-Error": line, "X-Influxdb-Version": VERSION}, **headers)
 
 
 def answer_2(status, words, **headers):
@@ -150,9 +150,9 @@ async def csv(gateway, request):
                 await take(gateway, csv_points.points(text, key_of({**labels, NAME: name}), precision, outcome), outcome)
             except Failed as why:
                 return json_answer(503, {"error": why.words}, **{"Retry-After": str(why.seconds)})
-    told = {"taken": outcome.taken, "left_out": outcome.left_out, "dropped": outcome.dropped + len(outcome.errors)}
+    told = {"taken": outcome.taken, "left_out": outcome.left_out, "dropped": outcome.dropped + outcome.bad}
     if told["dropped"]:
-        return json_answer(400, {**told, "error": "; ".join([*outcome.errors[:SHOWN], *filter(None, [outcome.words()])])})
+        return json_answer(400, {**told, "error": "; ".join([*outcome.errors, *filter(None, [outcome.words()])])})
     return json_answer(200, told)
 
 
@@ -166,7 +166,7 @@ async def collectd(gateway, request):
         except Failed as why:
             return json_answer(503, {"error": why.words}, **{"Retry-After": str(why.seconds)})
     if outcome.errors or outcome.dropped:
-        return json_answer(400, {"error": "; ".join([*outcome.errors[:SHOWN], *filter(None, [outcome.words()])])})
+        return json_answer(400, {"error": "; ".join([*outcome.errors, *filter(None, [outcome.words()])])})
     return web.Response(status=204)
 
 
