@@ -327,6 +327,36 @@ class Backups(OverAGateway):
         self.assertEqual(Store(os.path.join(self.gateway.stores, "gateway.store"), program=PROGRAM).check().values, 3001)
 
 
+    def test_a_backup_under_load_has_what_was_answered_before(self):
+        answered, sent, ends = [], [], threading.Event()
+
+        def write():
+            while not ends.is_set() and len(sent) < 20_000:
+                part = list(range(len(sent), len(sent) + 50))
+                sent.extend(part)
+                if self.gateway.write("\n".join(f"w,n={at % 7} v={at} {T + at}" for at in part))[0] == 204:
+                    answered.extend(part)
+
+        writer = threading.Thread(target=write)
+        writer.start()
+        time.sleep(0.5)
+        bounds = []
+        for _ in range(3):
+            before = list(answered)
+            self.assertEqual(self.gateway.ask("/backup", b"")[0], 200)
+            bounds.append((before, len(sent)))
+            time.sleep(1.1)  # a backup is called by its second
+        ends.set()
+        writer.join()
+        for name, (before, behind) in zip(sorted(os.listdir(self.backups)), bounds):
+            path = os.path.join(self.backups, name)
+            copied = Store(os.path.join(path, "gateway.store"), program=PROGRAM)
+            values = {int(number) // 100 for series in copied.series() for _, number in copied.values(series.name)}
+            self.assertEqual(copied.check().values, len(values))
+            self.assertGreaterEqual(values, set(before))
+            self.assertLessEqual(values, set(range(behind + 50)))
+
+
 class Growing(unittest.TestCase):
     def test_further_stores_are_made_up_to_a_limit(self):
         with tempfile.TemporaryDirectory() as folder:

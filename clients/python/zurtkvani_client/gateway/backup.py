@@ -17,6 +17,7 @@ from .log import tell
 from .names import sync_folder
 
 SECONDS = 3600  # for a whole backup
+PIECE = 2**20  # bytes that are compared at once
 
 
 def copy(path, into):
@@ -28,20 +29,55 @@ def copy(path, into):
         raise OSError(done.stderr.decode(errors="replace").strip())
 
 
+def pieces_of(file):
+    """The pieces of a file that are no holes: pairs of an offset and a size."""
+    at, length = 0, os.fstat(file).st_size
+    while at < length:
+        try:
+            at = os.lseek(file, at, os.SEEK_DATA)
+        except OSError:  # there is no data behind
+            return
+        end = os.lseek(file, at, os.SEEK_HOLE)
+        for begin in range(at, end, PIECE):
+            yield begin, min(PIECE, end - begin)
+        at = end
+
+
+def bring_up_to(path, into):
+    """Makes a copy, that was made while the file changed, what the file is now: copies the pieces that differ."""
+    one, other = bytearray(PIECE), bytearray(PIECE)
+    source, copied = os.open(path, os.O_RDONLY), os.open(into, os.O_RDWR)
+    try:
+        for at, size in pieces_of(source):
+            mine, theirs = memoryview(one)[:size], memoryview(other)[:size]
+            if os.preadv(source, [mine], at) != size:
+                raise OSError(f"{path} can't be read at {at}")
+            if os.preadv(copied, [theirs], at) != size or one != other:
+                if os.pwrite(copied, mine, at) != size:
+                    raise OSError(f"{into} can't be written at {at}")
+    finally:
+        os.close(source)
+        os.close(copied)
+
+
 def bring_to_disk(path):
     with open(path, "rb") as file:
         os.fsync(file.fileno())
 
 
 async def copy_store(keeper, folder):
-    """Copies a store between two turns, and tells how long it waited for that. A run that is started anew meanwhile finds nothing to finish."""
+    """Copies a store as it is between two turns, and tells how long it was held for that. Most is copied before, while it changes. A run that is
+    started anew while the store is held finds nothing to finish, and so changes nothing."""
     into = os.path.join(folder, os.path.basename(keeper.path))
+    before = keeper.state()
+    await asyncio.to_thread(copy, keeper.path, into)
     await asyncio.wait_for(keeper.is_up.wait(), 30)
     async with keeper.free:
         if keeper.run is None and not keeper.down:
             raise child.Lost(f"{keeper.path} has no run now")
         begun = time.monotonic()
-        await asyncio.to_thread(copy, keeper.path, into)
+        if keeper.state() != before:
+            await asyncio.to_thread(bring_up_to, keeper.path, into)
         held = time.monotonic() - begun
     await asyncio.to_thread(bring_to_disk, into)
     return {"store": os.path.basename(keeper.path), "bytes": os.path.getsize(into), "seconds_held": round(held, 3)}

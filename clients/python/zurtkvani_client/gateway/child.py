@@ -148,6 +148,10 @@ class Keeper:
             self.is_up.clear() if self.run is run else None
             raise
 
+    def state(self):
+        """Two that are equal, the second one taken between two turns, tell that no turn was done meanwhile. Without a run none equals another one."""
+        return (self.run, self.run.answered) if self.run else object()
+
     async def stop(self):
         self.is_stopping = True
         async with self.free:
