@@ -1,6 +1,7 @@
 """A gateway of its own for a test: its configuration, its process, and requests of it. It listens on 127.0.0.1 alone."""
 import json
 import os
+import resource
 import signal
 import socket
 import subprocess
@@ -48,13 +49,18 @@ class Gateway:
             file.write("".join(f"[{name}]\n{text}\n" for name, text in words.items()) + series)
         self.process = self.log = None
 
-    def start(self):
+    def start(self, most_bytes=None):
+        """Starts it, and waits until it listens; where a number of bytes is named it and its runs write no file beyond that."""
+
+        def limit():
+            resource.setrlimit(resource.RLIMIT_FSIZE, (most_bytes, most_bytes))
+
         command = [sys.executable, "-m", "zurtkvani_client", "gateway", self.path]
         environment = {**os.environ, "PYTHONPATH": os.path.join(ROOT, "clients/python")}
         if self.log:
             self.log.close()
         self.log = tempfile.TemporaryFile()
-        self.process = subprocess.Popen(command, stdin=subprocess.DEVNULL, stderr=self.log, env=environment)
+        self.process = subprocess.Popen(command, stdin=subprocess.DEVNULL, stderr=self.log, env=environment, preexec_fn=limit if most_bytes else None)
         ends = time.monotonic() + SECONDS
         while time.monotonic() < ends:
             try:

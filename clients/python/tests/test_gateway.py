@@ -441,6 +441,15 @@ class Busy(unittest.TestCase):
                 gateway.close()
 
 
+def script(folder, lines):
+    """A program that does these lines of a shell, in which PROGRAM is the chart program."""
+    path = os.path.join(folder, "program")
+    with open(path, "w") as file:
+        file.write("#!/bin/sh\n" + lines.replace("PROGRAM", PROGRAM) + "\n")
+    os.chmod(path, 0o755)
+    return path
+
+
 class Broken(unittest.TestCase):
     def test_a_damaged_store_is_told_and_not_tried_again(self):
         with tempfile.TemporaryDirectory() as folder:
@@ -458,6 +467,43 @@ class Broken(unittest.TestCase):
                 self.assertIn(b"status 7 at 66", text)
                 self.assertEqual(gateway.write(f"w v=1 {T}")[0], 503)
                 self.assertEqual(sum(event["event"] == "a run ended" for event in gateway.events()), 1)
+                self.assertEqual(gateway.stop(), 0)
+            finally:
+                gateway.close()
+
+    def test_a_write_that_the_system_refuses_loses_nothing_that_was_answered(self):
+        with tempfile.TemporaryDirectory() as folder:
+            # as ./chart does, so that it is a write that fails, and no signal
+            gateway = Gateway(folder, {}, SECOND, program=script(folder, "trap '' XFSZ\nexec PROGRAM \"$@\"")).start()
+            try:
+                self.assertEqual(gateway.stop(), 0)
+                gateway.start(most_bytes=2**20)
+                answered, status = {}, 204
+                for at in range(100):
+                    times = range(T + 2000 * at, T + 2000 * at + 2000)
+                    status, text = gateway.write("\n".join(f"w v=1 {time_of}" for time_of in times))
+                    if status != 204:
+                        break
+                    answered.update(dict.fromkeys(times, "1.00"))
+                self.assertEqual(status, 503, text)
+                self.assertIn(b"status 6", gateway.ask("/healthz")[1])
+                self.assertEqual(sum(event["event"] == "a run ended" for event in gateway.events()), 1)
+                gateway.stop()
+                gateway.start()
+                self.assertEqual(gateway.write(f"w v=1 {T + 10**6}")[0], 204)
+                self.assertEqual(gateway.stop(), 0)
+                self.assertGreater(len(answered), 2000)
+                self.assertLessEqual(answered.items(), gateway.exported("w_v").items())
+            finally:
+                gateway.close()
+
+    def test_a_run_that_ends_at_once_isnt_started_for_ever(self):
+        with tempfile.TemporaryDirectory() as folder:
+            gateway = Gateway(folder, {}, SECOND, program=script(folder, '[ "$2" != serve ] || exit 3\nexec PROGRAM "$@"')).start()
+            try:
+                self.assertIn(b"ended at once", gateway.ask("/healthz")[1])
+                self.assertEqual(gateway.write(f"w v=1 {T}")[0], 503)
+                self.assertEqual(sum(event["event"] == "a run ended" for event in gateway.events()), 6)
                 self.assertEqual(gateway.stop(), 0)
             finally:
                 gateway.close()

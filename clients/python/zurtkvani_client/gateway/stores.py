@@ -144,6 +144,8 @@ class Stores:
         for keeper in self.keepers:
             if not keeper.down and keeper not in self.full and self.count(keeper) < MOST_SERIES:
                 return keeper
+        if down := [keeper.path for keeper in self.keepers if keeper.down]:
+            raise NoRoom(f"{down[0]} is given up, and no further store is made beside it")
         if len(self.keepers) >= self.given.most:
             raise NoRoom(f"{len(self.keepers)} stores are full, and the configuration allows no further one")
         name = next(name for at in range(2, 10**4) if not os.path.exists(self._path(name := self._further(at))))
