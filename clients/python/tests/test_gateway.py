@@ -67,7 +67,7 @@ class Writes(OverAGateway):
         self.assertEqual(self.gateway.exported(next(name for name in listed if name not in ("w_a", "w_b"))), {T + 7: "-3.00"})
 
     def test_partial_errors_are_as_those_of_influxdb(self):
-        self.assertEqual(self.gateway.write("w"), (400, '{"error": "unable to parse \'w\': missing fields"}\n'))
+        self.assertEqual(self.gateway.write("w"), (400, '{"error":"unable to parse \'w\': missing fields"}\n'))
         status, text = self.gateway.write(f"w a=1 {T}\nw a=x {T}\nw b=2 {T}")
         self.assertEqual((status, json.loads(text)["error"]), (400, f"partial write: unable to parse 'w a=x {T}': invalid number dropped=0"))
         status, text = self.gateway.write(f"w a=1 {T - 10**8}\nw a=1e20 {T}\nw c=4 {T}")

@@ -117,6 +117,7 @@ class LineProtocol(unittest.TestCase):
             ("# a comment\n\n  w v=1 1\r\n", [({"__name__": "w_v"}, 10**9, "1")]),
             ("w\\ x\\,y v=1 1", [({"__name__": "w x,y_v"}, 10**9, "1")]),
             ("wärme,ort=Küche v=1 1", [({"__name__": "wärme_v", "ort": "Küche"}, 10**9, "1")]),
+            ("w,room=a\u00a0b v=1", [({"__name__": "w_v", "room": "a\u00a0b"}, 5 * 10**9, "1")]),
             ("w v=nan,u=1 1", [({"__name__": "w_u"}, 10**9, "1")]),
         ):
             with self.subTest(text):
@@ -129,7 +130,7 @@ class LineProtocol(unittest.TestCase):
             ("w", "missing fields"), ("w ", "missing fields"), ("w v=", "invalid field format"), ("w v=x", "invalid number"), ("w v=1 soon", "bad timestamp"),
             ("w,room v=1", "missing tag value"), (",room=a v=1", "missing measurement"), ("w,room=a, v=1", "missing tag key"), ("w v", "invalid field format"),
             ("w v=1i2", "invalid number"), ("w v=0x1", "invalid number"), ("w v=1,", "missing fields"), ("w,a=1,a=2 v=1", "duplicate tags"),
-            ("w v=1_0", "invalid number"), ("w v=١", "invalid number"), ("w v=1 1 1", "invalid field format"), ("w,__name__=x v=1", "own"),
+            ("w v=1_0", "invalid number"), ("w v=+1", "invalid number"), ("w\tv=1 1", "format"), ("w v=١", "invalid number"), ("w v=1 1 1", "invalid field format"), ("w,__name__=x v=1", "own"),
         ):
             with self.subTest(text):
                 found, outcome = self.points(text + "\ngood v=1 1")
@@ -143,6 +144,28 @@ class LineProtocol(unittest.TestCase):
         self.assertEqual(self.points("w v=1 1", "plant")[0][0][0], {"__name__": "w_v", "db": "plant"})
         self.assertEqual(len(self.points("w,db=x v=1 1", "plant")[1].errors), 1)
         self.assertEqual(self.points("w,db=x v=1 1")[0][0][0], {"__name__": "w_v", "db": "x"})
+
+    def test_random_points_are_those_that_influxdbs_client_wrote(self):
+        try:
+            from influxdb.line_protocol import make_lines
+        except ImportError as why:
+            raise unittest.SkipTest(f"python3-influxdb isn't there: {why}")
+        draw = random.Random(6)
+
+        def word():
+            return "".join(draw.choice("ab é,= '(#") for _ in range(draw.randrange(1, 6))).strip("# ") + "x"
+
+        for _ in range(2000):
+            tags = {word(): word() for _ in range(draw.randrange(3))}
+            values = (draw.randrange(-(10**12), 10**12), draw.random() * 10 ** draw.randrange(-9, 9), True, False, word() + draw.choice(['"', "\\", "\n", ""]))
+            fields = {word(): draw.choice(values) for _ in range(draw.randrange(1, 4))}
+            name, time = word(), draw.randrange(2**50)
+            lines = make_lines({"points": [{"measurement": name, "tags": tags, "fields": fields, "time": time}]}, "s")
+            expected = [({"__name__": f"{name}_{field}", **tags}, time * 10**9, value) for field, value in fields.items() if not isinstance(value, str)]
+            found, outcome = self.points(lines)
+            self.assertEqual(outcome.errors, [], lines)
+            told = [(pairs, at, float(value)) for pairs, at, value in found]
+            self.assertEqual(sorted(told, key=repr), sorted(((pairs, at, float(value)) for pairs, at, value in expected), key=repr), lines)
 
     def test_precisions(self):
         for precision, size in (("", 1), ("ns", 1), ("u", 10**3), ("us", 10**3), ("ms", 10**6), ("s", 10**9), ("m", 60 * 10**9), ("h", 3600 * 10**9)):

@@ -16,7 +16,7 @@ PART = re.compile(r"(?:[^\\,]|\\.)+", re.DOTALL)
 TAG = re.compile(r"((?:[^\\=]|\\.)+)=((?:[^\\=]|\\.)+)", re.DOTALL)
 ESCAPED = re.compile(r"\\([,= ])")
 QUOTE = re.compile(r'(?<!\\)(?:\\\\)*"')
-NUMBER = re.compile(r"[+-]?(?:\d+\.?\d*|\.\d+)(?:[eE][+-]?\d+)?", re.ASCII)
+NUMBER = re.compile(r"-?(?:\d+\.?\d*|\.\d+)(?:[eE][+-]?\d+)?", re.ASCII)
 INTEGER = re.compile(r"(-?\d+)[iu]", re.ASCII)
 TIME = re.compile(r"-?\d{1,19}", re.ASCII)
 TRUTHS = {**dict.fromkeys(("t", "T", "true", "True", "TRUE"), 1), **dict.fromkeys(("f", "F", "false", "False", "FALSE"), 0)}
@@ -121,7 +121,7 @@ def pieces(line):
     if not line.isascii() and any("\ud800" <= sign <= "\udfff" for sign in line):
         raise Bad("invalid UTF-8")
     if "\\" not in line and '"' not in line:
-        parts = line.split()
+        parts = [part for part in line.split(" ") if part]
         if len(parts) == 3:
             return parts
         if len(parts) == 2:

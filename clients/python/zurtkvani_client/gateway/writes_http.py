@@ -40,7 +40,7 @@ async def take(gateway, points, outcome):
 
 
 def json_answer(status, told, **headers):
-    return web.Response(status=status, text=json.dumps(told) + "\n", content_type="application/json", headers=headers)
+    return web.Response(status=status, text=json.dumps(told, separators=(",", ":")) + "\n", content_type="application/json", headers=headers)
 
 
 def precision_of(request):
