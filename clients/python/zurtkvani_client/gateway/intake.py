@@ -1,0 +1,155 @@
+"""From points to the slots of series: which series a point is of, which slot its time lies in, and what became of each."""
+import asyncio
+import collections
+
+from ..decimals import MOST, whole_number
+from ..grids import LAST_SLOT
+from ..unfit import Unfit
+from .labels import text_of
+from .stores import FULL, NoRoom
+
+PART = 2000  # points that are taken in before others have their turn
+SHOWN = 5  # bad lines, and reasons, that an answer tells
+MOST_WORDS = 400  # signs of one of them
+
+Point = collections.namedtuple("Point", "key measurement time value")  # the time in nanoseconds, the value a text or an int
+
+
+class Busy(Exception):
+    """There is too much at once; it may be sent again."""
+
+
+class Outcome:
+    """What became of the points of a request. Of what is wrong the first few are told, however many there are."""
+
+    def __init__(self):
+        self.taken = self.dropped = self.left_out = self.bad = 0
+        self.reasons, self.errors = {}, []  # why points were dropped, with how many; and what was no point
+
+    def drop(self, why, count=1):
+        self.dropped += count
+        if why in self.reasons or len(self.reasons) < SHOWN:
+            self.reasons[why] = self.reasons.get(why, 0) + count
+
+    def fail(self, why):
+        self.bad += 1
+        if len(self.errors) < SHOWN:
+            self.errors.append(shortened(why))
+
+    def words(self):
+        told = [shortened(why) + (f" ({count})" if count > 1 else "") for why, count in self.reasons.items()]
+        return "; ".join(told) + ("; .." if sum(self.reasons.values()) < self.dropped else "")
+
+
+def shortened(words):
+    return words if len(words) <= MOST_WORDS else words[:MOST_WORDS] + ".."
+
+
+class Intake:
+    """Takes in the points of requests."""
+
+    def __init__(self, configuration, stores, writer_of, waiting, counts):
+        self.given, self.stores, self.writer_of = configuration.write, stores, writer_of
+        self.waiting, self.counts = waiting, counts
+
+    def require_room(self):
+        if self.waiting() >= self.given.waiting_points:
+            raise Busy("too many points wait for the disk")
+
+    async def take(self, points, outcome):
+        """Stores the points of an iterator, and comes back once all are acknowledged. What can't be stored is told by the outcome. The iterator gives
+        None for what is no point, so that others have their turn however many of these there are.
+
+        Raises Busy, NoRoom, child.Down, child.Lost and asyncio.TimeoutError, behind which some of them are stored and some aren't.
+        """
+        waiting, part = [], []
+        for at, point in enumerate(points, 1):
+            if point is not None:
+                part.append(point)
+            if at % PART == 0:
+                waiting += await self._part(part, outcome)
+                part = []
+        waiting += await self._part(part, outcome)
+        for batch, counts in waiting:
+            refused = await asyncio.wait_for(asyncio.shield(batch.done), self.given.seconds / 10**9)
+            for known, count in counts.items():
+                self._settle(refused.get(known), known, count, outcome)
+        self.counts.add("points_total", outcome.taken)
+        self.counts.add("dropped_points_total", outcome.dropped)
+        self.counts.add("left_out_total", outcome.left_out)
+
+    def _settle(self, refusal, known, count, outcome):
+        if refusal is None:
+            outcome.taken += count
+        elif refusal.number == FULL:
+            raise NoRoom(f"{known.keeper.path} is full")
+        else:
+            outcome.drop(f"{text_of(known.key)}: refusal {refusal.number}", count)
+
+    async def _part(self, points, outcome):
+        """Hands some points to the writers, and gives the batches that they are of, each with how many of each series."""
+        await self._make_missing(points, outcome)
+        slots = {}
+        for point in points:
+            known = self.stores.by_key.get(point.key)
+            if known:
+                self._place(known, point, slots, outcome)
+        batches = {}
+        for known, (values, count) in slots.items():
+            batch = self.writer_of(known.keeper).add(known, values)
+            batches.setdefault(batch, {})[known] = count
+        await self._until_room()
+        return list(batches.items())
+
+    async def _until_room(self):
+        """Others have their turn here; and a request of more points than may wait goes on as the disk takes them."""
+        await asyncio.sleep(0)
+        for _ in range(1000):
+            if self.waiting() < 2 * self.given.waiting_points:
+                return
+            await asyncio.sleep(0.03)
+        raise Busy("the disk is too slow for so many points")
+
+    async def _make_missing(self, points, outcome):
+        missing, claims = {}, {}
+        for point in points:
+            if point.key not in self.stores.by_key:
+                missing.setdefault(point.key, (point.key, point.measurement, point.time))
+            elif point.measurement is not None and point.key not in self.stores.names.measurements:
+                claims[point.key] = point.measurement
+        if claims:
+            await self.stores.claim(list(claims.items()))
+        if missing:
+            refused = await self.stores.make(list(missing.values()))
+            for point in points:
+                if point.key in refused:
+                    outcome.drop(f"{text_of(point.key)}: {refused[point.key]}")
+
+    def _place(self, known, point, slots, outcome):
+        """Puts a point into its slot: the one that its time lies in. The last one of a slot stays."""
+        owner = self.stores.names.measurements.get(known.key)
+        if point.measurement is not None and owner not in (None, point.measurement):
+            outcome.drop(f"{text_of(known.key)} is of the measurement {owner!r}, not of {point.measurement!r}")
+            return
+        slot = (point.time - known.first) // known.gap
+        try:
+            number = number_of(point.value, known.record.scale)
+        except Unfit as why:
+            outcome.drop(f"{text_of(known.key)}: {why}")
+            return
+        if not 0 <= slot <= LAST_SLOT:
+            outcome.drop(f"{text_of(known.key)}: a time lies " + ("before the series' start" if slot < 0 else "too far behind its start"))
+            return
+        values, count = slots.get(known, ({}, 0))
+        values[slot] = number
+        slots[known] = values, count + 1
+
+
+def number_of(value, scale):
+    """The whole number that a series keeps of a value: times 10^scale, rounded half to even. Raises Unfit."""
+    if isinstance(value, int):
+        number = value * 10**scale
+        if not -MOST <= number <= MOST:
+            raise Unfit(f"{value} is too large for the scale {scale}")
+        return number
+    return whole_number(value, scale)[0]
