@@ -8,7 +8,8 @@ import time
 import urllib.parse
 
 from browser_driver import KEYS, Failed, require, wait_for
-from browser_page import PROGRAM, ROOT, SLOTS, START, STEP, edit, served
+from browser_page import PROGRAM, ROOT, SLOTS, START, STEP, edit, make_store, served
+import browser_looks
 import browser_page
 
 # The next answer is no frame, and of the next client the first drawing fails.
@@ -167,14 +168,17 @@ def end_program(page, server):
     page.show("ended")
 
 
-def without_module(browser, store):
+def without_module(browser, folder):
     """Without the module the client in JavaScript draws, and the page says so."""
+    store = os.path.join(folder, "plain.store")
+    make_store(store, SLOTS)
     with served(browser, store, None, "--module", "/nowhere/chart_client.wasm") as (page, _):
         page.open("panel=sea+tide&panel=few")
         said = page.browser.run("const it = document.getElementById('client'); return [it.dataset.proved, it.textContent]")
         require(said == ["false", "Drawn by the client in JavaScript, which isn't proved: its module isn't built."], f"the page says {said}")
         page.compare()
         require(page.browser.run("return document.getElementById('edit').hidden"), "the page asks for edits without --edit")
+        browser_looks.see_crosshair(page)
 
 
 def show_sunspots(browser, folder, screenshots):

@@ -308,11 +308,13 @@ def name_parts(page):
     """What a screen reader tells: each thing that can be used has a role and a name."""
     page.open("panel=sea+tide&panel=few")
     browser = page.browser
+    browser.run("document.querySelectorAll('details').forEach((it) => (it.open = true))")
     wanted = {".plot": "img", ".grip": "separator", "#open_picker": "button", "#last": "combobox", "#from": "textbox", ".panel": "region", "#status": "status"}
     for selector, role in wanted.items():
         element = browser.element(selector)
         got = browser.send(f"/element/{element}/computedrole")
         require(got in (role, "image") if role == "img" else got == role, f"{selector} has the role {got}")
+    browser.run("document.querySelectorAll('[hidden]').forEach((it) => (it.hidden = false))")
     for element in browser.elements("button, input, select, .plot, .grip, .panel"):
         name = browser.send(f"/element/{element}/computedlabel")
         shown = browser.run("return arguments[0].outerHTML.slice(0, 80)", {"element-6066-11e4-a52e-4f735466cecf": element})

@@ -90,11 +90,11 @@ def make_store(store, slots):
     with open(store, "wb") as file:
         file.truncate(4096 * (2048 + slots // 32))
     subprocess.run([PROGRAM, store, "init"], check=True, stdout=subprocess.PIPE)
-    edit(store, f"create sea {START} {STEP} 0", "create few 0 10 0", "append few 4 7 2 - 9", f"create tide {START} {STEP} 1", f"create wind {START} {10 * STEP} 2")
+    edit(store, f"create sea {START} {STEP} 0", "create few 0 10 0", "append few 4 7 2 - 9", f"create tide {START} {10 * STEP} 1", f"create wind {START} {10 * STEP} 2")
     values = values_of(slots)
     load(store, "sea", "".join(f"{START + STEP * slot},{value}\n" for slot, value in enumerate(values)))
     some = values[:: max(1, slots // 3000)]
-    load(store, "tide", "".join(f"{START + STEP * slot},{value / 10:.1f}\n" for slot, value in enumerate(some)))
+    load(store, "tide", "".join(f"{START + 10 * STEP * slot},{1500 - value / 3:.1f}\n" for slot, value in enumerate(some)))
     load(store, "wind", "".join(f"{START + 10 * STEP * slot},{value / 50:.2f}\n" for slot, value in enumerate(reversed(some))))
 
 

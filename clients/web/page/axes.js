@@ -4,7 +4,8 @@ import { floorOf } from "./numbers.js";
 import { rowOf, valueTicks } from "./values.js";
 import { timeTicks } from "./times.js";
 
-const [VALUE_ROOM, TIME_ROOM] = [34, 92]; // pixels that a tick with its text wants
+const [VALUE_ROOM, TIME_ROOM] = [22, 80]; // pixels that a tick with its text wants
+const MOST_VALUES = 9;
 
 /** The places of a pixel's edge and of its middle, in the screen's lengths. */
 const edge = (pixel) => `${pixel / devicePixelRatio}px`;
@@ -15,7 +16,7 @@ export const columnOf = (time, { t0, t1 }, w) => Number(floorOf((time - t0) * Bi
 
 /** The round values of a panel's range, as texts beside the chart, and as lines where a grid is wanted. */
 export function drawValues({ labels, lines }, range, h, hasGrid) {
-  const ticks = range ? valueTicks(range, Math.max(2, Math.floor(h / devicePixelRatio / VALUE_ROOM))) : [];
+  const ticks = range ? valueTicks(range, Math.max(2, Math.min(MOST_VALUES, Math.floor(h / devicePixelRatio / VALUE_ROOM)))) : [];
   const placed = ticks.map(({ value, text }) => ({ pixel: h - 1 - rowOf(value, range, h), text }));
   labels.replaceChildren(...placed.map(({ pixel, text }) => place(make("span", {}, text), "top", middle(pixel))));
   lines.replaceChildren(...(hasGrid ? placed.map(({ pixel }) => place(make("i", { class: "across" }), "top", edge(pixel))) : []));

@@ -69,7 +69,7 @@ function put(id, value) {
 function showLast(asked, unit) {
   const usual = usualLengths(unit).map(([length, text]) => [String(length), text]);
   const own = asked.last !== null && !usual.some(([length]) => length === String(asked.last)) ? [[String(asked.last), "this length, at the end"]] : [];
-  const options = [["", "stays"], ["this", "follows the end"], ...own, ...usual];
+  const options = [["", "fixed"], ["this", "follows the end"], ...own, ...usual];
   const key = JSON.stringify(options);
   if (part("last").dataset.options !== key) {
     part("last").dataset.options = key;
