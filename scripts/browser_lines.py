@@ -65,10 +65,14 @@ def draw_pushes(page):
     page.request(f"set sea {START + 51 * STEP} 0")
 
 
+def end_of_sea(page):
+    return START + STEP * next(int(row.split()[4]) for row in page.program(["list"]).decode().splitlines() if row.startswith("sea "))
+
+
 def follow_end(page):
     """A window stays at the last hour, pauses while somebody looks back, and goes on."""
     page.open("panel=tide&panel=sea&last=3600")
-    end = START + STEP * SLOTS
+    end = end_of_sea(page)
     require(page.window() == (end - 3600, end), f"the last hour is {page.window()}")
     page.do(lambda: page.request("append sea 5"))
     require(page.window() == (end + STEP - 3600, end + STEP), f"behind an append the window is {page.window()}")
@@ -109,15 +113,14 @@ def come_slowly(page):
             return
         wait_for(lambda: page.read()["panels"][0]["covers"][0] not in (None, "0"), "no cover is shown")
         count, pbm, size = read_cover(page)
-        told = {"t0": START, "t1": START + STEP * (SLOTS + 2), "names": ["sea"]}
-        lines = ["open 1 131072", f"view 1 sea {size[0]} {size[1]} {START} {START + STEP} auto", f"view 1 sea {size[0]} {size[1]} {told['t0']} {told['t1']} auto"]
+        lines = ["open 1 131072", *(f"view 1 sea {size[0]} {size[1]} {START} {to} auto" for to in (START + STEP, end_of_sea(page)))]
         frames = page.program(["serve"], "".join(line + "\n" for line in lines).encode())
         covers = subprocess.run([PROGRAM, "-", "cover", count], input=frames, stdout=subprocess.PIPE, check=True).stdout
         require(pbm in covers, f"the canvas isn't the cover after {count} coefficients")
         page.show("cover")
     finally:
         page.browser.send("/chromium/network_conditions", method="DELETE")
-    wait_for(lambda: not page.read()["panels"][0]["covered"] and int(page.read()["panels"][0]["t1"]) == START + STEP * (SLOTS + 2), "the picture doesn't follow its covers")
+    wait_for(lambda: not page.read()["panels"][0]["covered"] and int(page.read()["panels"][0]["t1"]) == end_of_sea(page), "the picture doesn't follow its covers")
     page.compare()
 
 

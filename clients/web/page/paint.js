@@ -18,6 +18,24 @@ function pixelOf(colour) {
 /** The size in device pixels of a length on the screen, as a picture may have it. */
 export const pixelsOf = (length) => Math.max(1, Math.min(4096, Math.floor(length * devicePixelRatio)));
 
+/** Puts a colour in the place of each black pixel. The rows of a picture with `bytes` are looked at by eight pixels, most of them white. */
+function fill(colours, picture, ink) {
+  if (!picture.bytes) {
+    picture.colour(colours, ink, NOTHING);
+    return;
+  }
+  const { bytes, front, size, w } = picture;
+  for (let at = front; at < bytes.length; at += 1) {
+    const row = Math.floor((at - front) / size);
+    const first = row * w + 8 * (at - front - row * size);
+    for (let bits = bytes[at], place = 0; bits > 0; bits = (bits << 1) & 255, place += 1) {
+      if (bits & 128) {
+        colours[first + place] = ink;
+      }
+    }
+  }
+}
+
 /** Puts a picture on a canvas of its own size, in the colour of a place in its panel. */
 export function paint(canvas, picture, place) {
   const start = performance.now();
@@ -28,7 +46,7 @@ export function paint(canvas, picture, place) {
   canvas.style.width = `${picture.w / devicePixelRatio}px`;
   canvas.style.height = `${picture.h / devicePixelRatio}px`;
   const image = new ImageData(picture.w, picture.h);
-  picture.colour(new Uint32Array(image.data.buffer), pixelOf(COLOURS[theme()][place]), NOTHING);
+  fill(new Uint32Array(image.data.buffer), picture, pixelOf(COLOURS[theme()][place]));
   canvas.getContext("2d").putImageData(image, 0, 0);
   performance.measure("chart: canvas", { start });
 }
