@@ -1,5 +1,5 @@
 -- The commands that never call the disk did as their pages say.
-use Rattle.std.proofs.Common.{◌≡◌, ◌≢◌, ◌≤◌, ◌^◌, ℕ, List, length, Option, None, Some, Result, Ok, Err, IfSome, IfErr, OnOk, refl, inl, inr}
+use Rattle.std.proofs.Common.{◌≡◌, ◌≢◌, ◌^◌, ℕ, List, Option, Result, Ok, Err, IfErr, OnOk, refl, inl, inr}
 use Rattle.chart_frames.specs.Frames.{key_number}
 use Rattle.chart_world.specs.LineLaws.{told_so}
 use Rattle.draw_command.proofs.DrawnFrames.{Stay}
@@ -18,7 +18,7 @@ use Rattle.chart_program.specs.Course.{Course, IsDoneOrCut, IsShort, KeptBook, O
 use Rattle.chart_program.specs.Draw.{DrawDoes, Draws, IsFrames, StopsAtKey}
 use Rattle.chart_program.specs.Plot.{IsSlots, OfPlot, PlotDoes}
 use Rattle.chart_program.specs.Plotted.{EndsPlot, SendsPlot, plotting_end}
-use Rattle.chart_program.specs.Replies.{DrawsBook, IsOfReplies}
+use Rattle.chart_program.specs.Replies.{DrawsBook}
 use Rattle.chart_program.specs.Slots.{FirstBad, HasTooMany, IsTooLong, most_slots}
 use Rattle.chart_program.proofs.Codes.{no_bad, no_much}
 use Rattle.chart_program.proofs.DiskKept.{alone_keeps, alone_leaves}

@@ -1,5 +1,4 @@
 -- The page of `check`: every page of the store is read, and what its book holds is counted.
-use Rattle.std.specs.Prelude.{◌+◌}
 use Rattle.run_ends.specs.declared.ending.End.{End}
 use Rattle.run_ends.specs.declared.ending.End.TheVariants.{Done, NoMemory, SendFault, DiskFault, DamagedBlock, DamagedPage, TooSmall}
 use Rattle.store_commands.specs.Checked.{IsBadForCheck, SendsCounts, SendsCountsPart}

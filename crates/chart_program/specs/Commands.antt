@@ -1,11 +1,11 @@
 -- The commands, each with its page; and what is said of the command whose words are given.
-use Rattle.std.specs.Prelude.{◌≡◌, ℕ, ◌⊎◌, List, Option, IfSome, String, ⊤}
+use Rattle.std.specs.Prelude.{◌≡◌, ℕ, ◌⊎◌, List, Option, String, ⊤}
 use Rattle.block_disk.specs.View.{View}
 use Rattle.chart_grid.specs.Limits.{IsSide}
-use Rattle.program_words.specs.Words.{AreWordsOf, ByCommand, IsEvery}
+use Rattle.program_words.specs.Words.{AreWordsOf, IsEvery}
 use Rattle.program_words.specs.declared.words.Command.{Command}
-use Rattle.program_words.specs.declared.words.Command.TheVariants.{Plot, Load, Demo, Run, Serve, Draw, Init, Check, ListSeries, Export}
-use Rattle.program_words.specs.declared.words.Command.TheVariants.{Retain, Cover, Live, Derive}
+use Rattle.program_words.specs.declared.words.Command.TheVariants.{Plot, Demo, Draw, Init, Check, ListSeries, Export}
+use Rattle.program_words.specs.declared.words.Command.TheVariants.{Cover}
 use Rattle.run_ends.specs.Statuses.{status_of}
 use Rattle.run_ends.specs.declared.ending.End.{End}
 use Rattle.run_ends.specs.declared.status.Status.{Status}

@@ -1,5 +1,5 @@
 -- The page of `demo SEED N`: the workload of the seed, of so many rounds, is answered over the store's book, and summed up.
-use Rattle.std.specs.Prelude.{ℕ, ◌≡◌, ◌+◌}
+use Rattle.std.specs.Prelude.{ℕ, ◌≡◌}
 use Rattle.chart_client.specs.declared.errors.ClientError.{ClientError}
 use Rattle.chart_client.specs.declared.errors.ClientError.TheVariants as client
 use Rattle.chart_frames.specs.Frames.{key_number}

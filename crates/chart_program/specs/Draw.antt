@@ -14,11 +14,7 @@ use Rattle.run_ends.specs.declared.ending.End.TheVariants.{BadCoefficient, Unkno
 use Rattle.chart_program.specs.Course.{Course, IsDoneOrCut, IsShort, KeptBook, OfInput, OfLeft}
 use Rattle.chart_program.specs.Replies.{DrawsBook, IsOfReplies}
 
--- the next frame of the input wasn't drawn, for this cause
-abbrev pub Stops : Option ℕ → Course → DrawEnd → Type 0
-Stops every c why = OfInput c (λ input. StopsAtFrame every input c.sent c.sent_now why)
-
--- nor was the next one, for the key of this number
+-- the next frame of the input wasn't drawn, for the key of this number
 abbrev pub StopsAtKey : Option ℕ → Course → (Key → DrawEnd) → ℕ → Type 0
 StopsAtKey every c why number =
     OfInput c (λ input. (key : Key) × (number ≡ key_number key) × StopsAtFrame every input c.sent c.sent_now (why key))
@@ -28,15 +24,15 @@ StopsAtKey every c why number =
 abbrev pub DrawDoes : Option ℕ → Course → End → Type 0
 DrawDoes every c Done =
     IsShort c × OfInput c (λ input. DrawsAll every input c.sent c.sent_now) × OfInput c (λ input. DrawsBook every input c.sent c.sent_now)
-DrawDoes every c NoMemory = Stops every c draw_end.NoMemory
+DrawDoes every c NoMemory = OfInput c (λ input. StopsAtFrame every input c.sent c.sent_now draw_end.NoMemory)
 DrawDoes every c ReadFault = OfInput c (λ input. OfLeft c (λ bytes. DrawsTaken every input bytes c.sent c.sent_now))
-DrawDoes every c SendFault = Stops every c draw_end.SendFault
+DrawDoes every c SendFault = OfInput c (λ input. StopsAtFrame every input c.sent c.sent_now draw_end.SendFault)
 DrawDoes every c (BadInput at) =
     OfInput c (λ input. IsCut every input at c.sent c.sent_now ⊎ StopsAtFrame every input c.sent c.sent_now (draw_end.BadFrame at))
 DrawDoes every c InputTooLong = OfInput c (λ input. DrawsWithin every input c.sent c.sent_now)
 DrawDoes every c (Missing number) = StopsAtKey every c draw_end.Missing number
 DrawDoes every c (BadCoefficient number) = StopsAtKey every c draw_end.BadCoefficient number
-DrawDoes every c (UnknownSession session) = Stops every c (draw_end.UnknownSession session)
+DrawDoes every c (UnknownSession session) = OfInput c (λ input. StopsAtFrame every input c.sent c.sent_now (draw_end.UnknownSession session))
 DrawDoes every c end = ⊥
 
 -- the input is frames, and no more than `draw` takes, and a client rejects none

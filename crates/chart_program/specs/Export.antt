@@ -1,5 +1,5 @@
 -- The page of `export NAME` and `export NAME T0 T1`: the stored values of the series of this name of the store's book are sent.
-use Rattle.std.specs.Prelude.{ℕ, ◌+◌, List, Option, Contains}
+use Rattle.std.specs.Prelude.{ℕ, List, Option, Contains}
 use Rattle.block_disk.specs.Counts.{HasRisen}
 use Rattle.block_disk.specs.View.{View}
 use Rattle.disk_store.specs.Held.{HoldsBook}

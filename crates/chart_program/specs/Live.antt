@@ -1,5 +1,4 @@
 -- The page of `live`: each line of the input is answered over the store's book, and behind an edit its pushes are made.
-use Rattle.std.specs.Prelude.{List}
 use Rattle.live_command.specs.Ended.{LeavesLived, LivesAll, LivesLines, LivesPart, LivesSome, LivesTaken, LivesWithin, ReadsLiving}
 use Rattle.live_command.specs.Ended.{SyncsLiving}
 use Rattle.run_ends.specs.declared.ending.End.{End}

@@ -1,5 +1,5 @@
 -- The page of `load NAME`: the rows of the input are stored in the series of this name of the store's book, and counted.
-use Rattle.std.specs.Prelude.{ℕ, ◌+◌, ◌*◌, ◌≤◌, ◌^◌, List, [], ◌∷◌, length, Contains}
+use Rattle.std.specs.Prelude.{ℕ, ◌+◌, ◌*◌, ◌≤◌, ◌^◌, List, length, Contains}
 use Rattle.block_disk.specs.Counts.{HasRisen}
 use Rattle.block_disk.specs.View.{Image, View}
 use Rattle.disk_store.specs.Held.{HoldsBook}

@@ -1,37 +1,27 @@
 -- What a run of a command does.
-use Rattle.std.specs.Prelude.{◌≡◌, ◌≢◌, ℕ, ℤ, ◌<◌, ◌≤◌, ◌^◌, ◌⊎◌, List, [], ◌∷◌, length, All, Contains, get_or, flat_map, Option, None, Some, IfSome, codes, String, map, string_bytes, ⊤}
-use Rattle.std.specs.List.{filter}
-use Rattle.block_disk.specs.Streams.{sent_after}
-use Rattle.block_disk.specs.View.{Image, View, DiskKept, Honest, Now, Only}
+use Rattle.std.specs.Prelude.{◌≡◌, ◌≢◌, ℕ, ◌<◌, ◌≤◌, ◌^◌, ◌⊎◌, List, [], ◌∷◌, length, Contains, get_or, Option, None, Some, IfSome, codes, String, map, string_bytes, ⊤}
+use Rattle.block_disk.specs.View.{View, DiskKept, Honest}
 use Rattle.gate_pages.specs.Journal.{page_count}
-use Rattle.empty_store.specs.Kept.{LeavesOld}
 use Rattle.empty_store.specs.declared.errors.InitCause.{InitCause}
 use Rattle.empty_store.specs.declared.errors.InitCause.TheVariants as init
-use Rattle.empty_store.specs.Stores.{HasStore, IsNewStore, LeavesNew}
-use Rattle.line_raster.specs.Canvas.{Canvas}
+use Rattle.empty_store.specs.Stores.{HasStore}
 use Rattle.om3_coeff.specs.declared.key.Key.{Key}
-use Rattle.chart_frames.specs.declared.frame.Frame.{Frame}
-use Rattle.chart_frames.specs.Frames.{Fits, spelling, key_number}
+use Rattle.chart_frames.specs.Frames.{key_number}
 use Rattle.chart_client.specs.declared.errors.ClientError.TheVariants as client
-use Rattle.chart_service.specs.State.{State, IsSound}
-use Rattle.chart_service.specs.Serving.{RepliesToAll, told}
 use Rattle.gate_pages.specs.Pages.{GoesOn}
 use Rattle.block_disk.specs.Counts.{HasRisen}
-use Rattle.series_book.specs.declared.one_series.Series.{Series}
 use Rattle.disk_store.specs.Held.{HoldsBook}
-use Rattle.drawn_replies.specs.Pictures.{ArePictured, AreOwnPictured, NoneRejected, names}
 use Rattle.program_words.specs.declared.words.Command.{Command}
 use Rattle.program_words.specs.declared.words.Command.TheVariants.{Plot, Load, Demo, Run, Serve, Draw, Init, Check, ListSeries, Export, Retain, Cover, Live, Derive}
 use Rattle.draw_command.specs.declared.draw_end.DrawEnd.TheVariants as draw_end
 use Rattle.program_words.specs.CommandLine.{plain_words}
-use Rattle.program_words.specs.Words.{AreCommand, ByCommand, IsEvery, Spells}
+use Rattle.program_words.specs.Words.{AreCommand, ByCommand, Spells}
 use Rattle.run_ends.specs.declared.ending.End.{End}
 use Rattle.run_ends.specs.declared.ending.End.TheVariants as ends
 use Rattle.run_ends.specs.declared.status.Status.{Status}
 use Rattle.store_commands.specs.Traffic.{Traffic}
 use Rattle.store_commands.specs.Away.{IsTurnedAway}
-use Rattle.chart_grid.specs.Limits.{IsSide}
-use Rattle.chart_program.specs.Slots.{SpellsAll, FirstBad, HasTooMany, IsTooLong, StoppedBefore, most_slots}
+use Rattle.chart_program.specs.Slots.{FirstBad, HasTooMany, IsTooLong, StoppedBefore, most_slots}
 use Rattle.chart_program.specs.Plotted.{SendsPlot, SendsFront}
 use Rattle.chart_program.specs.Served.{Faults, faults_of, AreTexts, Spelled, AnswersAll, AnswersFront, AnswersTaken, AnswersWithin, AnswersSome, AnswersLines, LeavesBooks, ReadsServing, SyncsServing, IsRejected}
 use Rattle.store_commands.specs.Books.{FromBook, HoldsAgain, Never, LeavesSame}
@@ -42,20 +32,12 @@ use Rattle.store_commands.specs.Exported.{ExportsAll, ExportsPart, HasNone, IsBa
 use Rattle.store_commands.specs.Demonstrated.{SendsSummary, SendsSummaryPart, AnswersFirst, LeavesDemo}
 use Rattle.demo_workload.specs.Ending.{MeetsError}
 use Rattle.demo_workload.specs.Workload.{workload}
-use Rattle.series_load.specs.Ends.{IsAtBad, IsAtRefusal}
-use Rattle.series_load.specs.Sets.{IsNamed}
-use Rattle.series_book.specs.declared.refusals.Refusal.{Refusal}
 use Rattle.stored_book.specs.Damage.{IsBadForEdit, IsBadForRequest}
-use Rattle.retention.specs.declared.rule.Rule.{Rule}
-use Rattle.retain_command.specs.Answers.{AreRules}
 use Rattle.retain_command.specs.Retained.{LeavesSwept, RetainsAll, RetainsLines, RetainsPart, RetainsSome, RetainsTaken, RetainsToBad, RetainsToUnknown, RetainsWithin}
 use Rattle.live_command.specs.Ended.{LeavesLived, LivesAll, LivesLines, LivesPart, LivesSome, LivesTaken, LivesWithin, ReadsLiving, SyncsLiving}
 use Rattle.derive_command.specs.Derived.{DerivesAll, DerivesFirst, DerivesPart, DerivesTaken, DerivesToBad, DerivesToRefused, DerivesWithin}
-use Rattle.derive_command.specs.Lines.{AreAnswers}
 use Rattle.store_commands.specs.Damaged.{IsDamagedAtFirst, IsDamagedPlace}
 use Rattle.chart_program.specs.CommandStatuses.{codes_of, IsOverStore, TakesNone, Bars}
-use Rattle.chart_client.specs.declared.holding.Holding.{Holding}
-use Rattle.draw_command.specs.Covers.{picture_bytes, SendsFrames}
 use Rattle.draw_command.specs.Draws.{DrawsAll, DrawsTaken, DrawsWithin, IsCut, StopsAtFrame}
 pub use Rattle.chart_program.specs.Commands.{HasOperands, IsUnread}
 pub use Rattle.chart_program.specs.Course.{StandsOn}

@@ -1,5 +1,4 @@
 use Rattle.std.proofs.Common.{◌⊎◌, ◌≡◌, ap, subst, sym, ◌∙◌}
-use Rattle.block_disk.specs.Counts.{HasRisen}
 use Rattle.block_disk.specs.View.{Beside}
 use Rattle.chart_world.specs.Faults.{CountsFault}
 use Rattle.chart_world.specs.FaultLaws.{counts_no_disk}

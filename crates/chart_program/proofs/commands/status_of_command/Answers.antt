@@ -5,7 +5,7 @@ use Rattle.run_ends.specs.declared.status.Status.{Status}
 use Rattle.store_commands.specs.Faulting.{counts_end}
 use Rattle.chart_program.specs.Served.{faults_of}
 use Rattle.chart_program.specs.Commands.{Does}
-use Rattle.chart_program.specs.Course.{Course, course}
+use Rattle.chart_program.specs.Course.{course}
 use Rattle.chart_program.specs.Ran.{CommandEnds}
 use Rattle.chart_program.proofs.StorePages.{of_check, of_demo, of_export, of_init, of_list}
 use Rattle.chart_program.proofs.CommandsEnd.{load_ends, run_ends, serve_ends}

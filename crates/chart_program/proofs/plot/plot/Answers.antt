@@ -10,7 +10,6 @@ use Rattle.chart_service.proofs.Outcomes.{ok_err}
 use Rattle.chart_program.specs.declared.input.InputEnd.{InputEnd}
 use Rattle.chart_program.specs.declared.plot.PlotEnd.{PlotEnd}
 use Rattle.chart_program.specs.declared.plot.PlotEnd.TheVariants.{Input, SendFault}
-use Rattle.chart_program.specs.declared.input.InputEnd.TheVariants as input
 use Rattle.chart_program.specs.Faulting.{plot_fault}
 use Rattle.chart_program.specs.Plotted.{EndsPlot}
 use Rattle.chart_program.proofs.Faults.{counts_slots}
