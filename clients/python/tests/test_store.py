@@ -63,6 +63,7 @@ class OverAStore(unittest.TestCase):
             picture = store.session().view("a", 4, 4, 0, 6)
         self.assertEqual(picture.to_pbm(), bytes.fromhex("50340a3420340a20404080"))
         self.assertEqual(bytes(picture.pixels), b"1000" b"0100" b"0100" b"0010")
+        self.assertEqual(repr(picture), "<Picture: a, 1970-01-01T00:00:00Z to 1970-01-01T00:00:06Z, 4 by 4 pixels, 0.0 to 3.0>")
 
     def test_the_png_holds_the_pixels(self):
         with self.store() as store:
