@@ -14,7 +14,7 @@ def names_shown(page):
 
 
 def rows(page):
-    return page.browser.run("return [...document.querySelectorAll('#rows tr')].map((row) => [...row.children].slice(1).map((cell) => cell.textContent))")
+    return page.browser.run("return [...document.querySelectorAll('#rows tr')].map((row) => [...row.cells].slice(1).map((it) => it.textContent))")
 
 
 def list_series(page):
@@ -169,7 +169,8 @@ def see_crosshair(page):
     page.press(KEYS["shift"], KEYS["right"])
     inside = column_values(1, columns)
     said = page.read()["aloud"]
-    require(f"sea {min(inside)} to {max(inside)}".replace("-", "−") in said and said.startswith("2023-01-01 00:"), f"by keys it is told as {said!r}")
+    told = f"sea {min(inside)} to {max(inside)}".replace("-", "−")
+    require(told in said and said.startswith("2023-01-01 00:"), f"by keys it is told as {said!r}")
     page.show("crosshair")
     page.press(KEYS["escape"])
     require(page.read()["moment"] == "", "Escape doesn't take the line away")
@@ -309,7 +310,7 @@ def name_parts(page):
     page.open("panel=sea+tide&panel=few")
     browser = page.browser
     browser.run("document.querySelectorAll('details').forEach((it) => (it.open = true))")
-    wanted = {".plot": "img", ".grip": "separator", "#open_picker": "button", "#last": "combobox", "#from": "textbox", ".panel": "region", "#status": "status"}
+    wanted = {".plot": "img", ".grip": "separator", "#open_picker": "button", "#last": "combobox", "#from": "textbox", ".panel": "region"}
     for selector, role in wanted.items():
         element = browser.element(selector)
         got = browser.send(f"/element/{element}/computedrole")
