@@ -305,6 +305,16 @@ def go_by_keys(page):
     require(page.read()["aloud"].startswith("sea from 2023-01-"), f"what is shown isn't told: {page.read()['aloud']!r}")
 
 
+def name_nothing(page):
+    """A series that isn't there is told in its panel; the others are drawn."""
+    page.open("panel=nothing+sea&panel=sea")
+    told = page.read()["panels"]
+    require(told[0]["fault"] == "no series has the name nothing" and told[1]["fault"] == "", f"the page says {told}")
+    require(told[0]["drawings"] == 0 and told[1]["drawings"] > 0, f"drawn were {told}")
+    page.open("panel=nothing")
+    require(page.read()["panels"][0]["fault"] == "no series has the name nothing", "a series that isn't there isn't told")
+
+
 def name_parts(page):
     """What a screen reader tells: each thing that can be used has a role and a name."""
     page.open("panel=sea+tide&panel=few")
@@ -326,5 +336,5 @@ def name_parts(page):
 
 STEPS = (
     list_series, choose_several, arrange_panels, fix_range, share_a_link, name_client, see_axes, see_crosshair, drag_zoom, pan, turn_wheel, go_back,
-    name_window, type_filter, resize, darken, go_by_keys, name_parts,
+    name_window, type_filter, resize, darken, go_by_keys, name_nothing, name_parts,
 )  # fmt: skip
