@@ -120,7 +120,7 @@ def come_slowly(page):
         page.show("cover")
     finally:
         page.browser.send("/chromium/network_conditions", method="DELETE")
-    wait_for(lambda: not page.read()["panels"][0]["covered"] and int(page.read()["panels"][0]["t1"]) == end_of_sea(page), "the picture doesn't follow its covers")
+    wait_for(lambda: not page.read()["panels"][0]["covered"] and page.window()[1] == end_of_sea(page), "the picture doesn't follow its covers")
     page.compare()
 
 
@@ -134,7 +134,8 @@ def wait_for_place(browser, store, folder, screenshots):
             stream.request("POST", "/events", str(number), {"X-Chart-Token": page.token})
             streams.append((stream, stream.getresponse()))
         browser.send("/url", {"url": f"{page.address.partition('?')[0]}?panel=sea#{page.fragment}"})
-        wait_for(lambda: page.read()["state"] == "waiting" and "Sixteen pages look at this store" in page.read()["why"], "a seventeenth viewer isn't told why")
+        wait_for(lambda: "Sixteen pages look at this store" in page.read()["why"], "a seventeenth viewer isn't told why")
+        require(page.read()["state"] == "waiting", "the page doesn't say that it waits")
         page.show("waiting")
         streams[3][1].close()
         streams[3][0].close()
@@ -150,7 +151,8 @@ def lose_line(browser, store, folder, screenshots):
         port = urllib.parse.urlsplit(page.address).port
         server.terminate()
         server.wait()
-        wait_for(lambda: page.read()["state"] == "cut" and re.match(r"Cut off since \d\d:\d\d:\d\d$", page.read()["status"]), lambda: f"the page says {page.read()['status']}")
+        wait_for(lambda: page.read()["state"] == "cut", lambda: f"the page says {page.read()['status']}")
+        require(re.fullmatch(r"Cut off since \d\d:\d\d:\d\d", page.read()["status"]), f"the page says {page.read()['status']}")
         page.show("cut")
         edit(store, "append sea 77")
     with served(browser, store, screenshots, "--edit", "--token-file", token, "--port", str(port)) as (page, server):
@@ -164,7 +166,7 @@ def end_program(page, server):
     with open(f"/proc/{server.pid}/task/{server.pid}/children", encoding="ascii") as file:
         child = int(file.read())
     os.kill(child, signal.SIGKILL)
-    wait_for(lambda: "the program has ended with status -9" in page.read()["why"], lambda: f"the page doesn't say that the program has ended: {page.read()['why']!r}")
+    wait_for(lambda: "the program has ended with status -9" in page.read()["why"], lambda: f"the page says {page.read()['why']!r}")
     require(page.read()["state"] == "ended", "the page doesn't say that it is ended")
     with open(f"/proc/{server.pid}/task/{server.pid}/children", encoding="ascii") as file:
         require(file.read() == "", "another program was started")

@@ -14,7 +14,7 @@ def names_shown(page):
 
 
 def rows(page):
-    return page.browser.run("return [...document.querySelectorAll('#rows tr')].map((row) => [...row.children].slice(1).map((cell) => cell.textContent))")
+    return page.browser.run("return [...document.querySelectorAll('#rows tr')].map((row) => [...row.cells].slice(1).map((it) => it.textContent))")
 
 
 def list_series(page):
@@ -169,7 +169,8 @@ def see_crosshair(page):
     page.press(KEYS["shift"], KEYS["right"])
     inside = column_values(1, columns)
     said = page.read()["aloud"]
-    require(f"sea {min(inside)} to {max(inside)}".replace("-", "−") in said and said.startswith("2023-01-01 00:"), f"by keys it is told as {said!r}")
+    told = f"sea {min(inside)} to {max(inside)}".replace("-", "−")
+    require(told in said and said.startswith("2023-01-01 00:"), f"by keys it is told as {said!r}")
     page.show("crosshair")
     page.press(KEYS["escape"])
     require(page.read()["moment"] == "", "Escape doesn't take the line away")
@@ -304,12 +305,22 @@ def go_by_keys(page):
     require(page.read()["aloud"].startswith("sea from 2023-01-"), f"what is shown isn't told: {page.read()['aloud']!r}")
 
 
+def name_nothing(page):
+    """A series that isn't there is told in its panel; the others are drawn."""
+    page.open("panel=nothing+sea&panel=sea")
+    told = page.read()["panels"]
+    require(told[0]["fault"] == "no series has the name nothing" and told[1]["fault"] == "", f"the page says {told}")
+    require(told[0]["drawings"] == 0 and told[1]["drawings"] > 0, f"drawn were {told}")
+    page.open("panel=nothing")
+    require(page.read()["panels"][0]["fault"] == "no series has the name nothing", "a series that isn't there isn't told")
+
+
 def name_parts(page):
     """What a screen reader tells: each thing that can be used has a role and a name."""
     page.open("panel=sea+tide&panel=few")
     browser = page.browser
     browser.run("document.querySelectorAll('details').forEach((it) => (it.open = true))")
-    wanted = {".plot": "img", ".grip": "separator", "#open_picker": "button", "#last": "combobox", "#from": "textbox", ".panel": "region", "#status": "status"}
+    wanted = {".plot": "img", ".grip": "separator", "#open_picker": "button", "#last": "combobox", "#from": "textbox", ".panel": "region"}
     for selector, role in wanted.items():
         element = browser.element(selector)
         got = browser.send(f"/element/{element}/computedrole")
@@ -325,5 +336,5 @@ def name_parts(page):
 
 STEPS = (
     list_series, choose_several, arrange_panels, fix_range, share_a_link, name_client, see_axes, see_crosshair, drag_zoom, pan, turn_wheel, go_back,
-    name_window, type_filter, resize, darken, go_by_keys, name_parts,
+    name_window, type_filter, resize, darken, go_by_keys, name_nothing, name_parts,
 )  # fmt: skip

@@ -58,7 +58,8 @@ const panels = [...document.querySelectorAll(".panel")].map((it) => {
     fault: it.querySelector(".fault").textContent, covered: !it.querySelector(".covered").hidden,
     names: [...it.querySelectorAll("canvas")].map((canvas) => canvas.dataset.name),
     covers: [...it.querySelectorAll("canvas")].map((canvas) => canvas.dataset.cover ?? null),
-    values: texts(it, ".legend output"), ticks: [...it.querySelectorAll(".values span")].map((tick) => [tick.textContent, parseFloat(tick.style.top)]),
+    values: texts(it, ".legend output"),
+    ticks: [...it.querySelectorAll(".values span")].map((tick) => [tick.textContent, parseFloat(tick.style.top)]),
     lines: it.querySelectorAll(".grid i").length,
   };
 });
@@ -90,7 +91,8 @@ def make_store(store, slots):
     with open(store, "wb") as file:
         file.truncate(4096 * (2048 + slots // 32))
     subprocess.run([PROGRAM, store, "init"], check=True, stdout=subprocess.PIPE)
-    edit(store, f"create sea {START} {STEP} 0", "create few 0 10 0", "append few 4 7 2 - 9", f"create tide {START} {10 * STEP} 1", f"create wind {START} {10 * STEP} 2")
+    edit(store, f"create sea {START} {STEP} 0", "create few 0 10 0", "append few 4 7 2 - 9")
+    edit(store, f"create tide {START} {10 * STEP} 1", f"create wind {START} {10 * STEP} 2")
     values = values_of(slots)
     load(store, "sea", "".join(f"{START + STEP * slot},{value}\n" for slot, value in enumerate(values)))
     some = values[:: max(1, slots // 3000)]

@@ -89,6 +89,14 @@ class Served:
         self.process.communicate(timeout=SECONDS)
 
 
+def run_served(*words, server=os.path.join(HERE, "serve.py"), **more):
+    """A serve.py that ends by itself."""
+    run = subprocess.run([sys.executable, server, *words], capture_output=True, timeout=SECONDS, check=False, **more)
+    if b"Traceback" in run.stderr:
+        raise AssertionError(run.stderr.decode())
+    return run
+
+
 def read_until(stream, wanted):
     """What a stream gives until a text is among it."""
     data = b""
@@ -287,20 +295,15 @@ class Starts(unittest.TestCase):
         self.folder = tempfile.mkdtemp()
         self.addCleanup(shutil.rmtree, self.folder)
 
-    def run_served(self, *words):
-        run = subprocess.run([sys.executable, os.path.join(HERE, "serve.py"), *words], capture_output=True, timeout=SECONDS, check=False)
-        self.assertNotIn(b"Traceback", run.stderr)
-        return run
-
     def test_a_store_that_is_none_ends_it_with_the_programs_status_and_words(self):
-        missing = self.run_served(os.path.join(self.folder, "no.store"), "--program", PROGRAM)
+        missing = run_served(os.path.join(self.folder, "no.store"), "--program", PROGRAM)
         self.assertEqual((missing.returncode, missing.stdout), (6, b""))
         self.assertIn(b"status 6 at 0. The store's file can't be opened", missing.stderr)
         store = made_store(self.folder)
         with open(store, "r+b") as file:
             file.seek(66 * 4096)
             file.write(b"no store")
-        damaged = self.run_served(store, "--program", PROGRAM)
+        damaged = run_served(store, "--program", PROGRAM)
         self.assertEqual((damaged.returncode, damaged.stdout), (7, b""))
         self.assertIn(b"status 7 at 66", damaged.stderr)
 
@@ -310,13 +313,13 @@ class Starts(unittest.TestCase):
             taken.bind(("127.0.0.1", 0))
             taken.listen()
             for port in (taken.getsockname()[1], 99999, -1):
-                run = self.run_served(store, "--program", PROGRAM, "--port", str(port))
+                run = run_served(store, "--program", PROGRAM, "--port", str(port))
                 self.assertEqual((run.returncode, run.stderr.count(b"\n")), (1, 1), run.stderr)
                 self.assertIn(b"port %d can't be had" % port, run.stderr)
 
     def test_a_program_that_isnt_there_and_one_that_isnt_built(self):
         store = made_store(self.folder)
-        run = self.run_served(store, "--program", os.path.join(self.folder, "no"))
+        run = run_served(store, "--program", os.path.join(self.folder, "no"))
         self.assertEqual((run.returncode, run.stderr.count(b"\n")), (1, 1), run.stderr)
         copy = os.path.join(self.folder, "copy")
         for part in ("clients/web", "scripts", "docs"):
@@ -324,7 +327,7 @@ class Starts(unittest.TestCase):
         with open(os.path.join(copy, "chart"), "w", encoding="ascii") as file:
             file.write('#!/bin/sh\n[ "$1" = --version ] && echo "chart 1, commit x, to be built" || touch built\n')
         os.chmod(file.name, 0o755)
-        run = subprocess.run([sys.executable, os.path.join(copy, "clients/web/serve.py"), store], capture_output=True, timeout=SECONDS, check=False, cwd=copy)
+        run = run_served(store, server=os.path.join(copy, "clients/web/serve.py"), cwd=copy)
         self.assertEqual((run.returncode, os.path.exists(os.path.join(copy, "built"))), (1, False))
         self.assertIn(b"the program isn't built", run.stderr)
 
@@ -366,7 +369,7 @@ class Tokens(unittest.TestCase):
             served.end()
         self.assertEqual((len(tokens[0]), tokens[0], os.stat(path).st_mode & 0o777), (32, tokens[1], 0o600))
         os.chmod(path, 0o644)
-        run = subprocess.run([sys.executable, os.path.join(HERE, "serve.py"), self.store, "--program", PROGRAM, "--token-file", path], capture_output=True, timeout=SECONDS, check=False)
+        run = run_served(self.store, "--program", PROGRAM, "--token-file", path)
         self.assertEqual(run.returncode, 1)
         self.assertIn(b"can be read by others", run.stderr)
 
@@ -379,7 +382,8 @@ class Tokens(unittest.TestCase):
         self.assertEqual(served.ask("GET", "/?panel=a")[0], 200)
         with open(log, encoding="utf-8") as file:
             text = file.read()
-        self.assertEqual([re.sub(r".*\] ", "", line) for line in text.splitlines()], ['"POST /request" 200 -', '"POST /request" 403 -', '"GET /" 200 -'])
+        told = [re.sub(r".*\] ", "", line) for line in text.splitlines()]
+        self.assertEqual(told, ['"POST /request" 200 -', '"POST /request" 403 -', '"GET /" 200 -'])
         self.assertNotIn(served.token, text)
 
 

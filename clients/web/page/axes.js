@@ -18,8 +18,8 @@ export const columnOf = (time, { t0, t1 }, w) => Number(floorOf((time - t0) * Bi
 export function drawValues({ labels, lines }, range, h, hasGrid) {
   const ticks = range ? valueTicks(range, Math.max(2, Math.min(MOST_VALUES, Math.floor(h / devicePixelRatio / VALUE_ROOM)))) : [];
   const placed = ticks.map(({ value, text }) => ({ pixel: h - 1 - rowOf(value, range, h), text }));
-  labels.replaceChildren(...placed.map(({ pixel, text }) => place(make("span", {}, text), "top", middle(pixel))));
-  lines.replaceChildren(...(hasGrid ? placed.map(({ pixel }) => place(make("i", { class: "across" }), "top", edge(pixel))) : []));
+  put(labels, placed, ({ pixel, text }) => place(make("span", {}, text), "top", middle(pixel)));
+  put(lines, hasGrid ? placed : [], ({ pixel }) => place(make("i", { class: "across" }), "top", edge(pixel)));
 }
 
 /** The round times of a window, with their places on w columns. */
@@ -29,11 +29,20 @@ export function placedTimes(window, w, how) {
 }
 
 export function drawTimeLines(lines, placed) {
-  lines.replaceChildren(...placed.map(({ pixel }) => place(make("i", { class: "down" }), "left", edge(pixel))));
+  put(lines, placed, ({ pixel }) => place(make("i", { class: "down" }), "left", edge(pixel)));
 }
 
 export function drawTimes(labels, placed) {
-  labels.replaceChildren(...placed.map(({ pixel, text }) => place(make("span", {}, text), "left", middle(pixel))));
+  put(labels, placed, ({ pixel, text }) => place(make("span", {}, text), "left", middle(pixel)));
+}
+
+/** Puts an element for each tick into a parent, where they aren't there already. */
+function put(parent, placed, elementOf) {
+  const key = `${devicePixelRatio} ${placed.map(({ pixel, text }) => `${pixel} ${text}`)}`;
+  if (parent.dataset.ticks !== key) {
+    parent.dataset.ticks = key;
+    parent.replaceChildren(...placed.map(elementOf));
+  }
 }
 
 function place(element, side, where) {

@@ -68,7 +68,8 @@ function put(id, value) {
 /** Shows what is asked for in the list of lengths. */
 function showLast(asked, unit) {
   const usual = usualLengths(unit).map(([length, text]) => [String(length), text]);
-  const own = asked.last !== null && !usual.some(([length]) => length === String(asked.last)) ? [[String(asked.last), "this length, at the end"]] : [];
+  const isUsual = asked.last === null || usual.some(([length]) => length === String(asked.last));
+  const own = isUsual ? [] : [[String(asked.last), "this length, at the end"]];
   const options = [["", "fixed"], ["this", "follows the end"], ...own, ...usual];
   const key = JSON.stringify(options);
   if (part("last").dataset.options !== key) {

@@ -38,7 +38,8 @@ export class Crosshair {
 
   /** What each series has in the column, in words. */
   values() {
-    return this.page.panels.flatMap(({ traces }) => traces.filter(({ value }) => value.textContent).map(({ name, value }) => `${name} ${value.textContent}`));
+    const traces = this.page.panels.flatMap((panel) => panel.traces).filter(({ value }) => value.textContent);
+    return traces.map(({ name, value }) => `${name} ${value.textContent}`);
   }
 
   /** Shows it where it is, also behind a drawing. */

@@ -20,7 +20,9 @@ export function make(tag, { on = {}, ...attributes } = {}, ...children) {
 }
 
 /** A button with a sign that names what it does. */
-export const signButton = (sign, label, press, more = {}) => make("button", { type: "button", class: "sign", "aria-label": label, title: label, on: { click: press }, ...more }, sign);
+export function signButton(sign, label, press, more = {}) {
+  return make("button", { type: "button", class: "sign", "aria-label": label, title: label, on: { click: press }, ...more }, sign);
+}
 
 /** Puts a text into an element where it isn't there already, so that nothing is told twice. */
 export function tell(element, text) {

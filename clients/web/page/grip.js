@@ -6,7 +6,8 @@ const MOST_HEIGHT = 2000;
 const STEP = 20; // pixels of an arrow key
 
 export function makeGrip(panel, end) {
-  const grip = make("div", { class: "grip", role: "separator", tabindex: 0, "aria-orientation": "horizontal", "aria-label": `Height of panel ${panel.number + 1}` });
+  const named = { "aria-label": `Height of panel ${panel.number + 1}`, "aria-orientation": "horizontal" };
+  const grip = make("div", { class: "grip", role: "separator", tabindex: 0, ...named });
   const within = (height) => Math.round(Math.max(LEAST_HEIGHT, Math.min(MOST_HEIGHT, height)));
   let from = null; // where a drag began, and the height then
   const dragged = (event) => within(from.height + event.clientY - from.y);

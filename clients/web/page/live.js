@@ -8,6 +8,9 @@ const LASTED = 10000; // from which on a line stood well, so that the next try f
 const TURN = 30000; // until a page that gave way tries again by itself
 const LATE = 1000; // until a change that isn't drawn makes the page behind
 
+const FULL =
+  "Sixteen pages look at this store, as many as it takes at once. This one begins as soon as one of them goes or is idle for a minute.";
+
 const later = (time) => new Promise((done) => setTimeout(done, time));
 const input = () => new Promise((done) => ["pointerdown", "keydown"].forEach((name) => addEventListener(name, done, { once: true })));
 
@@ -62,7 +65,7 @@ export class Line {
 
   fail(error) {
     if (error.frame?.number === TOO_MANY_SESSIONS) {
-      this.status.is("waiting", "Sixteen pages look at this store, as many as it takes at once. This one begins as soon as one of them goes or is idle for a minute.");
+      this.status.is("waiting", FULL);
     } else if (error instanceof Denied && error.status > 0) {
       this.status.is(error.status === 503 ? "ended" : "cut", `Nothing more is drawn: ${error.message}.`);
     } else {

@@ -50,7 +50,8 @@ export class Panel {
     this.settings = this.makeSettings();
     this.grip = makeGrip(this, (height) => does.change({ height }));
     const body = make("div", { class: "body" }, this.labels, this.plot);
-    this.element = make("section", { class: "panel", "aria-label": `Panel ${number + 1}: ${names.join(", ")}` }, this.makeHead(), this.settings, this.fault, body, this.grip);
+    const label = `Panel ${number + 1}: ${names.join(", ")}`;
+    this.element = make("section", { class: "panel", "aria-label": label }, this.makeHead(), this.settings, this.fault, body, this.grip);
   }
 
   makePlot() {
@@ -63,15 +64,20 @@ export class Panel {
   makeHead() {
     const { does, spec, number } = this;
     const named = (what) => `${what} panel ${number + 1}`;
-    const settings = signButton("⚙", named("Settings of"), () => this.openSettings(this.settings.hidden), { "aria-expanded": "false" });
-    const tools = [settings, signButton("↑", named("Move up"), does.up), signButton("↓", named("Move down"), does.down), signButton("✕", named("Remove"), does.remove)];
-    this.opener = settings;
-    this.note = make("span", { class: "note" }, [spec.filter && `where ${spec.filter}`, spec.range && `range ${spec.range}`].filter(Boolean).join("; "));
-    return make("header", {}, make("ul", { class: "legend" }, ...this.traces.map(({ entry }) => entry)), this.note, make("span", { class: "tools" }, ...tools));
+    const open = () => this.openSettings(this.settings.hidden);
+    this.opener = signButton("⚙", named("Settings of"), open, { "aria-expanded": "false" });
+    const moves = [["↑", "Move up", does.up], ["↓", "Move down", does.down], ["✕", "Remove", does.remove]]; // prettier-ignore
+    const tools = [this.opener, ...moves.map(([sign, what, press]) => signButton(sign, named(what), press))];
+    const notes = [spec.filter && `where ${spec.filter}`, spec.range && `range ${spec.range}`].filter(Boolean);
+    const legend = make("ul", { class: "legend" }, ...this.traces.map(({ entry }) => entry));
+    return make("header", {}, legend, make("span", { class: "note" }, notes.join("; ")), make("span", { class: "tools" }, ...tools));
   }
 
   makeSettings() {
-    const field = (name, label, hint) => make("label", {}, label, make("input", { name, value: this.spec[name], placeholder: hint, autocomplete: "off", spellcheck: "false" }));
+    const field = (name, label, placeholder) => {
+      const input = make("input", { name, value: this.spec[name], placeholder, autocomplete: "off", spellcheck: "false" });
+      return make("label", {}, label, input);
+    };
     const submit = (event) => {
       event.preventDefault();
       const { filter, range } = event.target.elements;
@@ -90,8 +96,11 @@ export class Panel {
   }
 
   setHeight(height) {
-    this.plot.style.height = `${height}px`;
-    this.grip.setAttribute("aria-valuenow", String(Math.round(height)));
+    if (this.height !== height) {
+      this.height = height;
+      this.plot.style.height = `${height}px`;
+      this.grip.setAttribute("aria-valuenow", String(Math.round(height)));
+    }
   }
 
   /** The size of its pictures. */

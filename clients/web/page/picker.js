@@ -76,7 +76,9 @@ export class Picker {
   /** Asks for the last values of some series of the list, and shows them. */
   async findLasts(series) {
     await this.page.catalog.findLasts(series, this.page.connection).catch(() => {});
-    series.forEach(({ name, scale }) => tell(this.rows.get(name)?.lastElementChild ?? make("td"), lastText(this.page.catalog.lasts.get(name), scale)));
+    for (const { name, scale } of series.filter(({ name }) => this.rows.has(name))) {
+      tell(this.rows.get(name).lastElementChild, lastText(this.page.catalog.lasts.get(name), scale));
+    }
   }
 
   /** Shows what changed of series that are listed, at most once a second. */

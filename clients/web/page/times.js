@@ -6,6 +6,8 @@ import { roundNumbers, sizeOf, wholeNumber } from "./numbers.js";
 
 const [SECOND, MINUTE, HOUR, DAY] = [1000, 60000, 3600000, 86400000];
 const MONTHS = ["Jan", "Feb", "Mar", "Apr", "May", "Jun", "Jul", "Aug", "Sep", "Oct", "Nov", "Dec"];
+// A date, and perhaps a time of day, to the minute, the second or its parts.
+const DATE = /^(\d{1,6})-(\d{1,2})-(\d{1,2})(?:[ T](\d{1,2}):(\d{2})(?::(\d{2})(?:\.(\d{1,3}))?)?)?(?: ?UTC)?$/;
 const LATEST = 8640000000000000; // milliseconds that a date has room for
 const MONDAY = 4 * DAY; // the first Monday of 1970
 const STEPS = [
@@ -59,13 +61,13 @@ export function spelled(time, { unit, zone }) {
 /** The time that a text names, as `spelled` writes it or shorter, or as a number; null where it is none. */
 export function timeOf(text, { unit, zone }) {
   const number = wholeNumber(text.trim());
-  const found = /^([0-9]{1,6})-([0-9]{1,2})-([0-9]{1,2})(?:[ T]([0-9]{1,2}):([0-9]{2})(?::([0-9]{2})(?:\.([0-9]{1,3}))?)?)?(?: ?UTC)?$/.exec(text.trim());
+  const found = DATE.exec(text.trim());
   if (number !== null || !found || unit === "numbers") {
     return number;
   }
   const [year, month, day, hour, minute, second] = found.slice(1, 7).map((part) => Number(part ?? 0));
-  const shown = new Date(0).setUTCFullYear(year, month - 1, day) + hour * HOUR + minute * MINUTE + second * SECOND + Number((found[7] ?? "").padEnd(3, "0"));
-  const moment = momentOf(shown, zone);
+  const ofDay = hour * HOUR + minute * MINUTE + second * SECOND + Number((found[7] ?? "").padEnd(3, "0"));
+  const moment = momentOf(new Date(0).setUTCFullYear(year, month - 1, day) + ofDay, zone);
   return Number.isNaN(moment) ? null : BigInt(Math.floor(moment / millisecondsIn(unit)));
 }
 

@@ -22,6 +22,7 @@ MOST_BYTES = 65536  # of a body
 READING = (b"open", b"close", b"view", b"zoom", b"pan")
 MOST_STREAMS = 48
 BEAT = 5  # seconds from one sign of life on a stream to the next
+REST = 0.02  # and at least from what changed to what changes next, so that many edits are told together
 HEADERS = {
     "Content-Security-Policy": "default-src 'none'; script-src 'self' 'wasm-unsafe-eval'; style-src 'self'; connect-src 'self'; "
     "base-uri 'none'; form-action 'none'; frame-ancestors 'none'",
@@ -196,6 +197,7 @@ class Handler(http.server.BaseHTTPRequestHandler):
             seen, series = changes.since(seen, 1)
             if series:
                 self.event("changed", [told(one) for one in series])
+                time.sleep(REST)
 
     def event(self, name, value):
         self.wfile.write(f"event: {name}\ndata: {json.dumps(value)}\n\n".encode())
