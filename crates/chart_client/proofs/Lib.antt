@@ -9,6 +9,7 @@ pub mod Usable
 pub mod Found
 pub mod Places
 pub mod Viewed
+pub mod Spanned
 pub mod Standing
 pub mod Grids
 pub mod Answered

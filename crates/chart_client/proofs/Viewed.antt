@@ -1,7 +1,7 @@
 -- What a view that is drawn shows.
 use Rattle.std.proofs.Common.{ℕ, ℤ, ◌≡◌, ◌<◌, List, refl, sym, ◌∙◌, ap, subst, arith}
 use Rattle.std.proofs.Math.ListN.{set}
-use Rattle.std.specs.Prelude.{Option, Some, Result, Ok, Err, IfOk, IfErr, IsErrAnd, IsSome}
+use Rattle.std.specs.Prelude.{Option, Some, Result, Ok, Err, IfErr, IsErrAnd}
 use Rattle.line_raster.specs.Canvas.{Canvas}
 use Rattle.om3_coeff.specs.declared.key.Key.{Key}
 use Rattle.om3_coeff.specs.declared.coef.Coef.{Coef}
@@ -19,12 +19,11 @@ use Rattle.m4_groups.specs.Rows.{AreRowsOf}
 use Rattle.m4_groups.specs.Heights.{HaveSameHeights}
 use Rattle.view_keys.specs.Wanted.{IsWanted}
 use Rattle.view_keys.specs.Listed.{IsListOf}
-use Rattle.chart_frames.specs.declared.frame.Frame.TheVariants.{View, Rows}
+use Rattle.chart_frames.specs.declared.frame.Frame.TheVariants.{View}
 use Rattle.chart_frames.specs.declared.frame.ViewFrame.{ViewFrame}
-use Rattle.chart_frames.specs.declared.frame.RowsFrame.{RowsFrame}
 use Rattle.chart_frames.specs.Frames.{FitsView}
 use Rattle.chart_client.specs.declared.holding.Holding.{Holding}
-use Rattle.chart_client.specs.Holdings.{holding_of, told_by, axis_of, seen_by, with_cache}
+use Rattle.chart_client.specs.Holdings.{told_by, axis_of, seen_by, with_cache}
 use Rattle.chart_client.specs.Agreeing.{IsGridOf, Agrees}
 use Rattle.chart_client.specs.Failing.{NoneFails}
 use Rattle.chart_client.specs.Drawing.{DrawsPoints}
@@ -80,15 +79,6 @@ view_accepted view old new place h grid es rows drawing cache law at drawn renew
         holdings = is ∙ replaced view.session old place h cache at ∙ ap (λ (c : Cache). with_cache view.session c old) renewed;
       },
     )
-
--- a frame of rows is accepted
-pub rows_accepted : {E : Type 0} (rows : RowsFrame) (old : List Holding) (r : Result Canvas E) → IsSome (holding_of rows.session old)
-    → IfOk r (λ d. d.w ≡ rows.w) → IfOk r (λ d. d.h ≡ rows.h)
-    → ((grid : Grid) (points : List (ℤ × ℤ)) → HasCanvas grid rows.w rows.h → AreInOrder grid points → AreRowsOf grid points rows.rows
-    → IfOk r (DrawsPoints grid rows.lo rows.hi points))
-    → IfOk r (λ d. Accepts (Rows rows) (Some d) old old)
-rows_accepted rows old (Ok d) opened wide high draws = (opened, record { wide = wide; high = high; draws = draws; holdings = refl })
-rows_accepted rows old (Err e) opened wide high draws = tt
 
 -- an error that a call passes on
 pub err_as : {T E : Type 0} (r : Result T E) (Q : E → Type 0) (e : E) → IsErrAnd r (λ x. x ≡ e) → Q e → IfErr r Q

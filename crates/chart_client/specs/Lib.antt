@@ -7,6 +7,7 @@ pub mod Keeping
 pub mod Searching
 pub mod Drawing
 pub mod Finding
+pub mod Spanning
 pub mod Accepting
 pub mod Showing
 pub mod Laws

@@ -1,4 +1,5 @@
-ghost use Rattle.std.specs.Prelude.{◌≡◌, [], ◌==◌, None, Some, IfOk, IfErr, IsSome, OnOk, OnErr, is_some, position};
+ghost use Rattle.std.specs.Prelude.{◌≡◌, [], ◌==◌, None, Some, IfOk, IfErr, IfSome, IsSome, OnOk, OnErr, is_some, position};
+ghost use Rattle.std.specs.Option.{option_map};
 ghost use Rattle.coefficient_cache.specs.Caches.{IsCapacity};
 ghost use Rattle.chart_frames.specs.declared.frame.Frame.TheVariants.{View, Rows};
 ghost use Rattle.chart_frames.specs.Frames.{Fits, FitsView, FitsRows};
@@ -6,11 +7,14 @@ ghost use Rattle.chart_client.specs.declared.errors.ClientError.TheVariants as c
 ghost use Rattle.chart_client.specs.Held.{held_by};
 ghost use Rattle.chart_client.specs.Holdings.{holding_of, without, opened};
 ghost use Rattle.chart_client.specs.Accepting.{Accepts, Rejects, Leaves, KeepsUnless};
+ghost use Rattle.chart_client.specs.Spanning.{SpanPicture};
 
+use crate::column_spans::ColumnSpans;
 use crate::drawing::{grid_of, picture_of};
 use crate::errors::ClientError;
 use crate::finding::find;
 use crate::holding::Holding;
+use crate::picture::Picture;
 use chart_frames::{Frame, RowsFrame, ViewFrame};
 use coefficient_cache::CoefficientCache;
 use line_raster::Bitmap;
@@ -58,6 +62,20 @@ impl Client {
         ensures rejected { IfErr result (λ e. Rejects frame.now e self.old) }
         ensures left { IfErr result (λ e. Leaves e self.old self.new) }
     {
+        match self.accept_with_columns(frame)? {
+            Some(picture) => Ok(Some(picture.bitmap)),
+            None => Ok(None),
+        }
+    }
+
+    /// The same, with the least and the greatest value of each column of the picture.
+    pub fn accept_with_columns(&mut self, frame: &Frame) -> Result<Option<Picture>, ClientError>
+        requires { Fits frame.now }
+        ensures accepted { IfOk result (λ picture. Accepts frame.now (option_map (λ p. p.bitmap) picture) self.old self.new) }
+        ensures columns { IfOk result (λ picture. IfSome picture (λ p. SpanPicture frame.now self.old p.columns)) }
+        ensures rejected { IfErr result (λ e. Rejects frame.now e self.old) }
+        ensures left { IfErr result (λ e. Leaves e self.old self.new) }
+    {
         let accepted = self.take(frame);
         if let Err(ClientError::NoMemory) = accepted {
             self.holdings.clear();
@@ -66,9 +84,10 @@ impl Client {
     }
 
     // The same, but after `NoMemory` any sessions are open.
-    fn take(&mut self, frame: &Frame) -> Result<Option<Bitmap>, ClientError>
+    fn take(&mut self, frame: &Frame) -> Result<Option<Picture>, ClientError>
         requires { Fits frame.now }
-        ensures accepted { IfOk result (λ drawing. Accepts frame.now drawing self.old self.new) }
+        ensures accepted { IfOk result (λ picture. Accepts frame.now (option_map (λ p. p.bitmap) picture) self.old self.new) }
+        ensures columns { IfOk result (λ picture. IfSome picture (λ p. SpanPicture frame.now self.old p.columns)) }
         ensures rejected { IfErr result (λ e. Rejects frame.now e self.old) }
         ensures kept { IfErr result (λ e. KeepsUnless e self.old self.new) }
     {
@@ -167,9 +186,10 @@ impl Client {
             .position(|holding| holding.number == number)
     }
 
-    fn view(&mut self, view: &ViewFrame) -> Result<Bitmap, ClientError>
+    fn view(&mut self, view: &ViewFrame) -> Result<Picture, ClientError>
         requires { FitsView view.now }
-        ensures accepted { IfOk result (λ drawing. Accepts (View view.now) (Some drawing) self.old self.new) }
+        ensures accepted { IfOk result (λ picture. Accepts (View view.now) (Some picture.bitmap) self.old self.new) }
+        ensures columns { IfOk result (λ picture. SpanPicture (View view.now) self.old picture.columns) }
         ensures rejected { IfErr result (λ e. Rejects (View view.now) e self.old) }
         ensures kept { IfErr result (λ e. KeepsUnless e self.old self.new) }
     {
@@ -186,12 +206,14 @@ impl Client {
         holding
             .cache
             .renew(self.alloc, view.series, findings.needed.as_slice())?;
-        Ok(bitmap)
+        let columns = ColumnSpans::of(findings.rows);
+        Ok(Picture { bitmap, columns })
     }
 
-    fn rows(&self, rows: &RowsFrame) -> Result<Bitmap, ClientError>
+    fn rows(&self, rows: &RowsFrame) -> Result<Picture, ClientError>
         requires { FitsRows rows.now }
-        ensures accepted { IfOk result (λ drawing. Accepts (Rows rows.now) (Some drawing) self.now self.now) }
+        ensures accepted { IfOk result (λ picture. Accepts (Rows rows.now) (Some picture.bitmap) self.now self.now) }
+        ensures columns { IfOk result (λ picture. SpanPicture (Rows rows.now) self.now picture.columns) }
         ensures rejected { IfErr result (λ e. Rejects (Rows rows.now) e self.now) }
     {
         if !self.is_open(rows.session) {
@@ -199,6 +221,8 @@ impl Client {
                 session: rows.session,
             });
         }
-        picture_of(self.alloc, rows.w, rows.h, &rows.rows, rows.lo, rows.hi)
+        let bitmap = picture_of(self.alloc, rows.w, rows.h, &rows.rows, rows.lo, rows.hi)?;
+        let columns = ColumnSpans::copy_of(self.alloc, &rows.rows)?;
+        Ok(Picture { bitmap, columns })
     }
 }

@@ -8,11 +8,12 @@
 //!
 //! A frame that names no open session, or a view for which a coefficient is missing or doesn't fit,
 //! gives an error and changes nothing. `Show` is what shows the bytes of one frame, and `Screen` shows
-//! them as a client does. How a stream is cut into frames, and where the pictures go, is left to the
-//! layers above.
+//! them as a client does. `ColumnSpans` has the least and the greatest value of a picture's columns. How a
+//! stream is cut into frames, and where the pictures go, is left to the layers above.
 #![tactic(auto)]
 
 mod client;
+mod column_spans;
 mod drawing;
 mod errors;
 mod failing;
@@ -22,11 +23,14 @@ mod held_nodes;
 mod holding;
 pub mod laws;
 mod lookup;
+mod picture;
 mod screen;
 mod search;
 mod show;
 
 pub use client::Client;
+pub use column_spans::ColumnSpans;
 pub use errors::ClientError;
+pub use picture::Picture;
 pub use screen::Screen;
 pub use show::{Show, Shown};

@@ -1,18 +1,20 @@
 -- What an answer's numbers tell.
 use Rattle.std.specs.Prelude.{ℕ, ◌≡◌, length, Bool, false, if◌then◌else◌, List, ◌++◌, Option, None, Some, Result, Ok, Err}
+use Rattle.om3_coeff.specs.declared.span.Span.{Span}
 use Rattle.chart_frames.specs.declared.frame.Frame.{Frame}
 use Rattle.chart_frames.specs.declared.frame.Frame.TheVariants as frame
 use Rattle.chart_frames.specs.declared.frame.ViewFrame.{ViewFrame}
 use Rattle.chart_frames.specs.declared.frame.RowsFrame.{RowsFrame}
 use Rattle.chart_frames.specs.declared.errors.FrameFault.{FrameFault}
 use Rattle.chart_frames.specs.declared.errors.FrameFault.TheVariants as faults
+use Rattle.chart_client.specs.Spanning.{span_in}
 use Rattle.chart_client.specs.declared.errors.ClientError.{ClientError}
 use Rattle.chart_client.specs.declared.errors.ClientError.TheVariants as client
 use Rattle.client_exports.specs.declared.fault.Fault.{Fault}
 use Rattle.client_exports.specs.declared.fault.Fault.TheVariants as fault
 use Rattle.client_exports.specs.State.{State}
 use Rattle.client_exports.specs.declared.answer.Answer.{Answer}
-use Rattle.client_exports.specs.Steps.{Hands, Draws, Covers}
+use Rattle.client_exports.specs.Steps.{Hands, Draws, DrawsColumns, Covers}
 
 -- a view's fields
 pub record TellsView (view : ViewFrame) (a : Answer) : Type 0 where
@@ -72,6 +74,11 @@ TellsDrawn (Ok there) a = a.code ≡ (if there then 1 else 0)
 TellsDrawn (Err (fault.Client error)) a = TellsError error a
 TellsDrawn (Err fault.NoMemory) a = a.code ≡ 6
 
+-- code 1 with a column's least and greatest value; or code 0 where it has none
+abbrev pub TellsSpan : Option Span → Answer → Type 0
+TellsSpan None a = a.code ≡ 0
+TellsSpan (Some span) a = (a.code ≡ 1) × (a.lo ≡ span.min) × (a.hi ≡ span.max)
+
 -- A frame is taken in hand, which the answer tells.
 pub record Nexted (old : State) (a : Answer) (new : State) : Type 0 where
   pub result : Result (Unit {0}) FrameFault
@@ -79,6 +86,7 @@ pub record Nexted (old : State) (a : Answer) (new : State) : Type 0 where
   pub tells : TellsNext result new.frame (length new.decoder.rest) a
   pub client : new.client ≡ old.client
   pub picture : new.picture ≡ old.picture
+  pub columns : new.columns ≡ old.columns
 
 -- The frame in hand is drawn, which the answer tells, with the number of the picture's bytes.
 pub record Drawn (old : State) (a : Answer) (new : State) : Type 0 where
@@ -88,6 +96,7 @@ pub record Drawn (old : State) (a : Answer) (new : State) : Type 0 where
   pub bytes : a.bytes ≡ length new.picture
   pub frame : new.frame ≡ None
   pub decoder : new.decoder ≡ old.decoder
+  pub columns : DrawsColumns old.frame old.client result old.columns new.columns
 
 -- A cover of the view in hand is drawn, which the answer tells, with the number of its bytes.
 pub record Covered (count : ℕ) (old : State) (a : Answer) (new : State) : Type 0 where
@@ -98,6 +107,12 @@ pub record Covered (count : ℕ) (old : State) (a : Answer) (new : State) : Type
   pub frame : new.frame ≡ old.frame
   pub client : new.client ≡ old.client
   pub decoder : new.decoder ≡ old.decoder
+  pub columns : new.columns ≡ old.columns
+
+-- The answer tells a column of the picture that was drawn last. Nothing changes.
+pub record Spanned (column : ℕ) (old : State) (a : Answer) (new : State) : Type 0 where
+  pub tells : TellsSpan (span_in old.columns column) a
+  pub same : new ≡ old
 
 -- A stream was fed these bytes, or nothing changed.
 pub record Fed (old : State) (bytes : List ℕ) (fed : Bool) (new : State) : Type 0 where
@@ -106,6 +121,7 @@ pub record Fed (old : State) (bytes : List ℕ) (fed : Bool) (new : State) : Typ
   pub client : new.client ≡ old.client
   pub frame : new.frame ≡ old.frame
   pub picture : new.picture ≡ old.picture
+  pub columns : new.columns ≡ old.columns
 
 -- the step of a stream that a handle has; one that is closed stays so, and says code 7
 abbrev pub Answers : (State → Answer → State → Type 0) → Option State → Answer → Option State → Type 0

@@ -1,9 +1,10 @@
 -- What the steps of a stream answer and leave.
 use Rattle.std.specs.Prelude.{ℕ, ◌≡◌, ⊤, List, [], length, min, Bool, true, false, Option, None, Some, Result, Ok, Err}
 use Rattle.line_raster.specs.Canvas.{Canvas}
+use Rattle.m4_groups.specs.declared.row.Row.{Row}
 use Rattle.pbm_writer.specs.Picture.{picture}
 use Rattle.chart_frames.specs.declared.frame.Frame.{Frame}
-use Rattle.chart_frames.specs.declared.frame.Frame.TheVariants.{View}
+use Rattle.chart_frames.specs.declared.frame.Frame.TheVariants.{Done, Refused, Opened, Closed, View, Rows, Live}
 use Rattle.chart_frames.specs.declared.frame.ViewFrame.{ViewFrame}
 use Rattle.chart_frames.specs.declared.errors.FrameFault.{FrameFault}
 use Rattle.chart_frames.specs.declared.errors.FrameFault.TheVariants as faults
@@ -14,6 +15,7 @@ use Rattle.chart_client.specs.declared.errors.ClientError.{ClientError}
 use Rattle.chart_client.specs.declared.errors.ClientError.TheVariants as client
 use Rattle.chart_client.specs.Accepting.{Accepts, Rejects, Leaves}
 use Rattle.chart_client.specs.Holdings.{holding_of}
+use Rattle.chart_client.specs.Spanning.{SpanView, SpanRowsFrame}
 use Rattle.progressive_view.specs.Covers.{DrawsCover}
 use Rattle.client_exports.specs.declared.fault.Fault.{Fault}
 use Rattle.client_exports.specs.declared.fault.Fault.TheVariants as fault
@@ -25,6 +27,7 @@ pub record IsFresh (s : State) : Type 0 where
   pub client : s.client ≡ []
   pub frame : s.frame ≡ None
   pub picture : s.picture ≡ []
+  pub columns : s.columns ≡ []
 
 -- The next frame is taken in hand where none is: the one at the front of what was fed. It is none where more bytes are needed,
 -- or where the field at this byte breaks its rule; then nothing is taken.
@@ -55,6 +58,22 @@ Draws (Some f) old (Ok true) new bytes = DrawsFrame f old new (λ drawing. bytes
 Draws (Some f) old (Ok false) new bytes = ⊥
 Draws (Some f) old (Err (fault.Client cause)) new bytes = Rejects f cause old × Leaves cause old new × (bytes ≡ [])
 Draws (Some f) old (Err fault.NoMemory) new bytes = DrawsFrame f old new (λ drawing. bytes ≡ [])
+
+-- the rows span the columns of a frame's picture; where it has none they are those before
+abbrev pub HasColumns : Frame → List Holding → List Row → List Row → Type 0
+HasColumns (Done slots) old before rows = rows ≡ before
+HasColumns (Refused number a b) old before rows = rows ≡ before
+HasColumns (Opened number size) old before rows = rows ≡ before
+HasColumns (Closed number) old before rows = rows ≡ before
+HasColumns (View view) old before rows = SpanView view old rows
+HasColumns (Rows frame) old before rows = SpanRowsFrame frame rows
+HasColumns (Live number on) old before rows = rows ≡ before
+
+-- so do they of the frame in hand; where it isn't drawn they are those before
+abbrev pub DrawsColumns : Option Frame → List Holding → Result Bool Fault → List Row → List Row → Type 0
+DrawsColumns None old drawn before rows = rows ≡ before
+DrawsColumns (Some f) old (Ok there) before rows = HasColumns f old before rows
+DrawsColumns (Some f) old (Err e) before rows = rows ≡ before
 
 -- why a cover isn't drawn: the view's session isn't open, or memory ran out
 abbrev pub CoverFails : ViewFrame → List Holding → ClientError → Type 0

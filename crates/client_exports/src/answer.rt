@@ -1,18 +1,19 @@
 //! An answer as numbers.
 
 ghost use Rattle.std.specs.Prelude.{◌≡◌};
-ghost use Rattle.client_exports.specs.Answers.{TellsNext, TellsHand, TellsFrame, TellsView, TellsRows, TellsError, TellsDrawn};
+ghost use Rattle.client_exports.specs.Answers.{TellsNext, TellsHand, TellsFrame, TellsView, TellsRows, TellsError, TellsDrawn, TellsSpan};
 
 use crate::fault::Fault;
 use chart_client::ClientError;
 use chart_frames::{Frame, FrameFault, RowsFrame, ViewFrame};
+use om3_coeff::Span;
 
 /// What a call answers. Numbers that its code and kind don't name are 0.
 #[repr(C)]
 #[derive(Clone, Copy)]
 pub struct Answer {
-    /// 1 for a frame in hand, or for one that was drawn; 0 where there is none. 2 where the field at byte `a` of the stream
-    /// breaks its rule, 3 where the coefficient of level `number` and index `a` is missing, 4 where it doesn't fit, 5 where
+    /// 1 for a frame in hand, for one that was drawn, or for a column that has a value; 0 where there is none. 2 where
+    /// the field at byte `a` of the stream breaks its rule, 3 where the coefficient of level `number` and index `a` is missing, 4 where it doesn't fit, 5 where
     /// session `session` isn't open, 6 where memory ran out, 7 where the handle is closed.
     pub code: u32,
     /// The frame's kind: 1 done, 2 refused, 3 opened, 4 closed, 5 a view, 6 rows, 7 live.
@@ -32,7 +33,9 @@ pub struct Answer {
     pub b: u64,
     pub t0: i64,
     pub t1: i64,
+    /// The least value of a view's or of rows' range, or a column's least.
     pub lo: i64,
+    /// The greatest one.
     pub hi: i64,
     pub start: i64,
     /// The number of the bytes of what was drawn, 0 where there are none.
@@ -198,6 +201,20 @@ impl Answer {
                 bytes,
                 ..Answer::of_error(error)
             },
+        }
+    }
+
+    /// A column's least and greatest value, where it has any.
+    pub(crate) fn of_span(span: Option<Span>) -> Answer
+        ensures { TellsSpan span result }
+    {
+        match span {
+            Some(span) => Answer {
+                lo: span.min,
+                hi: span.max,
+                ..Answer::coded(1)
+            },
+            None => Answer::coded(0),
         }
     }
 

@@ -2,7 +2,7 @@
 
 ghost use Rattle.std.specs.Prelude.{◌≡◌, ◌≢◌, None, IfSome, IsSome, true, false, length};
 ghost use Rattle.client_exports.specs.Steps.{IsFresh};
-ghost use Rattle.client_exports.specs.Answers.{Answers, Feeds, Nexted, Drawn, Covered};
+ghost use Rattle.client_exports.specs.Answers.{Answers, Feeds, Nexted, Drawn, Covered, Spanned};
 
 use crate::answer::Answer;
 use crate::handle::Handle;
@@ -106,4 +106,19 @@ pub extern "C" fn chart_picture(alloc: Global, handle: &mut Handle, out: &mut [u
     }
     handle.put(alloc, boxed);
     fits
+}
+
+/// Tells the least and the greatest value of a column, from 0 at the left, of the picture that `chart_draw` drew
+/// last, as the numbers `lo` and `hi` with code 1; or by code 0 that it has none, as no column has before the first
+/// picture, and none beyond its width.
+#[unsafe(no_mangle)]
+pub extern "C" fn chart_column(alloc: Global, handle: &mut Handle, column: u32, answer: &mut Answer)
+    ensures { Answers (Spanned column) handle.old.value answer.new handle.new.value }
+{
+    let Some(boxed) = handle.take(alloc) else {
+        *answer = Answer::coded(7);
+        return;
+    };
+    *answer = Answer::of_span(boxed.span_of(column));
+    handle.put(alloc, boxed);
 }

@@ -1,7 +1,8 @@
 use crate::cover::cover_of;
 use crate::fault::Fault;
-use chart_client::Client;
+use chart_client::{Client, ColumnSpans};
 use chart_frames::{Decoder, Frame, FrameFault};
+use om3_coeff::Span;
 use pbm_writer::pbm;
 use std::alloc::{AllocError, Global};
 use std::marker::Model;
@@ -15,6 +16,8 @@ pub struct Stream {
     frame: Option<Frame>,
     // The bytes of what was drawn last, or none.
     picture: Vec<u8>,
+    // Those of the picture that was drawn last; a cover is no picture.
+    columns: ColumnSpans,
 }
 
 impl Model for Stream {
@@ -22,14 +25,15 @@ impl Model for Stream {
 
     ghost Value = { State };
 
-    ghost view = { λ s. record { decoder = s.decoder; client = s.client; frame = s.frame; picture = s.picture.items } };
+    ghost view = { λ s. record { decoder = s.decoder; client = s.client; frame = s.frame; picture = s.picture.items; columns = s.columns } };
 
     ghost invariant = { λ s. HandFits s.frame };
 }
 
 impl Stream {
     ghost use Rattle.std.specs.Prelude.{◌≡◌, ◌++◌, None, length, IfOk, OnOk, OnErr};
-    ghost use Rattle.client_exports.specs.Steps.{IsFresh, Hands, Draws, Covers};
+    ghost use Rattle.chart_client.specs.Spanning.{span_in};
+    ghost use Rattle.client_exports.specs.Steps.{IsFresh, Hands, Draws, DrawsColumns, Covers};
 
     /// A stream before any byte.
     pub(crate) fn new(alloc: Global) -> Result<Stream, AllocError>
@@ -40,6 +44,7 @@ impl Stream {
             client: Client::new(alloc)?,
             frame: None,
             picture: Vec::new(alloc),
+            columns: ColumnSpans::none(alloc),
         })
     }
 
@@ -51,6 +56,7 @@ impl Stream {
         ensures client { self.new.client ≡ self.old.client }
         ensures frame { self.new.frame ≡ self.old.frame }
         ensures picture { self.new.picture ≡ self.old.picture }
+        ensures columns { self.new.columns ≡ self.old.columns }
     {
         self.decoder.feed(piece)
     }
@@ -60,6 +66,7 @@ impl Stream {
         ensures hands { Hands self.old.frame self.old.decoder result self.new.frame self.new.decoder }
         ensures client { self.new.client ≡ self.old.client }
         ensures picture { self.new.picture ≡ self.old.picture }
+        ensures columns { self.new.columns ≡ self.old.columns }
     {
         if self.frame.is_none() {
             self.frame = self.decoder.next()?;
@@ -86,13 +93,15 @@ impl Stream {
         ensures frame { self.new.frame ≡ None }
         ensures decoder { self.new.decoder ≡ self.old.decoder }
         ensures draws { Draws self.old.frame self.old.client result self.new.client self.new.picture }
+        ensures columns { DrawsColumns self.old.frame self.old.client result self.old.columns self.new.columns }
     {
         self.picture.clear();
         let Some(frame) = self.frame.take() else {
             return Ok(false);
         };
-        if let Some(bitmap) = self.client.accept(&frame)? {
-            self.picture = pbm(alloc, &bitmap)?;
+        if let Some(drawn) = self.client.accept_with_columns(&frame)? {
+            self.picture = pbm(alloc, &drawn.bitmap)?;
+            self.columns = drawn.columns;
         }
         Ok(true)
     }
@@ -103,6 +112,7 @@ impl Stream {
         ensures frame { self.new.frame ≡ self.old.frame }
         ensures decoder { self.new.decoder ≡ self.old.decoder }
         ensures client { self.new.client ≡ self.old.client }
+        ensures columns { self.new.columns ≡ self.old.columns }
     {
         self.picture.clear();
         let Some(Frame::View(view)) = &self.frame else {
@@ -118,5 +128,12 @@ impl Stream {
         ensures { result.now ≡ self.now.picture }
     {
         self.picture.as_slice()
+    }
+
+    /// The least and the greatest value of a column of the picture that was drawn last.
+    pub(crate) fn span_of(&self, column: u32) -> Option<Span>
+        ensures { result ≡ span_in self.now.columns column }
+    {
+        self.columns.span_of(column)
     }
 }

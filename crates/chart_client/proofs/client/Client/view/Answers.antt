@@ -15,6 +15,7 @@ use Rattle.chart_client.specs.declared.holding.Holding.{Holding}
 use Rattle.chart_client.specs.declared.errors.ClientError.{ClientError}
 use Rattle.chart_client.specs.Accepting.{Rejects, viewed}
 use Rattle.chart_client.proofs.Places.{IsAt, at_held, at_none, same_held, inside_items, same_cache, order_distinct}
+use Rattle.chart_client.proofs.Spanned.{view_spanned}
 use Rattle.chart_client.proofs.Viewed.{IsDrawn, view_accepted, view_rejected, err_as}
 use Rattle.chart_client.proofs.client.Client.view.Goals as goal
 
@@ -106,3 +107,17 @@ returns-clause-rejected c = tt
 
 pub returns-clause-kept : goal.returns-clause-kept
 returns-clause-kept c = tt
+
+pub returns-in_err-findings-clause-columns : goal.returns-in_err-findings-clause-columns
+returns-in_err-findings-clause-columns c = IfOk-from_err c.from_residual.result _ c.from_residual.ensures.0
+
+pub returns-in_err-bitmap-clause-columns : goal.returns-in_err-bitmap-clause-columns
+returns-in_err-bitmap-clause-columns c = IfOk-from_err c.from_residual-in_err-bitmap.result _ c.from_residual-in_err-bitmap.ensures.0
+
+pub returns-clause-columns : goal.returns-clause-columns
+returns-clause-columns c =
+    let at : IsAt c.args.view.now.session c.args.self.now c.in-Some.place c.index.result.now =
+    at_held c.args.view.now.session c.self.inside.holdings.items c.args.self.now c.in-Some.place c.index.result.now c.self.view_is
+    (sym c.place_of.ensures ∙ c.in-Some.is) c.index.ensures in
+    view_spanned c.args.view.now c.args.self.now c.in-Some.place c.index.result.now c.grid_of-grid.result c.in_ok-findings.findings.rows c.of-columns.result
+    at c.grid_of-grid.ensures c.in_ok-findings.ensures.rows c.of-columns.ensures
