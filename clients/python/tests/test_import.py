@@ -216,7 +216,7 @@ class Imports(unittest.TestCase):
     def test_a_bar_on_a_terminal(self):
         self.assertEqual(bar(1500, 0.5, 3), f"[{'#' * 15}{'.' * 15}]  50%  1,500 rows, 500 a second, 0:03 left")
         self.assertEqual(bar(1500, None, 3), "1,500 rows, 500 a second")
-        path = self.file("t,v\n" + "".join(f"{at},{at}\n" for at in range(400_000)))
+        path = self.file("t,v\n" + "".join(f"{at},{at}\n" for at in range(200_000)))
         words = ["zurtkvani_client.readings", "--step", "1", path], ["zurtkvani_client", "import", path, "--store", self.path, "--dry-run"]
         for command_words in words:
             self.assertRegex(shown_on_a_terminal(command_words), r"\[#+\.+\] +\d+%  [\d,]+ rows, [\d,]+ a second, \d+:\d\d left")
