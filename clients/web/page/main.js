@@ -243,10 +243,11 @@ class Page {
 
 /** Changes the panels, and gives the focus back to what has the name of the part that had it. */
 function keepFocus(change) {
-  const name = part("panels").contains(document.activeElement) ? document.activeElement.getAttribute("aria-label") : null;
+  const hadFocus = part("panels").contains(document.activeElement);
+  const name = document.activeElement?.getAttribute("aria-label");
   change();
-  const named = [...part("panels").querySelectorAll("[aria-label]")].find((it) => it.getAttribute("aria-label") === name);
-  if (name !== null) {
+  if (hadFocus) {
+    const named = [...part("panels").querySelectorAll("[aria-label]")].find((it) => it.getAttribute("aria-label") === name);
     (named ?? part("panels").querySelector(".plot") ?? part("open_picker")).focus({ preventScroll: true });
   }
 }
