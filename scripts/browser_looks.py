@@ -265,6 +265,9 @@ def type_filter(page):
             lambda: f"the mark doesn't stand under character {at} of {text!r}: {page.read()['panels'][0]['fault']!r}",
         )
         page.browser.click("[aria-label='Settings of panel 1']")
+    page.browser.run("history.replaceState(null, '', `?panel=sea&filter=${'v > 0 and '.repeat(900)}v > 0${location.hash}`); location.reload()")
+    wait_for(lambda: any("each of 1 to 8192 bytes" in panel["fault"] for panel in page.read()["panels"]), "a filter that no request has room for isn't told")
+    page.browser.click("[aria-label='Settings of panel 1']")
     page.do(lambda: set_filter(page, ""))
     require(page.read()["panels"][0]["fault"] == "" and page.canvas(0) != before, "the fault stays")
     page.compare()

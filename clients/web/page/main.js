@@ -174,11 +174,18 @@ class Page {
         await this.drawOnce(names, began);
         this.line.caughtUp();
       } catch (error) {
-        // The connection has let its session go, so the line begins another one, which draws.
-        tell(part("told"), `Not drawn: ${error.message}.`);
+        this.tellFault(error);
       }
     }
     this.isDrawing = false;
+  }
+
+  /** Says why nothing was drawn. Where the session was lost with that, the line begins another one, which draws. */
+  tellFault(error) {
+    tell(part("told"), `Not drawn: ${error.message}.`);
+    if (this.connection.number) {
+      this.panels.forEach((panel) => panel.fail(error.message));
+    }
   }
 
   async drawOnce(names, began) {
