@@ -79,6 +79,23 @@ def give_way(page):
     page.compare()
 
 
+def rest_unseen(page):
+    """A page that nobody sees lets its session go, and begins another one when it is seen."""
+    page.open("panel=sea")
+    see = "Object.defineProperty(document, 'visibilityState', { value: arguments[0], configurable: true });"
+    page.browser.run(see + "document.dispatchEvent(new Event('visibilitychange'))", "hidden")
+    wait_for(lambda: page.read()["state"] == "resting", lambda: f"the page says {page.read()['status']}")
+    page.request("append sea 321")
+    frames = [page.request(f"open {number}") for number in range(1, 17)]
+    require(all(frame[4] == 3 for frame in frames), "the session isn't let go")
+    for number in range(1, 17):
+        page.request(f"close {number}")
+    page.do(lambda: page.browser.run(see + "document.dispatchEvent(new Event('visibilitychange'))", "visible"))
+    sleep_until_live(page)
+    require(page.window()[1] == end_of_sea(page), "what came in between isn't drawn")
+    page.compare()
+
+
 def fall_behind(page):
     """Where a change isn't drawn within a second the page says so, until it is."""
     page.open("panel=few")
@@ -252,4 +269,4 @@ def show_sunspots(browser, folder, screenshots):
             page.show("page")
 
 
-EDITING = (fail_module, give_way, fall_behind, draw_pushes, follow_end, come_slowly)
+EDITING = (fail_module, give_way, rest_unseen, fall_behind, draw_pushes, follow_end, come_slowly)
