@@ -120,8 +120,9 @@ class Browser:
     def theme(self, name):
         self.tell("Emulation.setEmulatedMedia", features=[{"name": "prefers-color-scheme", "value": name}])
 
-    def size(self, width, height):
-        self.tell("Emulation.setDeviceMetricsOverride", width=width, height=height, deviceScaleFactor=1, mobile=False)
+    def size(self, width, height, scale=1):
+        """Makes the page so many lengths wide and high, each of so many pixels."""
+        self.tell("Emulation.setDeviceMetricsOverride", width=width, height=height, deviceScaleFactor=scale, mobile=False)
 
 
 @contextlib.contextmanager

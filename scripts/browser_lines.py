@@ -32,6 +32,26 @@ WebAssembly.Instance = function (...words) {
 """
 
 
+# The next answer is no frame, so another session is begun; that one is told to have given way.
+GIVE_WAY = """
+const sent = window.fetch;
+const answers = { request: new Uint8Array([0, 0, 0, 5, 99, 0, 0, 0, 0]), events: "event: closed\\ndata: true\\n\\n" };
+window.fetch = async (path, ...words) => {
+  const answer = answers[path];
+  delete answers[path];
+  return answer ? new Response(answer) : sent(path, ...words);
+};
+"""
+# The next answers come two seconds late.
+DELAY = """
+const sent = window.fetch;
+window.fetch = async (path, ...words) => {
+  await new Promise((done) => setTimeout(done, path === "request" ? 2000 : 0));
+  return sent(path, ...words);
+};
+"""
+
+
 def sleep_until_live(page):
     wait_for(lambda: page.read()["state"] == "live", lambda: f"the page isn't live: {page.read()}")
 
@@ -43,6 +63,46 @@ def fail_module(page):
     page.open("panel=sea")
     page.browser.run(FAIL_TWICE)
     page.do(lambda: page.browser.click("#in"))
+    sleep_until_live(page)
+    page.compare()
+
+
+def give_way(page):
+    """A page whose session gave way says so, and a click begins another one."""
+    page.open("panel=sea")
+    page.browser.run(GIVE_WAY)
+    page.browser.click("#in")
+    wait_for(lambda: "This page was idle" in page.read()["why"], lambda: f"the page says {page.read()['why']!r}")
+    require(page.read()["state"] == "waiting", "a page that gave way doesn't say that it waits")
+    page.do(lambda: page.browser.click("#all"))
+    sleep_until_live(page)
+    page.compare()
+
+
+def rest_unseen(page):
+    """A page that nobody sees lets its session go, and begins another one when it is seen."""
+    page.open("panel=sea")
+    see = "Object.defineProperty(document, 'visibilityState', { value: arguments[0], configurable: true });"
+    page.browser.run(see + "document.dispatchEvent(new Event('visibilitychange'))", "hidden")
+    wait_for(lambda: page.read()["state"] == "resting", lambda: f"the page says {page.read()['status']}")
+    page.request("append sea 321")
+    frames = [page.request(f"open {number}") for number in range(1, 17)]
+    require(all(frame[4] == 3 for frame in frames), "the session isn't let go")
+    for number in range(1, 17):
+        page.request(f"close {number}")
+    page.do(lambda: page.browser.run(see + "document.dispatchEvent(new Event('visibilitychange'))", "visible"))
+    sleep_until_live(page)
+    require(page.window()[1] == end_of_sea(page), "what came in between isn't drawn")
+    page.compare()
+
+
+def fall_behind(page):
+    """Where a change isn't drawn within a second the page says so, until it is."""
+    page.open("panel=few")
+    page.browser.run(DELAY)
+    page.request("set few 0 5")
+    wait_for(lambda: page.read()["state"] == "behind", lambda: f"the page says {page.read()['status']}")
+    require(re.fullmatch(r"Behind since \d\d:\d\d:\d\d", page.read()["status"]), f"the page says {page.read()['status']}")
     sleep_until_live(page)
     page.compare()
 
@@ -209,4 +269,4 @@ def show_sunspots(browser, folder, screenshots):
             page.show("page")
 
 
-EDITING = (fail_module, draw_pushes, follow_end, come_slowly)
+EDITING = (fail_module, give_way, rest_unseen, fall_behind, draw_pushes, follow_end, come_slowly)

@@ -6,7 +6,7 @@ from browser_driver import KEYS, require, wait_for
 from browser_page import SLOTS, START, STEP, WHOLE, values_of
 import browser_page
 
-NAMES = ["few", "sea", "tide", "wind"]
+PART = f"from={START + 123456}&to={START + 654321}"  # of a window
 
 
 def names_shown(page):
@@ -36,6 +36,7 @@ def list_series(page):
 
 
 def choose_several(page):
+    page.open("panel=sea")
     page.browser.click("#open_picker")
     page.browser.run("const it = document.getElementById('find'); it.value = ''; it.dispatchEvent(new Event('input'));")
     for name in ("tide", "wind"):
@@ -54,6 +55,7 @@ def choose_several(page):
 
 
 def arrange_panels(page):
+    page.open("panel=sea&panel=tide&panel=wind&panel=sea+tide")
     page.do(lambda: page.browser.click("[aria-label='Move up panel 4']"))
     require(names_shown(page) == [["sea"], ["tide"], ["sea", "tide"], ["wind"]], f"moved up, there are {names_shown(page)}")
     page.do(lambda: page.browser.click("[aria-label='Move down panel 1']"))
@@ -79,6 +81,7 @@ def set_range(page, number, text):
 
 
 def fix_range(page):
+    page.open("panel=sea&panel=tide")
     page.do(lambda: set_range(page, 1, "-20..55.5"))
     ticks = [text for text, _ in page.read()["panels"][1]["ticks"]]
     require(ticks[0] == "−20.0" and "0.0" in ticks and number_in(ticks[-1]) > 30, f"the ticks are {ticks}")
@@ -91,6 +94,7 @@ def fix_range(page):
 
 def share_a_link(page):
     """The same address in a page that begins anew shows the same."""
+    page.open(f"panel=tide&range=-20..55.5&height=150&panel=sea+tide&filter=v+%3E+0&{PART}&zone=utc")
     before = page.read()
     page.do(lambda: page.browser.send("/refresh", {}), is_new=True)
     wait_for(lambda: page.read()["panels"][-1]["drawings"] > 0, "the second panel isn't drawn")
@@ -102,6 +106,7 @@ def share_a_link(page):
 
 def name_client(page):
     """The page says by which client it draws: the proved one, where its module is there."""
+    page.open("panel=sea")
     has_module = os.path.exists(browser_page.MODULE)
     said = page.browser.run("const it = document.getElementById('client'); return [it.dataset.proved, it.textContent]")
     wanted = "Drawn by the proved client" if has_module else "Drawn by the client in JavaScript, which isn't proved: its module isn't built."
@@ -189,6 +194,7 @@ def drag_zoom(page):
 
 
 def pan(page):
+    page.open(f"panel=sea&{PART}")
     t0, t1 = page.window()
     page.do(lambda: page.press(KEYS["right"]))
     by = page.window()[0] - t0
@@ -202,6 +208,7 @@ def pan(page):
 
 
 def turn_wheel(page):
+    page.open(f"panel=sea&{PART}")
     t0, t1 = page.window()
     page.do(lambda: page.browser.wheel(page.plot(), 0.25, -200))
     first, last = page.window()
@@ -214,6 +221,7 @@ def turn_wheel(page):
 
 
 def go_back(page):
+    page.open(f"panel=sea&{PART}")
     now = page.window()
     page.do(lambda: page.press("+"))
     page.do(lambda: page.browser.send("/back", {}))
@@ -228,6 +236,7 @@ def go_back(page):
 
 def name_window(page):
     """A window by dates, and what is no window."""
+    page.open("panel=sea")
     page.browser.run("document.getElementById('more').open = true")
     page.do(lambda: page.browser.choose("#zone", "utc"))
     page.browser.type("#from", "2023-01-02", ends="")
@@ -256,12 +265,16 @@ def type_filter(page):
             lambda: f"the mark doesn't stand under character {at} of {text!r}: {page.read()['panels'][0]['fault']!r}",
         )
         page.browser.click("[aria-label='Settings of panel 1']")
+    page.browser.run("history.replaceState(null, '', `?panel=sea&filter=${'v > 0 and '.repeat(900)}v > 0${location.hash}`); location.reload()")
+    wait_for(lambda: any("each of 1 to 8192 bytes" in panel["fault"] for panel in page.read()["panels"]), "a filter that no request has room for isn't told")
+    page.browser.click("[aria-label='Settings of panel 1']")
     page.do(lambda: set_filter(page, ""))
     require(page.read()["panels"][0]["fault"] == "" and page.canvas(0) != before, "the fault stays")
     page.compare()
 
 
 def resize(page):
+    page.open("panel=sea")
     page.browser.size(700, 560)
     wait_for(lambda: page.read()["panels"][0]["drawings"] > 0 and page.canvas(0)[1][0] < 640, "a smaller page isn't drawn anew")
     page.compare()
@@ -271,12 +284,18 @@ def resize(page):
     over = page.browser.run("return document.documentElement.scrollWidth")
     require(over <= 360, f"the page is {over} pixels wide where there are 360")
     page.show("narrow")
+    page.browser.size(700, 560, 1.5)
+    wait_for(lambda: page.canvas(0)[1][0] > 800, "a page of finer pixels isn't drawn anew")
+    width, shown = page.canvas(0)[1][0], page.browser.box("canvas")[2]
+    require(abs(width / 1.5 - shown) < 0.02, f"{width} pixels of a chart take {shown} of the screen's lengths")
+    page.compare()
     page.browser.size(1160, 760)
     wait_for(lambda: page.canvas(0)[1][0] > 900, "a wide page isn't drawn anew")
     page.compare()
 
 
 def darken(page):
+    page.open("panel=sea+tide+wind")
     page.do(lambda: page.browser.theme("dark"))
     page.compare()
     page.do(lambda: page.browser.theme("light"))

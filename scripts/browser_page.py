@@ -58,7 +58,7 @@ const panels = [...document.querySelectorAll(".panel")].map((it) => {
     fault: it.querySelector(".fault").textContent, covered: !it.querySelector(".covered").hidden,
     names: [...it.querySelectorAll("canvas")].map((canvas) => canvas.dataset.name),
     covers: [...it.querySelectorAll("canvas")].map((canvas) => canvas.dataset.cover ?? null),
-    values: texts(it, ".legend output"),
+    values: texts(it, ".legend .value"),
     ticks: [...it.querySelectorAll(".values span")].map((tick) => [tick.textContent, parseFloat(tick.style.top)]),
     lines: it.querySelectorAll(".grid i").length,
   };
@@ -113,6 +113,13 @@ def ends_of(frame):
     """The ends of the range of a View or Rows frame."""
     at = {5: 31, 6: 13}[frame[4]]
     return [int.from_bytes(frame[at + 8 * end : at + 8 * end + 8], "big", signed=True) for end in range(2)]
+
+
+def is_black(frames):
+    """Whether the last picture of some frames has a black pixel."""
+    pictures = subprocess.run([PROGRAM, "-", "draw"], input=frames, stdout=subprocess.PIPE, check=True).stdout
+    width, height = map(int, pictures[3 : pictures.index(b"\n", 3)].split())
+    return any(pictures[-height * ((width + 7) // 8) :])
 
 
 class Page:
@@ -170,8 +177,10 @@ class Page:
             lo, hi = (round(float(end) * 10**coarsest) * unit for end in asked["range"].split(".."))
         else:
             lines = "open 1 131072\n" + "".join(f"view 1 {words} auto{where}\n" for words, where in views)
-            ends = [ends_of(frame) for frame in frames_of(self.program(["serve"], lines.encode()))[1:]]
-            scaled = [[end * 10 ** (finest - scales[name]) for end in pair] for name, pair in zip(names, ends)]
+            opened, *frames = frames_of(self.program(["serve"], lines.encode()))
+            shown = [is_black(opened + b"".join(frames[: at + 1])) for at in range(len(frames))]
+            ends = [(name, ends_of(frame)) for name, frame, is_shown in zip(names, frames, shown) if is_shown or not any(shown)]
+            scaled = [[end * 10 ** (finest - scales[name]) for end in pair] for name, pair in ends]
             lo, hi = min(pair[0] for pair in scaled) // unit * unit, -(-max(pair[1] for pair in scaled) // unit) * unit
         return [f"{lo // 10 ** (finest - scales[name])}..{hi // 10 ** (finest - scales[name])}" for name in names]
 

@@ -110,7 +110,7 @@ def started(words, changes):
             raise Stopped("the program isn't built: run ./chart --prove first")
         return Program(words.program or CHART, words.store, changes.tell)
     except Ended as end:
-        raise Stopped(str(end), end.status if end.status > 0 else 1) from None
+        raise Stopped(f"{words.store}: {end}", end.status if end.status > 0 else 1) from None
     except OSError as fault:
         raise Stopped(f"the program can't be started: {fault.strerror}: {fault.filename}") from None
 

@@ -2,7 +2,7 @@
  * Which client draws: the proved one, in the module chart_client.wasm, or where the browser has no WebAssembly or the module isn't there,
  * that of chart_client.js. And the covers of frames that are still on their way, which the proved client alone makes.
  */
-import { Client } from "../chart_client.js";
+import { Client, Stopped } from "../chart_client.js";
 import { ProvedClient } from "../proved_client.js";
 
 const [FRONT, ITEM, VIEW] = [88, 25, 5]; // of a View frame: the bytes before its coefficients, those of one, and its kind
@@ -62,8 +62,15 @@ export function coverOf({ client, module }, bytes) {
   const numbers = new DataView(front.buffer);
   numbers.setUint32(0, FRONT - 4 + ITEM * count);
   numbers.setUint32(FRONT - 4, count);
-  const copy = copyOf(client, module);
-  copy.feed(front);
-  const frame = copy.next();
-  return { frame, picture: copy.cover(frame, count - 1), count: count - 1 };
+  try {
+    const copy = copyOf(client, module);
+    copy.feed(front);
+    const frame = copy.next();
+    return { frame, picture: copy.cover(frame, count - 1), count: count - 1 };
+  } catch (error) {
+    if (error instanceof Stopped || error instanceof RangeError) {
+      return null; // no room for a copy, or no frame that can be drawn, which the client itself will say
+    }
+    throw error;
+  }
 }

@@ -14,7 +14,8 @@ const token = new URLSearchParams(location.hash.slice(1)).get("token") ?? "";
 export async function post(path, body, more = {}) {
   const response = await fetch(path, { method: "POST", headers: { "X-Chart-Token": token }, body, ...more });
   if (!response.ok) {
-    throw new Denied((await response.json()).error, response.status);
+    const told = await response.json().catch(() => ({ error: `the server answers ${response.status}` }));
+    throw new Denied(told.error, response.status);
   }
   return response;
 }

@@ -9,9 +9,8 @@ function eventOf(block) {
   return fields.event ? { name: fields.event, value: JSON.parse(fields.data) } : null;
 }
 
-/** The events of a session, as they come, until the stream ends. Its holder is told of each sign of life. */
-export async function* readEvents(session, alive) {
-  const cut = new AbortController();
+/** The events of a session, as they come, until the stream ends or `cut` is aborted. Its holder is told of each sign of life. */
+export async function* readEvents(session, alive, cut) {
   let timer = setTimeout(() => cut.abort(), SILENCE);
   try {
     const response = await post("events", String(session), { signal: cut.signal });

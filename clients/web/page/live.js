@@ -6,15 +6,22 @@ import { readEvents } from "./events.js";
 const [FIRST_WAIT, LONGEST_WAIT] = [500, 5000]; // milliseconds until the next try
 const LASTED = 10000; // from which on a line stood well, so that the next try follows soon
 const TURN = 30000; // until a page that gave way tries again by itself
+const UNSEEN = 10000; // until a page that nobody sees lets its session and its connection go: a browser has six to a server
 const LATE = 1000; // until a change that isn't drawn makes the page behind
 
 const FULL =
   "Sixteen pages look at this store, as many as it takes at once. This one begins as soon as one of them goes or is idle for a minute.";
 
 const later = (time) => new Promise((done) => setTimeout(done, time));
+const isSeen = () => document.visibilityState === "visible";
+const seen = async () => {
+  while (!isSeen()) {
+    await new Promise((done) => document.addEventListener("visibilitychange", done, { once: true }));
+  }
+};
 const input = () => new Promise((done) => ["pointerdown", "keydown"].forEach((name) => addEventListener(name, done, { once: true })));
 
-/** How the line is: `live`, `behind`, `cut`, `waiting` or `ended`, in words and since when. */
+/** How the line is: `live`, `behind`, `cut`, `waiting`, `resting` or `ended`, in words and since when. */
 export class Status {
   constructor() {
     this.state = null;
@@ -24,7 +31,7 @@ export class Status {
     if (state !== this.state) {
       Object.assign(this, { state, since: new Date() });
     }
-    const names = { live: "Live", behind: "Behind", cut: "Cut off", waiting: "Waiting", ended: "Ended" };
+    const names = { live: "Live", behind: "Behind", cut: "Cut off", waiting: "Waiting", resting: "Resting", ended: "Ended" };
     const clock = this.since.toTimeString().slice(0, 8);
     part("status").dataset.state = state;
     tell(part("status"), `${names[state]} since ${clock}`);
@@ -36,11 +43,24 @@ export class Status {
 /** What keeps the line up, for as long as the page is there. */
 export class Line {
   constructor(page) {
-    Object.assign(this, { page, status: new Status(), late: null, gaveWay: false, isOver: false });
+    Object.assign(this, { page, status: new Status(), late: null, gaveWay: false, isOver: false, cut: new AbortController() });
+    let timer = null;
+    document.addEventListener("visibilitychange", () => {
+      clearTimeout(timer);
+      timer = isSeen() ? null : setTimeout(() => this.rest(), UNSEEN);
+    });
+  }
+
+  /** Lets the session go, until the page is seen again. */
+  rest() {
+    this.page.connection.close();
+    this.cut.abort();
+    this.status.is("resting");
   }
 
   async keepUp() {
     for (let wait = FIRST_WAIT; !this.isOver; wait = Math.min(LONGEST_WAIT, 2 * wait)) {
+      await seen();
       const begun = performance.now();
       try {
         await this.page.connection.begin();
@@ -52,6 +72,9 @@ export class Line {
         this.fail(error);
       }
       this.forgetLate();
+      if (!isSeen()) {
+        continue;
+      }
       if (performance.now() - begun > LASTED) {
         wait = FIRST_WAIT;
       }
@@ -64,7 +87,9 @@ export class Line {
   }
 
   fail(error) {
-    if (error.frame?.number === TOO_MANY_SESSIONS) {
+    if (!isSeen()) {
+      this.status.is("resting");
+    } else if (error.frame?.number === TOO_MANY_SESSIONS) {
       this.status.is("waiting", FULL);
     } else if (error instanceof Denied && error.status > 0) {
       this.status.is(error.status === 503 ? "ended" : "cut", `Nothing more is drawn: ${error.message}.`);
@@ -76,7 +101,8 @@ export class Line {
   /** Hands on events until their stream ends. */
   async listen() {
     const alive = () => this.status.is(this.late === null ? "live" : this.status.state);
-    for await (const { name, value } of readEvents(this.page.connection.number, alive)) {
+    this.cut = new AbortController();
+    for await (const { name, value } of readEvents(this.page.connection.number, alive, this.cut)) {
       if (name === "changed") {
         this.change(value);
       } else if (name === "ended") {

@@ -174,11 +174,18 @@ class Page {
         await this.drawOnce(names, began);
         this.line.caughtUp();
       } catch (error) {
-        // The connection has let its session go, so the line begins another one, which draws.
-        tell(part("told"), `Not drawn: ${error.message}.`);
+        this.tellFault(error);
       }
     }
     this.isDrawing = false;
+  }
+
+  /** Says why nothing was drawn. Where the session was lost with that, the line begins another one, which draws. */
+  tellFault(error) {
+    tell(part("told"), `Not drawn: ${error.message}.`);
+    if (this.connection.number) {
+      this.panels.forEach((panel) => panel.fail(error.message));
+    }
   }
 
   async drawOnce(names, began) {
@@ -243,10 +250,11 @@ class Page {
 
 /** Changes the panels, and gives the focus back to what has the name of the part that had it. */
 function keepFocus(change) {
-  const name = part("panels").contains(document.activeElement) ? document.activeElement.getAttribute("aria-label") : null;
+  const hadFocus = part("panels").contains(document.activeElement);
+  const name = document.activeElement?.getAttribute("aria-label");
   change();
-  const named = [...part("panels").querySelectorAll("[aria-label]")].find((it) => it.getAttribute("aria-label") === name);
-  if (name !== null) {
+  if (hadFocus) {
+    const named = [...part("panels").querySelectorAll("[aria-label]")].find((it) => it.getAttribute("aria-label") === name);
     (named ?? part("panels").querySelector(".plot") ?? part("open_picker")).focus({ preventScroll: true });
   }
 }

@@ -11,7 +11,7 @@ class Trace {
     this.name = name;
     this.place = place;
     this.canvas = make("canvas", { "data-name": name });
-    this.value = make("output", { class: "value" });
+    this.value = make("span", { class: "value" });
     const drop = signButton("×", `Take ${name} away`, remove, { class: "drop" });
     const top = isTop ? [make("small", { title: "Where charts overlap, this one is seen" }, "on top")] : [];
     this.entry = make("li", { class: `series-${place + 1}` }, make("b", {}, name), ...top, this.value, drop);

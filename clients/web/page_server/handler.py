@@ -1,7 +1,7 @@
 """The answers over HTTP: the page's files, and behind its token request lines, the catalog and the stream of what changes."""
-import contextlib
 import hmac
 import http.server
+import itertools
 import json
 import os
 import re
@@ -151,15 +151,14 @@ class Handler(http.server.BaseHTTPRequestHandler):
         return self.send_pieces(next(frames), frames)
 
     def send_pieces(self, first, others):
-        """Sends a first piece and those that follow it, as they come. Where the program ends in between, what came of them."""
-        self.close_connection = True
-        self.head(200, "application/octet-stream", {})
-        self.wfile.write(first)
-        self.wfile.flush()
-        with contextlib.suppress(Ended):
-            for piece in others:
-                self.wfile.write(piece)
+        """Sends a first piece and those that follow it, as they come. Where the program ends in between, the answer has no end."""
+        self.head(200, "application/octet-stream", {"Transfer-Encoding": "chunked"})
+        try:
+            for piece in itertools.chain([first], others, [b""]):
+                self.wfile.write(b"%x\r\n%b\r\n" % (len(piece), piece))
                 self.wfile.flush()
+        except Ended:
+            self.close_connection = True
 
     def send_catalog(self, _):
         self.send_json(200, [told(series) for series in list(self.server.program.catalog.values())])
