@@ -402,6 +402,8 @@ class Busy(unittest.TestCase):
                 self.assertEqual(gateway.ask("/healthz")[0], 200)
                 for one in waiting:
                     one.join()
+                lines.append(f"fresh v=1 {T}")
+                self.assertEqual(gateway.write(lines[-1])[0], 503)
                 os.kill(child, signal.SIGCONT)
                 for one in lines:
                     ends = time.monotonic() + 30
@@ -409,7 +411,7 @@ class Busy(unittest.TestCase):
                         self.assertLess(time.monotonic(), ends)
                         time.sleep(0.1)
                 self.assertEqual(gateway.stop(), 0)
-                self.assertEqual(len(gateway.exported("w_v")), 3600)
+                self.assertEqual((len(gateway.exported("w_v")), gateway.exported("fresh_v")), (3600, {T: "1.00"}))
             finally:
                 gateway.close()
 
