@@ -162,7 +162,7 @@ class Keeper:
                 raise
 
     def state(self):
-        """Two that are equal, the second one taken between two turns, tell that no turn was done meanwhile. Without a run none equals another one."""
+        """Two that are equal, the second one taken between two turns, tell that no turn was done meanwhile. Without a run none equals another."""
         return (self.run, self.run.answered) if self.run else object()
 
     async def stop(self):
@@ -231,7 +231,7 @@ class Keeper:
     def _reason_to_give_up(self, end, soon):
         if end.status in DAMAGED:
             return str(end)
-        # A sync may have failed, and a run behind it would take what never reached the medium for stored: docs/FORMATS.md, After a sync that failed
+        # A sync may have failed, and a run behind it would take for stored what never reached the medium: docs/FORMATS.md tells why.
         if end.status == 6 and not is_held(self.path):
             return str(end)
         return f"{MOST_SOON} runs in a row ended at once: {end}" if soon >= MOST_SOON else None

@@ -60,8 +60,8 @@ class Intake:
             raise Busy("too many points wait for the disk")
 
     async def take(self, points, outcome):
-        """Stores the points of an iterator, and comes back once all are acknowledged. What can't be stored is told by the outcome. The iterator gives
-        None for what is no point, so that others have their turn however many of these there are.
+        """Stores the points of an iterator, and comes back once all are acknowledged. What can't be stored is told by the outcome. The iterator
+        gives None for what is no point, so that others have their turn however many of these there are.
 
         Raises Busy, NoRoom, child.Down, child.Lost and TimeoutError, behind which some of them are stored and some aren't.
         """
