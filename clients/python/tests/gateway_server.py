@@ -8,14 +8,19 @@ import subprocess
 import sys
 import tempfile
 import time
+import unittest
 import urllib.error
 import urllib.parse
 import urllib.request
+from decimal import Decimal
 
 ROOT = os.path.dirname(os.path.dirname(os.path.dirname(os.path.dirname(os.path.realpath(__file__)))))
-PROGRAM = next(filter(os.path.exists, (os.path.join(ROOT, way) for way in ("crates/chart_program/out/chart_program", "dist/chart_program"))), None)
+PROGRAMS = [os.path.join(ROOT, way) for way in ("crates/chart_program/out/chart_program", "dist/chart_program")]
+PROGRAM = next(filter(os.path.exists, PROGRAMS), None)
 sys.path.insert(0, os.path.join(ROOT, "clients/python"))
 SECONDS = 60
+T = 1_700_000_000  # seconds; a multiple of 10, and not of 60
+SECOND = '[[series]]\nstep = "1s"\nscale = 2\n'
 OPENER = urllib.request.build_opener(urllib.request.ProxyHandler({}))
 
 try:
@@ -60,7 +65,8 @@ class Gateway:
         if self.log:
             self.log.close()
         self.log = tempfile.TemporaryFile()
-        self.process = subprocess.Popen(command, stdin=subprocess.DEVNULL, stderr=self.log, env=environment, preexec_fn=limit if most_bytes else None)
+        first = limit if most_bytes else None
+        self.process = subprocess.Popen(command, stdin=subprocess.DEVNULL, stderr=self.log, env=environment, preexec_fn=first)
         ends = time.monotonic() + SECONDS
         while time.monotonic() < ends:
             try:
@@ -140,3 +146,36 @@ class Gateway:
         """The series of a store: by their names the start, the step, the scale and the slots."""
         done = subprocess.run([PROGRAM, os.path.join(self.stores, store), "list"], stdout=subprocess.PIPE, check=True)
         return {name: tuple(map(int, numbers)) for name, *numbers in map(str.split, done.stdout.decode().splitlines())}
+
+
+class OverAGateway(unittest.TestCase):
+    """Each test has a gateway of its own."""
+
+    SECTIONS, SERIES = {}, SECOND
+
+    def setUp(self):
+        folder = tempfile.TemporaryDirectory()
+        self.addCleanup(folder.cleanup)
+        self.gateway = self.made(folder.name)
+
+    def made(self, folder):
+        gateway = Gateway(folder, self.SECTIONS, self.SERIES)
+        self.addCleanup(gateway.close)
+        return gateway.start()
+
+    def require_written(self, lines, **named):
+        status, text = self.gateway.write(lines, **named)
+        self.assertEqual(status, 204, text)
+
+    def values(self, query, at):
+        """The raw values of a query as of a time, by the text of the labels."""
+        data = self.gateway.told_of("query", query=query, time=at)
+        return {json.dumps(one["metric"], sort_keys=True): {time: Decimal(value) for time, value in one["values"]} for one in data["result"]}
+
+
+def require_all():
+    """Passes over a whole file of tests where what they need isn't there."""
+    if MISSING:
+        raise unittest.SkipTest(MISSING)
+    if PROGRAM is None:
+        raise unittest.SkipTest("the program isn't built, and dist/ has none")

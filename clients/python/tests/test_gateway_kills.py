@@ -9,14 +9,10 @@ import time
 import unittest
 from decimal import Decimal
 
-from gateway_server import MISSING, PROGRAM, Gateway
+from gateway_server import Gateway, T, require_all
 
-if MISSING:
-    raise unittest.SkipTest(MISSING)
-if PROGRAM is None:
-    raise unittest.SkipTest("the program isn't built, and dist/ has none")
+require_all()
 
-T = 1_700_000_000
 SERIES = '[[series]]\nstep = "1s"\nscale = 0\nstart = "2023-01-01"\n'
 WRITERS, KILLS, SECONDS = 3, 6, 60
 
@@ -33,7 +29,8 @@ class Writer(threading.Thread):
     def run(self):
         at = 0
         while not self.ends.is_set() and time.monotonic() < self.ends_at:
-            part = {(f"m_w{self.number}_{self.draw.randrange(5)}", T + at + more): self.draw.randrange(1000) for more in range(self.draw.choice((1, 50, 400)))}
+            times = range(T + at, T + at + self.draw.choice((1, 50, 400)))
+            part = {(f"m_w{self.number}_{self.draw.randrange(5)}", time_of): self.draw.randrange(1000) for time_of in times}
             at += 400
             self.sent.update(part)
             lines = "\n".join(f"m {name[2:]}={value}i {time_of}" for (name, time_of), value in part.items())
@@ -82,7 +79,8 @@ class Kills(unittest.TestCase):
     def require_equal(self):
         self.assertEqual(self.gateway.stop(), 0)
         sent, answered = ({key: value for writer in self.writers for key, value in getattr(writer, of).items()} for of in ("sent", "answered"))
-        stored = {(name, time_of): int(Decimal(value)) for name in self.gateway.listed() for time_of, value in self.gateway.exported(name).items()}
+        exported = [(name, *pair) for name in self.gateway.listed() for pair in self.gateway.exported(name).items()]
+        stored = {(name, time_of): int(Decimal(value)) for name, time_of, value in exported}
         self.assertGreater(len(answered), 1000)
         self.assertEqual({key: value for key, value in answered.items() if stored.get(key) != value}, {}, "answered, and not stored")
         self.assertEqual({key: value for key, value in stored.items() if sent.get(key) != value}, {}, "stored, and never sent")

@@ -26,7 +26,8 @@ class Budget:
 
 
 async def read(request, limits):
-    """The bytes of a body, unpacked where they are gzip or deflate. Raises what a request is answered whose body is too large, too slow or broken."""
+    """The bytes of a body, unpacked where they are gzip or deflate. Raises what a request is answered whose body is too large, too slow or
+    broken."""
     data = await packed(request, limits)
     coding = request.headers.get("Content-Encoding", "").strip().lower()
     if coding in ("", "identity"):

@@ -114,7 +114,7 @@ class Keeper:
         self.opened = None  # the frame that opened the session
         self.has_worked = False  # whether the last run answered what it was asked
         self.free, self.is_up, self.is_stopping = asyncio.Lock(), asyncio.Event(), False
-        self.task = None
+        self.task, self.turns = None, set()
 
     async def start(self):
         """Starts the first run, and waits until it stands, or is given up."""
@@ -122,34 +122,47 @@ class Keeper:
         await self.is_up.wait()
 
     async def ask(self, lines, seconds=30):
-        """The frames of lines, of which each 64 are one turn. Raises Down, Lost, and asyncio.TimeoutError where no run stands in time."""
+        """The frames of lines, of which each 64 are one turn. Raises Down, Lost, and TimeoutError where no run stands in time."""
         answers = []
         for at in range(0, len(lines), IN_FLIGHT):
             await asyncio.wait_for(self.is_up.wait(), seconds)
-            async with self.free:
-                if self.down:
-                    raise Down(self.down)
-                if self.run is None:
-                    raise Lost("the run has ended")
-                answers += await self._turn(lines[at : at + IN_FLIGHT])
+            answers += await self._asked(lines[at : at + IN_FLIGHT])
         return answers
 
-    async def _turn(self, lines):
-        """A turn that is broken off would leave answers behind for the next one, so it goes on all the same."""
-        run = self.run
-        turn = asyncio.ensure_future(run.turn(lines))
+    async def _asked(self, lines):
+        """The answers of a turn. Whoever waits for them may be broken off, and the turn goes on, since its answers belong to no later one."""
+        waits = [True]
+        turn = asyncio.create_task(self._turn(lines, waits))
+        self.turns.add(turn)
+        turn.add_done_callback(self._done)
         try:
             return await asyncio.shield(turn)
-        except asyncio.CancelledError:
-            await asyncio.wait({turn})
+        finally:
+            waits.clear()
+
+    def _done(self, turn):
+        self.turns.discard(turn)
+        if not turn.cancelled():
             turn.exception()
-            raise
-        except Lost:
-            self.is_up.clear() if self.run is run else None
-            raise
+
+    async def _turn(self, lines, waits):
+        async with self.free:
+            if not waits:
+                return []
+            if self.down:
+                raise Down(self.down)
+            if self.run is None:
+                raise Lost("the run has ended")
+            run = self.run
+            try:
+                return await run.turn(lines)
+            except Lost:
+                if self.run is run:
+                    self.is_up.clear()
+                raise
 
     def state(self):
-        """Two that are equal, the second one taken between two turns, tell that no turn was done meanwhile. Without a run none equals another one."""
+        """Two that are equal, the second one taken between two turns, tell that no turn was done meanwhile. Without a run none equals another."""
         return (self.run, self.run.answered) if self.run else object()
 
     async def stop(self):
@@ -218,7 +231,7 @@ class Keeper:
     def _reason_to_give_up(self, end, soon):
         if end.status in DAMAGED:
             return str(end)
-        # A sync may have failed, and a run behind it would take what never reached the medium for stored: docs/FORMATS.md, After a sync that failed
+        # A sync may have failed, and a run behind it would take for stored what never reached the medium: docs/FORMATS.md tells why.
         if end.status == 6 and not is_held(self.path):
             return str(end)
         return f"{MOST_SOON} runs in a row ended at once: {end}" if soon >= MOST_SOON else None

@@ -30,7 +30,7 @@ def points(body, outcome):
 
 
 def of_list(one):
-    """The series, plugin, time and value of each value of a list. A series' name is collectd_PLUGIN_TYPE, and the value's own name behind that."""
+    """The series, plugin, time and value of each value of a list. A series is called collectd_PLUGIN_TYPE, with the value's name behind that."""
     time = Decimal(str(one["time"]))
     if not time.is_finite() or time.adjusted() > 12:
         raise ValueError(f"{time} is no time")

@@ -11,7 +11,7 @@ from .line_protocol import PRECISIONS
 
 
 def points(text, key, precision, outcome):
-    """The points of a text, and None for lines that are none; these are told by the outcome. A first line that begins with no digit is taken as a
+    """The points of a text, and None for lines that are none; these are told by the outcome. A first line that begins with no digit is a
     header."""
     read_date = TimeReader()
     for row, line in enumerate(io.StringIO(text), 1):

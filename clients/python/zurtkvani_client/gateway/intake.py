@@ -1,6 +1,7 @@
 """From points to the slots of series: which series a point is of, which slot its time lies in, and what became of each."""
 import asyncio
 import collections
+import time
 
 from ..decimals import MOST, whole_number
 from ..grids import LAST_SLOT
@@ -8,6 +9,7 @@ from ..unfit import Unfit
 from .labels import text_of
 from .stores import FULL, NoRoom
 
+PAUSE = 0.03  # seconds between two looks whether there is room
 PART = 2000  # points that are taken in before others have their turn
 SHOWN = 5  # bad lines, and reasons, that an answer tells
 MOST_WORDS = 400  # signs of one of them
@@ -51,16 +53,17 @@ class Intake:
     def __init__(self, configuration, stores, writer_of, waiting, counts):
         self.given, self.stores, self.writer_of = configuration.write, stores, writer_of
         self.waiting, self.counts = waiting, counts
+        self.works = set()  # what goes on though nobody may wait for it
 
     def require_room(self):
         if self.waiting() >= self.given.waiting_points:
             raise Busy("too many points wait for the disk")
 
     async def take(self, points, outcome):
-        """Stores the points of an iterator, and comes back once all are acknowledged. What can't be stored is told by the outcome. The iterator gives
-        None for what is no point, so that others have their turn however many of these there are.
+        """Stores the points of an iterator, and comes back once all are acknowledged. What can't be stored is told by the outcome. The iterator
+        gives None for what is no point, so that others have their turn however many of these there are.
 
-        Raises Busy, NoRoom, child.Down, child.Lost and asyncio.TimeoutError, behind which some of them are stored and some aren't.
+        Raises Busy, NoRoom, child.Down, child.Lost and TimeoutError, behind which some of them are stored and some aren't.
         """
         waiting, part = [], []
         for at, point in enumerate(points, 1):
@@ -71,7 +74,7 @@ class Intake:
                 part = []
         waiting += await self._part(part, outcome)
         for batch, counts in waiting:
-            refused = await asyncio.wait_for(asyncio.shield(batch.done), self.given.seconds / 10**9)
+            refused = await batch.stored(self.given.seconds / 10**9)
             for known, count in counts.items():
                 self._settle(refused.get(known), known, count, outcome)
         self.counts.add("points_total", outcome.taken)
@@ -98,17 +101,16 @@ class Intake:
         for known, (values, count) in slots.items():
             batch = self.writer_of(known.keeper).add(known, values)
             batches.setdefault(batch, {})[known] = count
-        await self._until_room()
+        await self._until_room(batches)
         return list(batches.items())
 
-    async def _until_room(self):
+    async def _until_room(self, batches):
         """Others have their turn here; and a request of more points than may wait goes on as the disk takes them."""
         await asyncio.sleep(0)
-        for _ in range(1000):
-            if self.waiting() < 2 * self.given.waiting_points:
-                return
-            await asyncio.sleep(0.03)
-        raise Busy("the disk is too slow for so many points")
+        while self.waiting() >= 2 * self.given.waiting_points:
+            if all(time.monotonic() - batch.writer.progress > self.given.seconds / 10**9 for batch in batches):
+                raise Busy("the disk is too slow for so many points")
+            await asyncio.sleep(PAUSE)
 
     async def _make_missing(self, points, outcome):
         missing, claims = {}, {}
@@ -118,12 +120,24 @@ class Intake:
             elif point.measurement is not None and point.key not in self.stores.names.measurements:
                 claims[point.key] = point.measurement
         if claims:
-            await self.stores.claim(list(claims.items()))
+            await self._whole(self.stores.claim(list(claims.items())))
         if missing:
-            refused = await self.stores.make(list(missing.values()))
+            refused = await self._whole(self.stores.make(list(missing.values())))
             for point in points:
                 if point.key in refused:
                     outcome.drop(f"{text_of(point.key)}: {refused[point.key]}")
+
+    async def _whole(self, work):
+        """Awaits what isn't to be broken off in the middle, and no longer than a write may take; it goes on all the same."""
+        task = asyncio.ensure_future(work)
+        self.works.add(task)
+        task.add_done_callback(self._done)
+        return await asyncio.wait_for(asyncio.shield(task), self.given.seconds / 10**9)
+
+    def _done(self, task):
+        self.works.discard(task)
+        if not task.cancelled():
+            task.exception()
 
     def _place(self, known, point, slots, outcome):
         """Puts a point into its slot: the one that its time lies in. The last one of a slot stays."""

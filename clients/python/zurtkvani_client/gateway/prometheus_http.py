@@ -15,7 +15,7 @@ from .promql import Selector, Wrong
 from .reading import Reads, TooMuch
 
 SECOND = 10**9
-MOST_TIME = 4 * 10**18  # nanoseconds from 1970
+MOST_TIME = 2**63  # nanoseconds from 1970
 FAILURES = {Wrong: (400, "bad_data"), Unfit: (400, "bad_data"), TooMuch: (422, "execution"), child.Down: (503, "unavailable"),
             child.Lost: (503, "unavailable"), child.Refused: (422, "execution"), TimeoutError: (503, "timeout")}
 
@@ -38,7 +38,8 @@ def in_form(answer):
 
 
 def form(status, told, **headers):
-    return web.Response(status=status, text=json.dumps(told, ensure_ascii=False, separators=(",", ":")), content_type="application/json", headers=headers)
+    text = json.dumps(told, ensure_ascii=False, separators=(",", ":"))
+    return web.Response(status=status, text=text, content_type="application/json", headers=headers)
 
 
 async def words_of(request):
@@ -55,7 +56,7 @@ def word(words, name, default=None):
 
 
 def nanoseconds_of(text):
-    """The nanoseconds of a number of seconds; None where the text is no number. What is far from all times is the greatest one that is refused."""
+    """The nanoseconds of a number of seconds; None where the text is no number. What is far from all times is one that is refused."""
     try:
         number = Decimal(text)
     except InvalidOperation:
@@ -127,7 +128,8 @@ async def query(gateway, words, _request):
     found = await asked.lines(tree)
     if found and not isinstance(found[0], Line):
         return {"resultType": "scalar", "result": [seconds(at), evaluating.text_of(found[0])]}, ways_of(asked.reads)
-    result = [{"metric": line.labels, "value": [seconds(at), evaluating.text_of(line.values[0])]} for line in found if line.values[0] is not None]
+    pairs = [(line.labels, line.values[0]) for line in found if line.values[0] is not None]
+    result = [{"metric": labels_of, "value": [seconds(at), evaluating.text_of(value)]} for labels_of, value in pairs]
     return {"resultType": "vector", "result": result}, ways_of(asked.reads)
 
 

@@ -9,7 +9,8 @@ from .matching import Matcher
 
 UNDERSTOOD = (
     "understood are selectors by name and labels (=, !=, =~, !~) with a range as [5m], min_over_time, max_over_time, last_over_time, "
-    "avg_over_time, sum_over_time, count_over_time, the aggregations sum, min, max, avg and count with by or without, numbers, and + - * / between these"
+    "avg_over_time, sum_over_time, count_over_time, the aggregations sum, min, max, avg and count with by or without, numbers, and + - * / "
+    "between these"
 )
 Number = collections.namedtuple("Number", "value")
 Selector = collections.namedtuple("Selector", "matchers range")  # the range in nanoseconds, or None
@@ -21,9 +22,14 @@ FUNCTIONS = ("min_over_time", "max_over_time", "last_over_time", "avg_over_time"
 AGGREGATIONS = ("sum", "min", "max", "avg", "count")
 SIZES = {"ms": 10**6, "s": 10**9, "m": 60 * 10**9, "h": 3600 * 10**9, "d": 86_400 * 10**9, "w": 7 * 86_400 * 10**9, "y": 365 * 86_400 * 10**9}
 TOKEN = re.compile(
-    r"""\s*(?:(?P<duration>(?:\d+(?:ms|[smhdwy]))+)(?![a-zA-Z0-9_])|(?P<number>0x[0-9a-fA-F]+|(?:\d+\.?\d*|\.\d+)(?:[eE][+-]?\d+)?)(?![a-zA-Z_])"""
-    r"""|(?P<word>[a-zA-Z_:][a-zA-Z0-9_:]*)|(?P<text>"(?:[^"\\\n]|\\.)*"|'(?:[^'\\\n]|\\.)*'|`[^`]*`)|(?P<sign>=~|!~|!=|==|>=|<=|[-+*/%^(){}\[\],=<>@:]))""",
-    re.ASCII,
+    r"""\s*(?:
+    (?P<duration>(?:\d+(?:ms|[smhdwy]))+)(?![a-zA-Z0-9_])
+    |(?P<number>0x[0-9a-fA-F]+|(?:\d+\.?\d*|\.\d+)(?:[eE][+-]?\d+)?)(?![a-zA-Z_])
+    |(?P<word>[a-zA-Z_:][a-zA-Z0-9_:]*)
+    |(?P<text>"(?:[^"\\\n]|\\.)*"|'(?:[^'\\\n]|\\.)*'|`[^`]*`)
+    |(?P<sign>=~|!~|!=|==|>=|<=|[-+*/%^(){}\[\],=<>@:])
+    )""",
+    re.ASCII | re.VERBOSE,
 )
 PIECE = re.compile(r"(\d+)(ms|[smhdwy])", re.ASCII)
 ESCAPE = re.compile(r"\\(x[0-9a-fA-F]{2}|u[0-9a-fA-F]{4}|U[0-9a-fA-F]{8}|[0-7]{3}|.)", re.DOTALL)

@@ -98,8 +98,8 @@ class Reads:
         return [found.get(at) for at in range(windows.count)]
 
     async def values(self, known, low, high):
-        """The values from a time to before another one, in the series' unit: triples of a slot, a time and a number. Ranges without any are passed
-        over by views that are coarser."""
+        """The values from a time to before another one, in the series' unit: triples of a slot, a time and a number. Ranges without any are
+        passed over by views that are coarser."""
         start, step = known.record.start, known.record.step
         first, behind = max(0, -((start - low) // step)), min(known.slots, -((start - high) // step))
         if first >= behind:

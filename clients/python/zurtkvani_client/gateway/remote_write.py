@@ -79,8 +79,8 @@ def sample_of(data):
 
 
 def points(message, outcome):
-    """The points of a message, and None for what is none. NaN, by which Prometheus marks that a series ends, is left out, and so are the infinite
-    ones."""
+    """The points of a message, and None for what is none. NaN, by which Prometheus marks that a series ends, is left out, and so are infinite
+    values."""
     for number, held in fields(memoryview(message)):
         if number == 1:
             yield from points_of_series(held, outcome)

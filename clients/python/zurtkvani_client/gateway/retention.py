@@ -82,5 +82,5 @@ class Retention:
     async def quiet(self, keeper):
         """Waits for a quiet moment of a store; where none comes in the time from one round to the next, no longer."""
         writer, ends = self.gateway.writer_of(keeper), time.monotonic() + self.given.every / 10**9
-        while time.monotonic() < ends and (writer.waiting or time.monotonic() - writer.ended < self.given.quiet / 10**9):
+        while time.monotonic() < ends and (writer.waiting or time.monotonic() - writer.progress < self.given.quiet / 10**9):
             await asyncio.sleep(min(PAUSE, self.given.quiet / 10**9))

@@ -7,6 +7,7 @@ from ..timestamps import DAY, UNITS, unit_of
 from ..unfit import Unfit
 from .labels import NAME, text_of
 
+FARTHEST = 2**63  # nanoseconds from 1970: the year 2262
 Grid = collections.namedtuple("Grid", "start step scale")  # of a series as `create` takes it
 
 
@@ -21,6 +22,8 @@ def grid_for(rule, time):
 
     Where the rule names no start it is so long before the time as the rule says, at the beginning of a day of UTC where days are whole steps.
     """
+    if not -FARTHEST <= time < FARTHEST:
+        raise Unfit("a time is too far from 1970: see that its precision is right")
     even = DAY if DAY % rule.step == 0 else rule.step
     start = rule.start if rule.start is not None else (time - rule.before) // even * even
     unit = unit_for(start, rule.step)

@@ -31,7 +31,8 @@ ROUTES = [
     ("POST", "/write", WRITE, writes_http.write_1), ("POST", "/api/v2/write", WRITE, writes_http.write_2),
     ("POST", "/api/v1/write", WRITE, writes_http.remote), ("POST", "/csv/{name}", WRITE, writes_http.csv),
     ("POST", "/collectd", WRITE, writes_http.collectd),
-    ("GET", "/ping", OPEN, writes_http.ping), ("HEAD", "/ping", OPEN, writes_http.ping), ("POST", "/query", EITHER, writes_http.query_1), ("GET", "/query", EITHER, writes_http.query_1),
+    ("GET", "/ping", OPEN, writes_http.ping), ("HEAD", "/ping", OPEN, writes_http.ping),
+    ("POST", "/query", EITHER, writes_http.query_1), ("GET", "/query", EITHER, writes_http.query_1),
     ("GET", "/metrics", READ, metrics_of), ("GET", "/healthz", OPEN, health), ("POST", "/backup", WRITE, backup.answer),
     ("GET", "/chart/{name:.+}.{form:png|svg}", READ, charts_http.chart),
     *((method, f"/api/v1/{path}", READ, answer) for method in ("GET", "POST") for path, answer in (

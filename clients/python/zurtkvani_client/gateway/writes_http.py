@@ -33,8 +33,10 @@ async def take(gateway, points, outcome):
         raise Failed(str(why), 60) from None
     except child.Down as why:
         raise Failed(str(why), 60) from None
-    except (child.Lost, TimeoutError) as why:
-        raise Failed(f"the store doesn't answer: {why}", 5) from None
+    except TimeoutError:
+        raise Failed("the store doesn't answer in time", 5) from None
+    except child.Lost as why:
+        raise Failed(f"the store's run ended: {why}", 5) from None
     except OSError as why:
         raise Failed(f"the table of names can't be written: {why}", 60) from None
 

@@ -11,19 +11,28 @@ from .stores import FULL
 
 MOST_TRIES = 8  # of a turn whose run ended
 PAUSE = 0.05
+LOOK = 0.5  # seconds between two looks whether a store goes on
 
 
 class Batch:
     """Points of one store that are stored together: of each series its slots, each with what it was given last."""
 
-    def __init__(self):
-        self.values, self.count = {}, 0
+    def __init__(self, writer):
+        self.writer, self.values, self.count = writer, {}, 0
         self.done = asyncio.get_running_loop().create_future()
         self.done.add_done_callback(lambda done: done.cancelled() or done.exception())
 
     def add(self, known, slots):
         self.values.setdefault(known, {}).update(slots)
         self.count += len(slots)
+
+    async def stored(self, seconds):
+        """Waits until the batch is stored, as long as its store takes no more than so many seconds for a turn, and gives what was refused."""
+        while not self.done.done():
+            await asyncio.wait({self.done}, timeout=LOOK)
+            if not self.done.done() and time.monotonic() - self.writer.progress > seconds:
+                raise TimeoutError
+        return self.done.result()
 
     def lines(self):
         """Pairs of a series and a line that stores up to 256 slots of it which follow each other."""
@@ -42,7 +51,7 @@ class Writer:
     def __init__(self, keeper, counts, full):
         self.keeper, self.counts, self.full = keeper, counts, full
         self.batch, self.working, self.task = None, None, None
-        self.ended = time.monotonic()  # when the last batch was done
+        self.progress = time.monotonic()  # when the last turn was answered, or began where none waited
 
     @property
     def waiting(self):
@@ -52,9 +61,10 @@ class Writer:
     def add(self, known, slots):
         """Takes in points, and gives the batch that they are of."""
         if self.batch is None:
-            self.batch = Batch()
+            self.batch = Batch(self)
         self.batch.add(known, slots)
         if self.task is None or self.task.done():
+            self.progress = time.monotonic()
             self.task = asyncio.create_task(self._work())
         return self.batch
 
@@ -65,7 +75,7 @@ class Writer:
                 self.working.done.set_result(await self._store(self.working))
             except Exception as why:  # whoever waits is told, and the next batch is begun all the same
                 self.working.done.set_exception(why)
-            self.working, self.ended = None, time.monotonic()
+            self.working = None
 
     async def _store(self, batch):
         """Stores a batch; gives the refusal of each series of which something was refused."""
@@ -82,6 +92,7 @@ class Writer:
     async def _turn(self, pairs, refused):
         begun = time.monotonic()
         answers = await self._ask([line for _, line in pairs])
+        self.progress = time.monotonic()
         self.counts.add("edits_total", len(pairs))
         self.counts.add("turns_total")
         self.counts.add("turn_seconds_total", time.monotonic() - begun)
