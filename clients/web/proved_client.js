@@ -22,10 +22,10 @@ const LEAST_ROOM = 65536;
 /** A number where it is exact, as in chart_client.js. */
 const whole = (big) => (-(2n ** 53n) < big && big < 2n ** 53n ? Number(big) : big);
 
-/** A picture of w by h pixels: the bytes of a PBM, of which the rows begin at `front`. */
+/** A picture of w by h pixels: the bytes of a PBM, of which the rows begin at `front`. Of a cover no values are known. */
 export class BitPicture {
-  constructor(w, h, lo, hi, bytes) {
-    Object.assign(this, { w, h, lo, hi, bytes });
+  constructor(w, h, lo, hi, bytes, values = new Map()) {
+    Object.assign(this, { w, h, lo, hi, bytes, values });
     this.size = Math.ceil(w / 8);
     this.front = bytes.length - h * this.size;
   }
@@ -48,6 +48,12 @@ export class BitPicture {
 
   toPbm() {
     return this.bytes;
+  }
+
+  /** The least and the greatest value of a column, from 0 at the left; null where it has none. */
+  column(x) {
+    const [least, greatest] = this.values.get(x) ?? [];
+    return least === undefined ? null : { least: whole(least), greatest: whole(greatest) };
   }
 }
 
@@ -82,7 +88,20 @@ export class ProvedClient {
 
   draw({ w, h, lo, hi }) {
     const { size } = this.ask("chart_draw");
-    return size === 0 ? null : new BitPicture(w, h, lo, hi, this.picture(size));
+    return size === 0 ? null : new BitPicture(w, h, lo, hi, this.picture(size), this.values(w));
+  }
+
+  /** The least and the greatest value of each column of the picture drawn last that has any. */
+  values(w) {
+    const [found, answer] = [new Map(), BigInt(this.answer)];
+    const view = new DataView(this.calls.memory.buffer, this.answer, ANSWER); // chart_column takes no memory
+    for (let x = 0; x < w; x += 1) {
+      this.call("chart_column", x, answer);
+      if (view.getUint32(0, true) === FRAME) {
+        found.set(x, [view.getBigInt64(64, true), view.getBigInt64(72, true)]);
+      }
+    }
+    return found;
   }
 
   /** The cover of the view that `next` gave and that isn't drawn yet, after so many of its coefficients. */

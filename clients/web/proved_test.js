@@ -70,6 +70,29 @@ test("covers come before the picture", () => {
   assert.deepStrictEqual([...client.draw(view).toPbm().slice(-4)], [0x40, 0x40, 0xa0, 0x20]);
 });
 
+test("the values of columns", () => {
+  const wide = OTHERS[4].slice();
+  wide.set(bytesOf("F21F494C589C0000 0DE0B6B3A7640000"), 41); // the least and the greatest are 10^18 in size
+  const pictures = [...new ProvedClient(module).push(join(OPENED, VIEW, OTHERS[4], wide))].flatMap(({ picture }) => picture ?? []);
+  const values = pictures.map((picture) => Array.from({ length: picture.w + 2 }, (_, x) => picture.column(x - 1)));
+  const alone = (value) => ({ least: value, greatest: value });
+  assert.deepStrictEqual(values, [
+    [null, alone(4), alone(7), alone(2), null, null],
+    [null, null, { least: -2, greatest: 4 }, null, null],
+    [null, null, { least: -(10n ** 18n), greatest: 10n ** 18n }, null, null],
+  ]);
+});
+
+test("covers have no values of columns, and leave those of the picture drawn last", () => {
+  const client = new ProvedClient(module);
+  const picture = [...client.push(join(OPENED, VIEW))][1].picture;
+  client.feed(VIEW);
+  assert.strictEqual(client.cover(client.next(), 8).column(1), null);
+  assert.deepStrictEqual(picture.column(1), { least: 7, greatest: 7 });
+  const { code, lo, hi } = client.ask("chart_column", 1);
+  assert.deepStrictEqual([code, lo, hi], [1, 7, 7]);
+});
+
 const stops = (stream, message) => assert.throws(() => drawn(new ProvedClient(module), stream, 50), new Stopped(message));
 
 test("what can't be drawn", () => {

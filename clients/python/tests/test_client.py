@@ -18,6 +18,8 @@ from zurtkvani_client.client import ByHand, Proved, View, load  # noqa: E402
 from zurtkvani_client.frames import Cut, Done, Live, Refused, Stopped  # noqa: E402
 
 LIBRARY = os.environ.get("CHART_LIBRARY", "")
+# Three columns, of which the middle one has values.
+ROWS = "0000003D 06 00000001 0003 0002 FFFFFFFFFFFFFFFF 0000000000000005 0001 0001 0000000000000001 FFFFFFFFFFFFFFFE 0000000000000004 0000000000000002"
 
 
 @unittest.skipUnless(os.path.exists(LIBRARY), "CHART_LIBRARY names no library; clients/native/build makes one")
@@ -38,6 +40,35 @@ class Library(unittest.TestCase):
         other = by_hand.accept()[1]
         drawn = read[1][1]
         self.assertEqual((drawn.pixels, drawn.to_png(), drawn.lo, drawn.hi), (other.pixels, other.to_png(), 2, 7))
+
+    def test_the_values_of_columns(self):
+        frames = OPENED, VIEW, PUSH, DONE, ROWS
+        by_hand = ByHand(io.BytesIO(bytes.fromhex("".join(frames))))
+        for client in self.over(*frames), by_hand:
+            drawn = [picture for _, picture in (client.accept() for _ in range(5)) if picture]
+            self.assertEqual([[picture.column(x) for x in range(-1, picture.w + 1)] for picture in drawn], [
+                [None, (4, 4), (7, 7), (2, 2), None, None], [None, (4, 4), (7, 7), (1, 1), None, None], [None, None, (-2, 4), None, None],
+            ])
+
+    def test_a_column_of_no_picture(self):
+        client = self.over(OPENED, VIEW, DONE)
+
+        def told(column):
+            answer = client.ask("column", column)
+            return answer.code, answer.lo, answer.hi
+
+        def of_cover(view, client):
+            self.assertIsNone(client.cover(view, 8).column(0))
+            self.assertEqual(told(0), (0, 0, 0))
+
+        client.accept()
+        self.assertEqual(told(0), (0, 0, 0))
+        client.accept(of_cover)
+        client.accept()
+        self.assertEqual([told(column) for column in (0, 1, 3, 4, 65536, 2**32 - 1)], [(1, 4, 4), (1, 7, 7)] + 4 * [(0, 0, 0)])
+        client.calls.chart_close(ctypes.byref(client.handle))
+        with self.assertRaisesRegex(Stopped, "the client is closed"):
+            client.ask("column", 0)
 
     def test_covers_come_before_the_picture(self):
         covers = []

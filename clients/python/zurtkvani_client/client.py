@@ -38,6 +38,7 @@ def load(path):
         "draw": ([c_void_p, POINTER(Answer)], None),
         "cover": ([c_void_p, c_uint32, POINTER(Answer)], None),
         "picture": ([c_void_p, c_void_p, c_size_t], c_bool),
+        "column": ([c_void_p, c_uint32, POINTER(Answer)], None),
     }
     for name, (taken, given) in shapes.items():
         call = getattr(calls, f"chart_{name}")
@@ -117,7 +118,17 @@ class Proved:
 
     def draw(self, frame):
         size = self.ask("draw").bytes
-        return BitPicture(frame.w, frame.h, frame.lo, frame.hi, self.picture(size)) if size else None
+        return BitPicture(frame.w, frame.h, frame.lo, frame.hi, self.picture(size), self.values(frame.w)) if size else None
+
+    def values(self, w):
+        """The least and the greatest value of each column of the picture drawn last that has any."""
+        call, handle, answer, found = self.calls.chart_column, byref(self.handle), self.answer, {}
+        told = byref(answer)
+        for x in range(w):
+            call(handle, x, told)
+            if answer.code == FRAME:
+                found[x] = answer.lo, answer.hi
+        return found
 
     def cover(self, view, taken):
         """The cover of a view that isn't drawn yet, once so many of its coefficients are taken."""

@@ -22,6 +22,7 @@ class Picture:
 
     def __init__(self, w, h, lo, hi, rows):
         self.w, self.h, self.lo, self.hi = w, h, lo, hi
+        self.values = {column: (least, greatest) for column, _, least, greatest, _ in rows}
         self.pixels = bytearray(b"0") * (w * h)  # a byte each, "1" where it is black
         before = None
         for column, first, least, greatest, last in rows:
@@ -54,6 +55,11 @@ class Picture:
             else:
                 begin, end = end + 1, min(((2 * n + 1) * dy - 1) // (2 * dx), dy)
             self.fill(x1 + n, y1 + way * begin, y1 + way * end)
+
+    def column(self, x):
+        """The least and the greatest value of a column, from 0 at the left, as whole numbers; None where it has none. Of a cover none
+        are known."""
+        return self.values.get(x)
 
     def packed_rows(self):
         """The rows from the top, eight pixels a byte, the left one in the highest bit."""
@@ -115,8 +121,8 @@ class Picture:
 class BitPicture(Picture):
     """A picture that was drawn elsewhere, as the bytes of a raw PBM."""
 
-    def __init__(self, w, h, lo, hi, pbm):
-        self.w, self.h, self.lo, self.hi, self.pbm = w, h, lo, hi, pbm
+    def __init__(self, w, h, lo, hi, pbm, values=None):
+        self.w, self.h, self.lo, self.hi, self.pbm, self.values = w, h, lo, hi, pbm, values or {}
 
     @functools.cached_property
     def pixels(self):
