@@ -112,7 +112,8 @@ def draw_pushes(page):
     page.open(f"panel=few&panel=sea&from={START}&to={START + 100 * STEP}")
     page.do(lambda: page.browser.type("#line", f"set sea {START + 50 * STEP} 7777"))
     told = page.read()
-    require(told["answer"] == f"done: {SLOTS} slots" and told["panels"][1]["label"].endswith("to 7777"), f"the corrected value isn't drawn: {told}")
+    slots = (end_of_sea(page) - START) // STEP
+    require(told["answer"] == f"done: {slots} slots" and told["panels"][1]["label"].endswith("to 7777"), f"the corrected value isn't drawn: {told}")
     page.compare()
     drawn = [panel["drawings"] for panel in told["panels"]]
     for value in (9000, -5000, 12):
@@ -217,7 +218,7 @@ def lose_line(browser, store, folder, screenshots):
         edit(store, "append sea 77")
     with served(browser, store, screenshots, "--edit", "--token-file", token, "--port", str(port)) as (page, server):
         sleep_until_live(page)
-        wait_for(lambda: page.window()[1] > START + STEP * SLOTS, "what came in between isn't drawn")
+        wait_for(lambda: page.window()[1] == end_of_sea(page), "what came in between isn't drawn")
         page.compare()
         end_program(page, server)
 

@@ -132,6 +132,12 @@ class Answers(Page):
             data = data[4 + int.from_bytes(data[:4], "big") :]
         self.assertEqual(kinds, [OPENED, VIEW, CLOSED])
 
+    def test_a_close_that_is_refused_closes_nothing(self):
+        self.served.request(b"open 1")
+        self.assertEqual(self.served.request(b"close 1 now")[1][4], REFUSED)
+        with self.served.events(1) as stream:
+            self.assertIn(b": here", read_until(stream, b": here"))
+
     def test_the_catalog_follows_edits(self):
         self.assertEqual(self.served.request(b"create b -5 60 2", b"append a 9")[0], 200)
         status, data = self.served.ask("POST", "/catalog")

@@ -194,8 +194,7 @@ class Page {
     this.readLook(asked);
     this.makePanels(asked);
     const window = windowOf(asked, this.shown(asked), this.panels[0]?.size().w ?? 1) ?? NOWHERE;
-    showControls(this, asked, window === NOWHERE ? null : window);
-    document.title = asked.panels.length > 0 ? `${asked.panels.flatMap((panel) => panel.names).join(", ")} - Chart` : "Chart";
+    setTimeout(() => this.showAsked(asked, window)); // while the answers are on their way
     if (this.panels.length > 0) {
       const some = this.panels.filter(({ spec }) => names === null || spec.names.some((name) => names.includes(name)));
       let isDrawn = false;
@@ -207,6 +206,12 @@ class Page {
       this.crosshair.show();
       this.tellDrawn(began);
     }
+  }
+
+  showAsked(asked, window) {
+    showControls(this, asked, window === NOWHERE ? null : window);
+    const names = asked.panels.flatMap((panel) => panel.names).join(", ");
+    document.title = names === "" ? "Chart" : `${names} - Chart`;
   }
 
   /** What is asked for. Where that is nothing, the only series of the store is shown, or at first the list of them. */

@@ -12,7 +12,7 @@ from typing import NamedTuple
 
 from status_words import words_of_status
 
-DONE, REFUSED, OPENED = 1, 2, 3  # kinds of frames
+DONE, REFUSED, OPENED, CLOSED = 1, 2, 3, 4  # kinds of frames
 EDITS = (b"create", b"append", b"set", b"clear")
 MOST_LINES = 64  # the edits that a run stores together
 NO_REQUEST = b"?"  # a line that is refused; a run that answers it stands

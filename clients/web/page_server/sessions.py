@@ -6,7 +6,7 @@ behind its last request. Where a page asks for a session and there is none left,
 import threading
 import time
 
-from .program import EDITS, OPENED, REFUSED, Ended
+from .program import CLOSED, EDITS, OPENED, REFUSED, Ended
 
 UNKNOWN_SESSION, TOO_MANY = 4, 6  # numbers of refusals
 GONE = 30  # seconds from the last request until a session that no page holds is closed
@@ -43,7 +43,7 @@ class Sessions:
             frame = self.program.answer(line)
             if frame[4:6] == bytes((REFUSED, TOO_MANY)) and self.make_room():
                 frame = self.program.answer(line)
-            self.note(line, number, frame)
+            self.note(number, frame)
         return frame
 
     def answers(self, lines):
@@ -53,11 +53,11 @@ class Sessions:
         else:
             yield from map(self.answer, lines)
 
-    def note(self, line, number, frame):
+    def note(self, number, frame):
         if frame[4] == OPENED:
             self.let_go(number)
             self.held[number] = Session()
-        elif line.startswith(b"close ") or frame[4:6] == bytes((REFUSED, UNKNOWN_SESSION)):
+        elif frame[4] == CLOSED or frame[4:6] == bytes((REFUSED, UNKNOWN_SESSION)):
             self.let_go(number)
         elif number in self.held:
             self.held[number].asked = time.monotonic()
