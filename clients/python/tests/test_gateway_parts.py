@@ -5,7 +5,7 @@ import random
 import struct
 import tempfile
 import unittest
-from decimal import Decimal
+from decimal import ROUND_HALF_EVEN, Decimal
 
 from gateway_server import MISSING, ROOT
 
@@ -103,7 +103,15 @@ class Values(unittest.TestCase):
     def test_values_are_rounded_half_to_even(self):
         for value, scale, number in (("0.5", 0, 0), ("1.5", 0, 2), ("-2.5", 0, -2), ("21.345", 2, 2134), ("21.355", 2, 2136), (7, 2, 700), ("1e-30", 9, 0)):
             self.assertEqual(intake.number_of(value, scale), number)
-        for value, scale in ((10**18, 1), ("1e18", 1), ("1e400000", 0)):
+        draw = random.Random(8)
+        for _ in range(5000):
+            text = draw.choice((
+                f"{draw.uniform(-1e6, 1e6):.{draw.randrange(8)}f}", repr(draw.uniform(-1e9, 1e9)), f"-.{draw.randrange(10**4)}", f"{draw.randrange(10**8)}.",
+                f"{draw.randrange(100)}e{draw.randrange(-9, 6)}", f"-0.{draw.randrange(10**9):09}", str(draw.randrange(-(10**9), 10**9)),
+            ))
+            scale = draw.randrange(10)
+            self.assertEqual(intake.number_of(text, scale), int(Decimal(text).scaleb(scale).to_integral_value(ROUND_HALF_EVEN)), (text, scale))
+        for value, scale in ((10**18, 1), ("1e18", 1), ("1e400000", 0), ("1_0", 1), ("", 0), ("x", 2), ("1.2.3", 4)):
             with self.assertRaises(Unfit):
                 intake.number_of(value, scale)
 

@@ -67,6 +67,12 @@ class Writes(OverAGateway):
         self.gateway.stop()
         self.assertEqual((list(self.gateway.listed()), self.gateway.exported("w_a")), (["w_a"], {T: "1.00"}))
 
+    def test_the_last_of_a_slot_stays_however_its_labels_are_ordered(self):
+        self.require_written(f"w,a=1,b=2 v=1 {T + 5}\nw,b=2,a=1 v=2 {T}\nw,a=1,b=2 v=3 {T}\nw,b=2,a=1 v=4 {T + 5}\nw,a=1,b=2 v=5 {T - 86_400 * 40}")
+        self.gateway.stop()
+        (name,) = self.gateway.listed()
+        self.assertEqual(self.gateway.exported(name), {T - 86_400 * 40: "5.00", T: "3.00", T + 5: "4.00"})
+
     def test_csv(self):
         status, text, _ = self.gateway.ask("/csv/boiler?room=cellar", f"time,value\n{T},1.5\n{T + 2},\n2023-11-14T22:13:23Z,2.5\n")
         self.assertEqual((status, json.loads(text)), (200, {"taken": 2, "left_out": 1, "dropped": 0}))

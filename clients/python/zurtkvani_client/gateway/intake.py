@@ -91,16 +91,15 @@ class Intake:
 
     async def _part(self, points, outcome):
         """Hands some points to the writers, and gives the batches that they are of, each with how many of each series."""
-        await self._make_missing(points, outcome)
-        slots = {}
-        for point in points:
-            known = self.stores.by_key.get(point.key)
-            if known:
-                self._place(known, point, slots, outcome)
+        groups = grouped(points)
+        await self._make_missing(groups, outcome)
         batches = {}
-        for known, (values, count) in slots.items():
-            batch = self.writer_of(known.keeper).add(known, values)
-            batches.setdefault(batch, {})[known] = count
+        for key, group in groups.items():
+            known = self.stores.by_key.get(key)
+            values, count = self._placed(known, group, outcome) if known else ({}, 0)
+            if values:
+                batch = self.writer_of(known.keeper).add(known, values)
+                batches.setdefault(batch, {})[known] = count
         await self._until_room(batches)
         return list(batches.items())
 
@@ -112,20 +111,20 @@ class Intake:
                 raise Busy("the disk is too slow for so many points")
             await asyncio.sleep(PAUSE)
 
-    async def _make_missing(self, points, outcome):
-        missing, claims = {}, {}
-        for point in points:
-            if point.key not in self.stores.by_key:
-                missing.setdefault(point.key, (point.key, point.measurement, point.time))
-            elif point.measurement is not None and point.key not in self.stores.names.measurements:
-                claims[point.key] = point.measurement
+    async def _make_missing(self, groups, outcome):
+        """Makes the series that aren't there; each by the earliest of its points."""
+        missing, claims = [], []
+        for key, group in groups.items():
+            measurement = group[0].measurement
+            if key not in self.stores.by_key:
+                missing.append((key, measurement, min(point.time for point in group)))
+            elif measurement is not None and key not in self.stores.names.measurements:
+                claims.append((key, measurement))
         if claims:
-            await self._whole(self.stores.claim(list(claims.items())))
+            await self._whole(self.stores.claim(claims))
         if missing:
-            refused = await self._whole(self.stores.make(list(missing.values())))
-            for point in points:
-                if point.key in refused:
-                    outcome.drop(f"{text_of(point.key)}: {refused[point.key]}")
+            for key, why in (await self._whole(self.stores.make(missing))).items():
+                outcome.drop(f"{text_of(key)}: {why}", len(groups[key]))
 
     async def _whole(self, work):
         """Awaits what isn't to be broken off in the middle, and no longer than a write may take; it goes on all the same."""
@@ -139,31 +138,47 @@ class Intake:
         if not task.cancelled():
             task.exception()
 
-    def _place(self, known, point, slots, outcome):
-        """Puts a point into its slot: the one that its time lies in. The last one of a slot stays."""
-        owner = self.stores.names.measurements.get(known.key)
-        if point.measurement is not None and owner not in (None, point.measurement):
-            outcome.drop(f"{text_of(known.key)} is of the measurement {owner!r}, not of {point.measurement!r}")
-            return
-        slot = (point.time - known.first) // known.gap
-        try:
-            number = number_of(point.value, known.record.scale)
-        except Unfit as why:
-            outcome.drop(f"{text_of(known.key)}: {why}")
-            return
-        if not 0 <= slot <= LAST_SLOT:
-            outcome.drop(f"{text_of(known.key)}: a time lies " + ("before the series' start" if slot < 0 else "too far behind its start"))
-            return
-        values, count = slots.get(known, ({}, 0))
-        values[slot] = number
-        slots[known] = values, count + 1
+    def _placed(self, known, points, outcome):
+        """The slots of a series' points, those that their times lie in, each with its last value; and how many points these are."""
+        owner, first, gap, scale = self.stores.names.measurements.get(known.key), known.first, known.gap, known.record.scale
+        values, count = {}, 0
+        for _, measurement, time_of, value in points:
+            slot = (time_of - first) // gap
+            if measurement != owner and owner is not None and measurement is not None:
+                outcome.drop(f"{text_of(known.key)} is of the measurement {owner!r}, not of {measurement!r}")
+            elif not 0 <= slot <= LAST_SLOT:
+                outcome.drop(f"{text_of(known.key)}: a time lies " + ("before the series' start" if slot < 0 else "too far behind its start"))
+            else:
+                try:
+                    values[slot] = number_of(value, scale)
+                    count += 1
+                except Unfit as why:
+                    outcome.drop(f"{text_of(known.key)}: {why}")
+        return values, count
+
+
+def grouped(points):
+    """The points of each series, in their order. Most come with the very same key, so that few of them are compared."""
+    groups, same = {}, {}
+    for point in points:
+        group = same.get(id(point.key))
+        if group is None:
+            group = same[id(point.key)] = groups.setdefault(point.key, [])
+        group.append(point)
+    return groups
 
 
 def number_of(value, scale):
-    """The whole number that a series keeps of a value: times 10^scale, rounded half to even. Raises Unfit."""
+    """The whole number that a series keeps of a value, a text or an int: times 10^scale, rounded half to even. Raises Unfit."""
     if isinstance(value, int):
         number = value * 10**scale
         if not -MOST <= number <= MOST:
             raise Unfit(f"{value} is too large for the scale {scale}")
         return number
+    whole, _, rest = value.partition(".")
+    if len(rest) <= scale and len(whole) < 9 and "_" not in value:
+        try:
+            return int(whole + rest.ljust(scale, "0"))  # so few digits need no rounding, and can't be too many
+        except ValueError:
+            pass  # an exponent, or no number
     return whole_number(value, scale)[0]
