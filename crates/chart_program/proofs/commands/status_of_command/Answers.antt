@@ -241,8 +241,15 @@ returns-in-Derive-clause-ends g c =
     let reads = g.W.Streams.read_faults in
     let sends = g.W.Streams.send_faults in
     let old = c.args.world in
-    let new = c.derive.result.1 in
-    let status = c.derive.result.0 in
+    let new = c.derive-end.result.1 in
+    let end = c.derive-end.result.0 in
+    let e = c.derive-end.ensures in
     let faults = faults_of (reads old) (reads new) (sends old) (sends new) in
-    let P : Command → Type 0 = λ command. CommandEnds command (view old) (view new) (left old) (left new) (sent old) (sent new) faults status.code status.place in
-    subst P (sym c.in-Derive.is) (derive_ends (view old) (view new) (left old) (left new) (sent old) (sent new) faults status.code status.place c.derive.ensures.ends c.derive.ensures.away)
+    let P : Command → Type 0 = λ command. CommandEnds command (view old) (view new) (left old) (left new) (sent old) (sent new) faults (code_of end) (place_of end) in
+    let S : Status → Type 0 = λ s. CommandEnds c.args.command (view old) (view new) (left old) (left new) (sent old) (sent new) faults s.code s.place in
+    subst S (sym c.status_of-in-Derive.ensures.status)
+    (subst P (sym c.in-Derive.is) (derive_ends (view old) (view new) (left old) (left new) (sent old) (sent new) faults end e.ends e.away))
+
+pub returns-in-Derive-clause-faults : goal.returns-in-Derive-clause-faults
+returns-in-Derive-clause-faults g c =
+    counts_end c.derive-end.result.0 c.status_of-in-Derive.result (g.W.Disk.view c.args.world) (g.W.Disk.view c.derive-end.result.1) c.status_of-in-Derive.ensures.status c.derive-end.ensures.faults
