@@ -14,13 +14,12 @@ use Rattle.derived_chart.specs.declared.derived_error.DerivedError.TheVariants a
 use Rattle.derived_chart.specs.declared.sum.Sum.{Sum}
 use Rattle.derived_chart.specs.Sums.{one_of}
 use Rattle.gate_pages.specs.declared.pages.Pages.{Ghosts}
-use Rattle.line_raster.specs.Canvas.{Canvas}
+use Rattle.m4_groups.specs.declared.row.Row.{Row}
 use Rattle.om3_coeff.specs.declared.errors.NodeError.TheVariants as node
 use Rattle.page_space.specs.Shown as spaces
 use Rattle.page_space.specs.declared.space.Space.{Space}
 use Rattle.plain_chart.specs.Samples.{kept}
 use Rattle.plain_chart.specs.declared.sample.Sample.{Sample}
-use Rattle.plain_chart.specs.declared.value_range.ValueRange.{ValueRange}
 use Rattle.retention.specs.Sweeping.{IsOfPages}
 use Rattle.series_book.specs.declared.one_series.Series.{Series}
 use Rattle.series_store.specs.Shown as shown
@@ -28,8 +27,8 @@ use Rattle.series_store.specs.declared.store.Store.{Store}
 use Rattle.stored_book.specs.Standing.{StandsForBook}
 use Rattle.series_store.proofs.SelectedLemmas.{book_there}
 use Rattle.series_pair.specs.AskLaws.{causes_later, pair_agrees, still_are_pair}
-use Rattle.series_pair.specs.Asking.{ArePair, Causes, GoesPair}
-use Rattle.series_pair.specs.Derived.{AreSamplesOf, AreShifted, AreUnlike, IsChartAnswer, IsChartCause, axis_of, sum_fault}
+use Rattle.series_pair.specs.Asking.{ArePair, Causes, GoesPair, IsPair, IsReady}
+use Rattle.series_pair.specs.Derived.{AreRowsAnswer, AreSamplesOf, AreShifted, AreUnlike, IsChartCause, IsSumError, axis_of, sum_fault}
 use Rattle.series_pair.specs.Drawing.{error_of}
 use Rattle.series_pair.specs.declared.store_pair.StorePair.{StorePair}
 use Rattle.series_pair.specs.declared.sum_error.SumError.{SumError}
@@ -73,9 +72,10 @@ shift_so book x y one other axis axis' (Some d) first second same also some none
     record { one = one; other = other; first = first; second = second; shift = subst B also (subst A same some) }
 
 module _ {P : Type 0} {g : Ghosts P} where
-  pub pair_is : (at : StorePair P g) (total : ℕ) (book : List Series) (d : ℤ) (on : AreShifted book at.x at.y d) → shown.IsSound at.store → shown.IsTold at.store → StandsForBook (shown.image at.store) total book → ArePair at on.one.slots on.other.slots
-  pair_is at total book d on sound told stands = record {
-    sound = sound;
+  pub pair_is : (at : StorePair P g) (total : ℕ) (book : List Series) (d : ℤ) (on : AreShifted book at.x at.y d) → IsReady at → shown.IsTold at.store.now → StandsForBook (shown.image at.store.now) total book
+      → ArePair at on.one.slots on.other.slots
+  pair_is at total book d on ready told stands = record {
+    ready = ready;
     told = told;
     total = total;
     book = book;
@@ -89,12 +89,12 @@ module _ {P : Type 0} {g : Ghosts P} where
   }
 
   -- the slots of the first series, where it is asked
-  pub first_slots : (old new : StorePair P g) (total : ℕ) (book : List Series) (series : Series) → shown.IsSound old.store → shown.IsTold old.store → StandsForBook (shown.image old.store) total book → slice_get book old.x ≡ Some series → GoesPair old new → new.is_second ≡ false
-      → (shown.nodes new.store).slots ≡ length series.slots
-  first_slots old new total book series sound told stands at going turned =
-      let other = book_there old.store total book old.y sound told stands old.second in
+  pub first_slots : (old new : StorePair P g) (total : ℕ) (book : List Series) (series : Series) → IsReady old → shown.IsTold old.store.now → StandsForBook (shown.image old.store.now) total book → slice_get book old.x ≡ Some series → GoesPair old new
+      → new.is_second ≡ false → (shown.nodes new.store.now).slots ≡ length series.slots
+  first_slots old new total book series ready told stands at going turned =
+      let other = book_there old.store.now total book old.y ready.0 told stands ready.1.second in
       let are : ArePair old series.slots other.0.slots = record {
-        sound = sound;
+        ready = ready;
         told = told;
         total = total;
         book = book;
@@ -108,52 +108,53 @@ module _ {P : Type 0} {g : Ghosts P} where
       } in
       (pair_agrees (still_are_pair going are)).slots ∙ ap (λ second. length (one_of second series.slots other.0.slots)) turned
 
-  -- what is answered of a store is so of the pair that it was put into
-  pub answer_of : (store : Store P g) (pair : StorePair P g) (x y : ℕ) (d a b : ℤ) (grid : Grid) (asked : Option ValueRange) (result : Result Canvas SumError) → pair.store.space ≡ store.space → pair.x ≡ x → pair.y ≡ y
-      → shown.ForBook pair.store (λ total book. AreShifted book pair.x pair.y d → IsChartAnswer book pair.x pair.y a b grid asked result) → shown.ForBook store (λ total book. AreShifted book x y d → IsChartAnswer book x y a b grid asked result)
-  answer_of store pair x y d a b grid asked result same first second answer = λ total book told stands.
+  -- what is answered of a store is so of the pair that borrowed it
+  pub answer_of : (store : Store P g) (pair : StorePair P g) (x y : ℕ) (d a b : ℤ) (grid : Grid) (result : Result (List Row) SumError) → pair.store.now.space ≡ store.space → pair.x ≡ x → pair.y ≡ y
+      → shown.ForBook pair.store.now (λ total book. AreShifted book pair.x pair.y d → AreRowsAnswer book pair.x pair.y a b grid result) → shown.ForBook store (λ total book. AreShifted book x y d → AreRowsAnswer book x y a b grid result)
+  answer_of store pair x y d a b grid result same first second answer = λ total book told stands.
       let T : Space P g → Type 0 = λ s. spaces.IsTold s in
       let B : Space P g → Type 0 = λ s. StandsForBook (spaces.image s) total book in
-      let X : ℕ → Type 0 = λ n. AreShifted book n pair.y d → IsChartAnswer book n pair.y a b grid asked result in
-      let Y : ℕ → Type 0 = λ n. AreShifted book x n d → IsChartAnswer book x n a b grid asked result in
+      let X : ℕ → Type 0 = λ n. AreShifted book n pair.y d → AreRowsAnswer book n pair.y a b grid result in
+      let Y : ℕ → Type 0 = λ n. AreShifted book x n d → AreRowsAnswer book x n a b grid result in
       subst Y second (subst X first (answer total book (subst T (sym same) told) (subst B (sym same) stands)))
 
-  pub cause_later : (e : DerivedError) (old mid new : StorePair P g) → GoesPair old mid → (shown.view mid.store).faults ≡ (shown.view old.store).faults → IsCause (Causes mid new) e → IsCause (Causes old new) e
+  pub cause_later : (e : DerivedError) (old mid new : StorePair P g) → GoesPair old mid → (shown.view mid.store.now).faults ≡ (shown.view old.store.now).faults → IsCause (Causes mid new) e → IsCause (Causes old new) e
   cause_later (derived.TooLarge time) old mid new going quiet cause = tt
   cause_later (derived.Node error) old mid new going quiet cause = causes_later error old mid new going quiet cause
   cause_later derived.NoMemory old mid new going quiet cause = tt
 
-  pub of_pages : (e : DerivedError) (old new : StorePair P g) → shown.IsSound old.store → IsCause (Causes old new) e → IsCause IsOfPages e
-  of_pages (derived.TooLarge time) old new sound cause = tt
-  of_pages (derived.Node node.DiskFault) old new sound cause = tt
-  of_pages (derived.Node (node.Damaged page)) old new sound cause = tt
-  of_pages (derived.Node (node.Missing key)) old new sound cause = cause sound
-  of_pages (derived.Node (node.BadCoefficient key)) old new sound cause = cause sound
-  of_pages derived.NoMemory old new sound cause = tt
+  pub of_pages : (e : DerivedError) (old new : StorePair P g) → IsReady old → IsCause (Causes old new) e → IsCause IsOfPages e
+  of_pages (derived.TooLarge time) old new ready cause = tt
+  of_pages (derived.Node node.DiskFault) old new ready cause = tt
+  of_pages (derived.Node (node.Damaged page)) old new ready cause = tt
+  of_pages (derived.Node (node.Missing key)) old new ready cause = cause ready
+  of_pages (derived.Node (node.BadCoefficient key)) old new ready cause = cause ready
+  of_pages derived.NoMemory old new ready cause = tt
 
-  pub error_cause : (e : DerivedError) (old new : StorePair P g) → shown.IsSound old.store → IsCause (Causes old new) e → IsChartCause (error_of e) (shown.IsTold new.store) (shown.total old.store) (shown.view old.store) (shown.view new.store)
-  error_cause (derived.TooLarge time) old new sound cause = tt
-  error_cause (derived.Node node.DiskFault) old new sound cause = cause sound
-  error_cause (derived.Node (node.Damaged page)) old new sound cause = (cause sound).0
-  error_cause (derived.Node (node.Missing key)) old new sound cause = absurd (cause sound)
-  error_cause (derived.Node (node.BadCoefficient key)) old new sound cause = absurd (cause sound)
-  error_cause derived.NoMemory old new sound cause = tt
+  pub error_cause : (e : DerivedError) (old new : StorePair P g) → IsReady old → IsCause (Causes old new) e
+      → IsChartCause (error_of e) (shown.IsTold new.store.now) (shown.total old.store.now) (shown.view old.store.now) (shown.view new.store.now)
+  error_cause (derived.TooLarge time) old new ready cause = tt
+  error_cause (derived.Node node.DiskFault) old new ready cause = cause ready
+  error_cause (derived.Node (node.Damaged page)) old new ready cause = (cause ready).0
+  error_cause (derived.Node (node.Missing key)) old new ready cause = absurd (cause ready)
+  error_cause (derived.Node (node.BadCoefficient key)) old new ready cause = absurd (cause ready)
+  error_cause derived.NoMemory old new ready cause = tt
 
   -- the fault of which an error of the rows tells
-  pub error_faults : (e : DerivedError) (old new : StorePair P g) → shown.IsSound old.store → GoesPair old new → IsCause (Causes old new) e → (e ≢ derived.Node node.DiskFault → (shown.view new.store).faults ≡ (shown.view old.store).faults)
-      → CountsFault (sum_fault (error_of e)) (shown.view old.store) (shown.view new.store)
-  error_faults (derived.TooLarge time) old new sound going cause quiet = counts_no_disk (shown.view old.store) (shown.view new.store) going.looks.beside (quiet (λ is. cc))
-  error_faults (derived.Node node.DiskFault) old new sound going cause quiet = counts_disk (shown.view old.store) (shown.view new.store) going.looks.beside (cause sound)
-  error_faults (derived.Node (node.Damaged page)) old new sound going cause quiet = counts_no_disk (shown.view old.store) (shown.view new.store) going.looks.beside (quiet (λ is. cc))
-  error_faults (derived.Node (node.Missing key)) old new sound going cause quiet = absurd (cause sound)
-  error_faults (derived.Node (node.BadCoefficient key)) old new sound going cause quiet = absurd (cause sound)
-  error_faults derived.NoMemory old new sound going cause quiet = counts_no_disk (shown.view old.store) (shown.view new.store) going.looks.beside (quiet (λ is. cc))
+  pub error_faults : (e : DerivedError) (old new : StorePair P g) → IsReady old → GoesPair old new → IsCause (Causes old new) e → (e ≢ derived.Node node.DiskFault → (shown.view new.store.now).faults ≡ (shown.view old.store.now).faults)
+      → CountsFault (sum_fault (error_of e)) (shown.view old.store.now) (shown.view new.store.now)
+  error_faults (derived.TooLarge time) old new ready going cause quiet = counts_no_disk (shown.view old.store.now) (shown.view new.store.now) going.looks.beside (quiet (λ is. cc))
+  error_faults (derived.Node node.DiskFault) old new ready going cause quiet = counts_disk (shown.view old.store.now) (shown.view new.store.now) going.looks.beside (cause ready)
+  error_faults (derived.Node (node.Damaged page)) old new ready going cause quiet = counts_no_disk (shown.view old.store.now) (shown.view new.store.now) going.looks.beside (quiet (λ is. cc))
+  error_faults (derived.Node (node.Missing key)) old new ready going cause quiet = absurd (cause ready)
+  error_faults (derived.Node (node.BadCoefficient key)) old new ready going cause quiet = absurd (cause ready)
+  error_faults derived.NoMemory old new ready going cause quiet = counts_no_disk (shown.view old.store.now) (shown.view new.store.now) going.looks.beside (quiet (λ is. cc))
 
-  pub error_answer : (e : DerivedError) (old new : StorePair P g) (total : ℕ) (book : List Series) (x y : ℕ) (a b : ℤ) (grid : Grid) (asked : Option ValueRange) (samples : List Sample) → shown.IsSound old.store → shown.IsTold old.store → StandsForBook (shown.image old.store) total book
-      → IsCause (Causes old new) e → AreSamplesOf book x y a b grid samples → IsAnswer grid samples (Err e) → IsChartAnswer book x y a b grid asked (Err (error_of e))
-  error_answer (derived.TooLarge time) old new total book x y a b grid asked samples sound told stands cause are first = record { samples = samples; are = are; first = first }
-  error_answer (derived.Node node.DiskFault) old new total book x y a b grid asked samples sound told stands cause are first = tt
-  error_answer (derived.Node (node.Damaged page)) old new total book x y a b grid asked samples sound told stands cause are first = (cause sound).1 total book told stands
-  error_answer (derived.Node (node.Missing key)) old new total book x y a b grid asked samples sound told stands cause are first = tt
-  error_answer (derived.Node (node.BadCoefficient key)) old new total book x y a b grid asked samples sound told stands cause are first = tt
-  error_answer derived.NoMemory old new total book x y a b grid asked samples sound told stands cause are first = tt
+  pub error_answer : (e : DerivedError) (old new : StorePair P g) (total : ℕ) (book : List Series) (x y : ℕ) (a b : ℤ) (grid : Grid) (samples : List Sample) → IsReady old → shown.IsTold old.store.now → StandsForBook (shown.image old.store.now) total book
+      → IsCause (Causes old new) e → AreSamplesOf book x y a b grid samples → IsAnswer grid samples (Err e) → IsSumError book x y a b grid (error_of e)
+  error_answer (derived.TooLarge time) old new total book x y a b grid samples ready told stands cause are first = record { samples = samples; are = are; first = first }
+  error_answer (derived.Node node.DiskFault) old new total book x y a b grid samples ready told stands cause are first = tt
+  error_answer (derived.Node (node.Damaged page)) old new total book x y a b grid samples ready told stands cause are first = (cause ready).1 total book told stands
+  error_answer (derived.Node (node.Missing key)) old new total book x y a b grid samples ready told stands cause are first = tt
+  error_answer (derived.Node (node.BadCoefficient key)) old new total book x y a b grid samples ready told stands cause are first = tt
+  error_answer derived.NoMemory old new total book x y a b grid samples ready told stands cause are first = tt

@@ -8,8 +8,10 @@ use Rattle.chart_grid.specs.declared.grid.Grid.{Grid}
 use Rattle.derived_chart.specs.Points.{IsShift, AreSumSamples}
 use Rattle.derived_chart.specs.Rows.{IsFirstTooLarge}
 use Rattle.line_raster.specs.Canvas.{Canvas, black_at}
+use Rattle.m4_groups.specs.Rows.{AreRowsOf}
+use Rattle.m4_groups.specs.declared.row.Row.{Row}
 use Rattle.plain_chart.specs.Chart.{IsChart, IsScale}
-use Rattle.plain_chart.specs.Samples.{values_of, IsRange}
+use Rattle.plain_chart.specs.Samples.{kept, sample_points, values_of, IsRange}
 use Rattle.plain_chart.specs.declared.sample.Sample.{Sample}
 use Rattle.plain_chart.specs.declared.value_range.ValueRange.{ValueRange}
 use Rattle.series_book.specs.declared.one_series.Series.{Series}
@@ -70,13 +72,32 @@ pub record HasLargeSum (book : List Series) (x y : ℕ) (a b : ℤ) (g : Grid) (
   pub are : AreSamplesOf book x y a b g samples
   pub first : IsFirstTooLarge samples time
 
--- what is answered where pages stand for the book: the chart, or the first time at which a sum is too large; no page is damaged
+-- The rows are those of the samples of a times the series at x and b times the series at y, none of which is too large. The samples
+-- are what the view keeps of a list of sums.
+pub record AreSumRows (book : List Series) (x y : ℕ) (a b : ℤ) (g : Grid) (rows : List Row) : Type 0 where
+  pub axis : Axis
+  pub sums : List (Option ℤ)
+  pub step : 0 < axis.step
+  pub are : AreSamplesOf book x y a b g (kept g axis sums)
+  pub values : All (λ s. IsValue s.value) (kept g axis sums)
+  pub rows_are : AreRowsOf g (sample_points (kept g axis sums)) rows
+
+-- why there is none where pages stand for the book: the first time at which a sum is too large; no page is damaged
+abbrev pub IsSumError : List Series → ℕ → ℕ → ℤ → ℤ → Grid → SumError → Type 0
+IsSumError book x y a b g (TooLarge time) = HasLargeSum book x y a b g time
+IsSumError book x y a b g DiskFault = ⊤
+IsSumError book x y a b g (Damaged page) = ⊥
+IsSumError book x y a b g NoMemory = ⊤
+
+-- what is answered there: the rows, or why there are none
+abbrev pub AreRowsAnswer : List Series → ℕ → ℕ → ℤ → ℤ → Grid → Result (List Row) SumError → Type 0
+AreRowsAnswer book x y a b g (Ok rows) = AreSumRows book x y a b g rows
+AreRowsAnswer book x y a b g (Err error) = IsSumError book x y a b g error
+
+-- the chart, or why there is none
 abbrev pub IsChartAnswer : List Series → ℕ → ℕ → ℤ → ℤ → Grid → Option ValueRange → Result Canvas SumError → Type 0
 IsChartAnswer book x y a b g asked (Ok canvas) = IsDerivedChart book x y a b g asked canvas
-IsChartAnswer book x y a b g asked (Err (TooLarge time)) = HasLargeSum book x y a b g time
-IsChartAnswer book x y a b g asked (Err DiskFault) = ⊤
-IsChartAnswer book x y a b g asked (Err (Damaged page)) = ⊥
-IsChartAnswer book x y a b g asked (Err NoMemory) = ⊤
+IsChartAnswer book x y a b g asked (Err error) = IsSumError book x y a b g error
 
 -- why there is no chart, whatever the pages are: a page that is called damaged is one of so many, and is so where reads give what
 -- the pages are

@@ -14,3 +14,10 @@ slots_of (Some one) = one.tree.slots
 
 abbrev pub slots_at : List StoredSeries → ℕ → ℕ
 slots_at catalog id = slots_of (slice_get catalog id)
+
+-- of the one that is asked the nodes tell how many slots it has, of the other one the catalog does
+abbrev pub counted : Bool → Bool → ℕ → ℕ → ℕ
+counted false false asked other = asked
+counted false true asked other = other
+counted true false asked other = other
+counted true true asked other = asked

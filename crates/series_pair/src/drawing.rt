@@ -1,19 +1,19 @@
-//! The chart of a sum of two series of a store.
-ghost use Rattle.std.specs.Prelude.{◌≡◌, ◌<◌, ◌≤◌, ℕ, List, false, length, All, IfErr, IfSome};
+//! The rows and the chart of a sum of two series of a store.
+ghost use Rattle.std.specs.Prelude.{◌≡◌, ◌<◌, ◌≤◌, ℕ, List, false, length, All, IfErr, IfOk, IfSome};
 ghost use Rattle.chart_grid.specs.declared.grid.Grid.{Grid};
 ghost use Rattle.chart_world.specs.Faults.{CountsFault, fault_in};
 ghost use Rattle.derived_chart.specs.Rows.{IsCause};
 ghost use Rattle.derived_chart.specs.Sums.{IsSmall};
 ghost use Rattle.m4_groups.specs.Heights.{IsDrawable};
-ghost use Rattle.m4_groups.specs.Rows.{AreRowsOf};
+ghost use Rattle.m4_groups.specs.Rows.{AreRising, AreRowsOf};
 ghost use Rattle.plain_chart.specs.Samples.{sample_points, values_of};
 ghost use Rattle.plain_chart.specs.declared.sample.Sample.{Sample};
 ghost use Rattle.retention.specs.Moving.{LooksOnly};
 ghost use Rattle.retention.specs.Sweeping.{IsOfPages};
 ghost use Rattle.series_book.specs.declared.limits.TheConstants.{MOST_SLOTS};
 ghost use Rattle.series_store.specs.Shown as shown;
-ghost use Rattle.series_pair.specs.Asking.{GoesPair, count};
-ghost use Rattle.series_pair.specs.Derived.{AreShifted, IsChartAnswer, IsChartCause, MayShow, ShowsRange, axis_of, sum_fault};
+ghost use Rattle.series_pair.specs.Asking.{GoesPair, IsReady, count, pair_view};
+ghost use Rattle.series_pair.specs.Derived.{AreRowsAnswer, AreShifted, IsChartAnswer, IsChartCause, MayShow, ShowsRange, axis_of, sum_fault};
 ghost use Rattle.series_pair.specs.Drawing.{error_of, node_error};
 
 use crate::store_pair::StorePair;
@@ -32,23 +32,23 @@ use series_store::laws::sound_stores_are_fit;
 use std::alloc::Global;
 
 /// The times of the slots of the first series of a pair.
-fn first_axis<P: Pages>(pair: &mut StorePair<P>) -> Axis
-    requires sound { shown.IsSound pair.old.store }
-    ensures fit { (shown.nodes pair.new.store).fit }
+fn first_axis<P: Pages>(pair: &mut StorePair<'_, P>) -> Axis
+    requires ready { IsReady pair.old }
+    ensures fit { (pair_view pair.new).fit }
     ensures slots { result.slots ≡ count false pair.new }
     ensures few { result.slots ≤ MOST_SLOTS }
     ensures step { 0 < result.step }
-    ensures axis { shown.ForSeries pair.old.store pair.old.x (λ total book series. result ≡ axis_of series) }
+    ensures axis { shown.ForSeries pair.old.store.now pair.old.x (λ total book series. result ≡ axis_of series) }
     ensures goes { GoesPair pair.old pair.new }
-    ensures quiet { (shown.view pair.new.store).faults ≡ (shown.view pair.old.store).faults }
+    ensures quiet { (shown.view pair.new.store.now).faults ≡ (shown.view pair.old.store.now).faults }
 {
-    sound_stores_are_fit(&pair.store);
+    sound_stores_are_fit(&*pair.store);
     let info = pair.store.info(pair.x);
     pair.turn(false);
     Axis {
         start: info.start,
         step: info.step,
-        slots: pair.store.slots(),
+        slots: pair.slots(),
     }
 }
 
@@ -76,6 +76,60 @@ fn node_error(error: NodeError) -> SumError
     }
 }
 
+/// The rows of a sum of the two series of a pair.
+fn rows_of_pair<P: Pages>(
+    alloc: Global,
+    pair: &mut StorePair<'_, P>,
+    sum: Sum,
+    grid: Grid,
+) -> Result<Rows, SumError>
+    requires ready { IsReady pair.old }
+    requires small { IsSmall sum }
+    ensures answer { shown.ForBook pair.old.store.now (λ total book. AreShifted book pair.old.x pair.old.y sum.shift → AreRowsAnswer book pair.old.x pair.old.y sum.a sum.b grid result) }
+    ensures rising { IfOk result AreRising }
+    ensures drawable { IfOk result (All (IsDrawable grid.w)) }
+    ensures cause { IfErr result (λ e. IsChartCause e (shown.IsTold pair.new.store.now) (shown.total pair.old.store.now) (shown.view pair.old.store.now) (shown.view pair.new.store.now)) }
+    ensures same_reference { pair.new.store.ghost_name ≡ pair.old.store.ghost_name }
+    ensures goes { GoesPair pair.old pair.new }
+    ensures faults { CountsFault (fault_in sum_fault result) (shown.view pair.old.store.now) (shown.view pair.new.store.now) }
+{
+    kept_sums_are_the_samples();
+    let axis = first_axis(pair);
+    match derived_rows(alloc, pair, axis, sum, grid) {
+        Ok(rows) => Ok(rows),
+        Err(error) => Err(error_of(error)),
+    }
+}
+
+/// The rows of `a` times the series of the id `x` and `b` times that of the id `y`: for each column at whose times both store a
+/// value, the first, the least, the greatest and the last of the sums. A series of the store is selected. The shift is the one of
+/// `shift_of`.
+///
+/// `TooLarge` comes exactly where a sum in the window is more than 10^18 in size, with the first time of such a sum;
+/// `DiskFault` only where the count of faults has risen; `Damaged` never where the pages stand for a book.
+pub fn rows_of_sum<P: Pages>(
+    alloc: Global,
+    store: &mut Store<P>,
+    x: u16,
+    y: u16,
+    sum: Sum,
+    grid: Grid,
+) -> Result<Rows, SumError>
+    requires sound { shown.IsSound store.old }
+    requires first { x < length (shown.catalog store.old) }
+    requires second { y < length (shown.catalog store.old) }
+    requires small { IsSmall sum }
+    ensures answer { shown.ForBook store.old (λ total book. AreShifted book x y sum.shift → AreRowsAnswer book x y sum.a sum.b grid result) }
+    ensures rising { IfOk result AreRising }
+    ensures drawable { IfOk result (All (IsDrawable grid.w)) }
+    ensures cause { IfErr result (λ e. IsChartCause e (shown.IsTold store.new) (shown.total store.old) (shown.view store.old) (shown.view store.new)) }
+    ensures looks { LooksOnly store.old store.new }
+    ensures faults { CountsFault (fault_in sum_fault result) (shown.view store.old) (shown.view store.new) }
+{
+    let mut pair = StorePair::new(store, x, y);
+    rows_of_pair(alloc, &mut pair, sum, grid)
+}
+
 /// The range that a chart of these rows shows: the one that is asked for, or from their least to their greatest value.
 fn shown_range(rows: &Rows, range: Option<ValueRange>) -> ValueRange
     requires { IfSome range MayShow }
@@ -88,59 +142,32 @@ fn shown_range(rows: &Rows, range: Option<ValueRange>) -> ValueRange
     }
 }
 
-/// The chart of a sum of the two series of a pair.
-fn chart_of_pair<P: Pages>(
-    alloc: Global,
-    pair: &mut StorePair<P>,
-    sum: Sum,
-    grid: Grid,
-    range: Option<ValueRange>,
-) -> Result<Bitmap, SumError>
-    requires sound { shown.IsSound pair.old.store }
-    requires small { IsSmall sum }
-    requires range { IfSome range MayShow }
-    ensures answer { shown.ForBook pair.old.store (λ total book. AreShifted book pair.old.x pair.old.y sum.shift → IsChartAnswer book pair.old.x pair.old.y sum.a sum.b grid range result) }
-    ensures cause { IfErr result (λ e. IsChartCause e (shown.IsTold pair.new.store) (shown.total pair.old.store) (shown.view pair.old.store) (shown.view pair.new.store)) }
-    ensures goes { GoesPair pair.old pair.new }
-    ensures faults { CountsFault (fault_in sum_fault result) (shown.view pair.old.store) (shown.view pair.new.store) }
-{
-    kept_sums_are_the_samples();
-    let axis = first_axis(pair);
-    let rows = match derived_rows(alloc, pair, axis, sum, grid) {
-        Ok(rows) => rows,
-        Err(error) => return Err(error_of(error)),
-    };
-    let range = shown_range(&rows, range);
-    let bitmap = chart_of_rows(alloc, grid, &rows, range)?;
-    Ok(bitmap)
-}
-
-/// Draws `a` times the series of the id `x` and `b` times that of the id `y`, at each time of the window at which both store a
-/// value, over the range that is asked for; or from the least to the greatest of these sums, where none is. The store is
-/// given back, and a series of it is selected. The shift is the one of `shift_of`.
-///
-/// `TooLarge` comes exactly where a sum in the window is more than 10^18 in size, with the first time of such a sum;
-/// `DiskFault` only where the count of faults has risen; `Damaged` never where the pages stand for a book.
+/// Draws the rows of `a` times the series of the id `x` and `b` times that of the id `y`, over the range that is asked for; or from
+/// the least to the greatest of these sums, where none is. The errors are those of the rows, and `NoMemory`.
 pub fn chart_of_sum<P: Pages>(
     alloc: Global,
-    store: Store<P>,
+    store: &mut Store<P>,
     x: u16,
     y: u16,
     sum: Sum,
     grid: Grid,
     range: Option<ValueRange>,
-) -> (Result<Bitmap, SumError>, Store<P>)
-    requires sound { shown.IsSound store }
-    requires first { x < length (shown.catalog store) }
-    requires second { y < length (shown.catalog store) }
+) -> Result<Bitmap, SumError>
+    requires sound { shown.IsSound store.old }
+    requires first { x < length (shown.catalog store.old) }
+    requires second { y < length (shown.catalog store.old) }
     requires small { IsSmall sum }
     requires range { IfSome range MayShow }
-    ensures answer { shown.ForBook store (λ total book. AreShifted book x y sum.shift → IsChartAnswer book x y sum.a sum.b grid range result.0) }
-    ensures cause { IfErr result.0 (λ e. IsChartCause e (shown.IsTold result.1) (shown.total store) (shown.view store) (shown.view result.1)) }
-    ensures looks { LooksOnly store result.1 }
-    ensures faults { CountsFault (fault_in sum_fault result.0) (shown.view store) (shown.view result.1) }
+    ensures answer { shown.ForBook store.old (λ total book. AreShifted book x y sum.shift → IsChartAnswer book x y sum.a sum.b grid range result) }
+    ensures cause { IfErr result (λ e. IsChartCause e (shown.IsTold store.new) (shown.total store.old) (shown.view store.old) (shown.view store.new)) }
+    ensures looks { LooksOnly store.old store.new }
+    ensures faults { CountsFault (fault_in sum_fault result) (shown.view store.old) (shown.view store.new) }
 {
-    let mut pair = StorePair::new(store, x, y);
-    let chart = chart_of_pair(alloc, &mut pair, sum, grid, range);
-    (chart, pair.into_store())
+    let rows = match rows_of_sum(alloc, store, x, y, sum, grid) {
+        Ok(rows) => rows,
+        Err(error) => return Err(error),
+    };
+    let range = shown_range(&rows, range);
+    let bitmap = chart_of_rows(alloc, grid, &rows, range)?;
+    Ok(bitmap)
 }

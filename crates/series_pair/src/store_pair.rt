@@ -1,35 +1,32 @@
 //! Two series of a store, of which one is asked.
-ghost use Rattle.std.specs.Prelude.{◌≡◌, ◌<◌, length, false};
+ghost use Rattle.std.specs.Prelude.{◌≡◌, ◌<◌, length};
 ghost use Rattle.series_store.specs.Shown as shown;
-ghost use Rattle.series_pair.specs.Pairs.{side_of};
+ghost use Rattle.series_pair.specs.Asking.{IsPair};
 
 use gate_pages::Pages;
 use series_store::Store;
 
-/// A store of which two series are asked, one at a time: the one that is asked is selected.
+/// A store of which two series are asked, one at a time. It is borrowed.
 #[derive(Drop)]
-pub struct StorePair<P: Pages> {
-    pub(crate) store: Store<P>,
+pub(crate) struct StorePair<'a, P: Pages> {
+    pub(crate) store: &'a mut Store<P>,
     pub(crate) x: u16,
     pub(crate) y: u16,
     pub(crate) is_second: bool,
-    ghost first: { x < length (shown.catalog store) },
-    ghost second: { y < length (shown.catalog store) },
-    ghost selected: { shown.Selects store (side_of is_second x y) },
 }
 
-impl<P: Pages> StorePair<P> {
+impl<'a, P: Pages> StorePair<'a, P> {
     /// The series of these ids. The first one is asked.
-    pub fn new(store: Store<P>, x: u16, y: u16) -> StorePair<P>
-        requires first { x < length (shown.catalog store) }
-        requires second { y < length (shown.catalog store) }
-        ensures space { shown.SamePages store result.store }
-        ensures catalog { shown.SameCatalog store result.store }
+    pub(crate) fn new(store: &'a mut Store<P>, x: u16, y: u16) -> StorePair<'a, P>
+        requires first { x < length (shown.catalog store.old) }
+        requires second { y < length (shown.catalog store.old) }
+        ensures same_reference { result.store.ghost_name ≡ store.entry.ghost_name }
+        ensures space { shown.SamePages store.old result.store.now }
+        ensures catalog { shown.SameCatalog store.old result.store.now }
         ensures first { result.x ≡ x }
         ensures second { result.y ≡ y }
-        ensures side { result.is_second ≡ false }
+        ensures pair { IsPair result }
     {
-        let mut store = store;
         store.select(x);
         StorePair {
             store,
@@ -37,12 +34,5 @@ impl<P: Pages> StorePair<P> {
             y,
             is_second: false,
         }
-    }
-
-    /// The store.
-    pub fn into_store(self) -> Store<P>
-        ensures { result ≡ self.store }
-    {
-        self.store
     }
 }

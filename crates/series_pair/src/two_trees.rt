@@ -14,12 +14,11 @@ fn id_of(second: bool, x: u16, y: u16) -> u16
     if second { y } else { x }
 }
 
-impl<P: Pages> Nodes for StorePair<P> {
-    ghost use Rattle.series_store.specs.Shown as shown;
-    ghost use Rattle.series_pair.specs.Asking.{KeepsPair};
+impl<'a, P: Pages> Nodes for StorePair<'a, P> {
+    ghost use Rattle.series_pair.specs.Asking.{KeepsPair, pair_view};
     ghost use Rattle.series_pair.specs.AskLaws.{pair_keeps, pair_keeps_on, pair_stays};
 
-    ghost view = { λ pair. shown.nodes pair.store };
+    ghost view = { λ pair. pair_view pair };
 
     ghost keeps = { λ old new. KeepsPair old new };
 
@@ -42,14 +41,13 @@ impl<P: Pages> Nodes for StorePair<P> {
     ghost keeps_same = { λ old new kept. pair_stays kept };
 }
 
-impl<P: Pages> TwoTrees for StorePair<P> {
+impl<'a, P: Pages> TwoTrees for StorePair<'a, P> {
     ghost use Rattle.series_pair.specs.Asking.{ArePair, Causes, GoesPair, count};
     ghost use Rattle.series_pair.specs.AskLaws.{
       pair_goes_nowhere,
       pair_goes_on,
       asks_are_steps,
       still_are_pair,
-      still_counts,
       pair_agrees,
       pair_counts,
       asks_have_cause,
@@ -86,7 +84,7 @@ impl<P: Pages> TwoTrees for StorePair<P> {
 
     ghost still_are = { λ old new xs ys going are. still_are_pair going are };
 
-    ghost still_count = { λ side old new going. still_counts side going };
+    ghost still_count = { λ side old new going. going.counts side };
 
     ghost agrees = { λ at xs ys are. pair_agrees are };
 

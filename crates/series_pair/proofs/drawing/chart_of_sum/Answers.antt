@@ -1,6 +1,14 @@
-use Rattle.series_pair.proofs.ChartLemmas.{answer_of}
+use Rattle.plain_chart.specs.Samples.{kept}
 use Rattle.series_pair.proofs.drawing.chart_of_sum.Goals as goal
 
 pub returns-clause-answer : goal.returns-clause-answer
-returns-clause-answer g c =
-    answer_of c.args.store c.new-pair.result c.args.x c.args.y c.args.sum.shift c.args.sum.a c.args.sum.b c.args.grid c.args.range c.chart_of_pair-chart.result c.new-pair.ensures.space c.new-pair.ensures.first c.new-pair.ensures.second c.chart_of_pair-chart.ensures.answer
+returns-clause-answer g c = λ total book told stands on.
+    let rows = c.in-Ok.ensures.answer total book told stands on in
+    record {
+      samples = kept c.args.grid rows.axis rows.sums;
+      are = rows.are;
+      values = rows.values;
+      range = c.shown_range-range.result;
+      shows = c.shown_range-range.ensures.shows c.args.grid (kept c.args.grid rows.axis rows.sums) rows.rows_are;
+      chart = c.in_ok-bitmap.ensures rows.axis rows.sums rows.step rows.rows_are;
+    }

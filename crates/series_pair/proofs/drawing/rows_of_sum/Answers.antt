@@ -1,0 +1,6 @@
+use Rattle.series_pair.proofs.ChartLemmas.{answer_of}
+use Rattle.series_pair.proofs.drawing.rows_of_sum.Goals as goal
+
+pub returns-clause-answer : goal.returns-clause-answer
+returns-clause-answer g c =
+    answer_of c.args.store.now c.new-pair.result c.args.x c.args.y c.args.sum.shift c.args.sum.a c.args.sum.b c.args.grid c.rows_of_pair.result c.new-pair.ensures.space c.new-pair.ensures.first c.new-pair.ensures.second c.rows_of_pair.ensures.answer
