@@ -137,20 +137,3 @@ live_codes code (suc (suc (suc (suc (suc zero)))), inside, is) = (5, omega arith
 live_codes code (suc (suc (suc (suc (suc (suc zero))))), inside, is) = (7, omega arith, is)
 live_codes code (suc (suc (suc (suc (suc (suc (suc zero)))))), inside, is) = (10, omega arith, is)
 live_codes code (suc (suc (suc (suc (suc (suc (suc (suc k))))))), inside, is) = absurd (omega (arith, inside))
-
--- codes of the command `derive` are codes of a command
-abbrev pub of_derive : List ℕ
-of_derive = 0 ∷ 3 ∷ 4 ∷ 5 ∷ 6 ∷ 7 ∷ 8 ∷ 9 ∷ 12 ∷ 16 ∷ []
-
-pub derive_codes : (code : ℕ) → Contains of_derive code → Contains (0 ∷ 3 ∷ 4 ∷ 5 ∷ 6 ∷ 7 ∷ 8 ∷ 9 ∷ 10 ∷ 11 ∷ 12 ∷ 13 ∷ 14 ∷ 15 ∷ 16 ∷ 17 ∷ []) code
-derive_codes code (zero, inside, is) = (0, omega arith, is)
-derive_codes code (suc zero, inside, is) = (1, omega arith, is)
-derive_codes code (suc (suc zero), inside, is) = (2, omega arith, is)
-derive_codes code (suc (suc (suc zero)), inside, is) = (3, omega arith, is)
-derive_codes code (suc (suc (suc (suc zero))), inside, is) = (4, omega arith, is)
-derive_codes code (suc (suc (suc (suc (suc zero)))), inside, is) = (5, omega arith, is)
-derive_codes code (suc (suc (suc (suc (suc (suc zero))))), inside, is) = (6, omega arith, is)
-derive_codes code (suc (suc (suc (suc (suc (suc (suc zero)))))), inside, is) = (7, omega arith, is)
-derive_codes code (suc (suc (suc (suc (suc (suc (suc (suc zero))))))), inside, is) = (10, omega arith, is)
-derive_codes code (suc (suc (suc (suc (suc (suc (suc (suc (suc zero)))))))), inside, is) = (14, omega arith, is)
-derive_codes code (suc (suc (suc (suc (suc (suc (suc (suc (suc (suc k))))))))), inside, is) = absurd (omega (arith, inside))

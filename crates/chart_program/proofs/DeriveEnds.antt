@@ -1,94 +1,109 @@
 -- The command `derive` ends as its own clauses say.
-use Rattle.std.proofs.Common.{ℕ, zero, suc, ◌<◌, List, Option, Some, None, IfSome, refl, sym, arith, inl, inr}
+use Rattle.std.proofs.Common.{ℕ, ◌+◌, ◌*◌, ◌<◌, List, Option, Some, None, IfSome, refl, ap, arith, inl, inr}
 use Rattle.std.specs.Prelude.{Contains}
 use Rattle.block_disk.specs.View.{View}
 use Rattle.gate_pages.specs.Journal.{page_count}
-use Rattle.stored_book.specs.Damage.{IsBadForRequest}
+use Rattle.run_ends.specs.Statuses.{code_of, place_of}
+use Rattle.run_ends.specs.declared.ending.End.{End}
+use Rattle.run_ends.specs.declared.ending.End.TheVariants.{Done, NoMemory, ReadFault, SendFault, DiskFault, DamagedBlock, DamagedPage}
+use Rattle.run_ends.specs.declared.ending.End.TheVariants.{BadInput, InputTooLong, TooSmall, RefusedLine}
 use Rattle.store_commands.specs.Away.{IsTurnedAway}
-use Rattle.store_commands.specs.Damaged.{IsDamagedPlace}
-use Rattle.derive_command.specs.Derived.{DeriveEnds, DerivesTaken, FindsDamaged}
+use Rattle.store_commands.specs.Books.{OfBook}
+use Rattle.store_commands.specs.Traffic.{Traffic}
+use Rattle.derive_command.specs.Derived.{DeriveEnds, DerivesTaken, DerivesToRefused, IsDeriveCause}
+use Rattle.derive_command.specs.Lines.{DrawsToNumber, EndsSo}
 use Rattle.derive_command.proofs.GoodLemmas.{bad_never, refused_never}
 use Rattle.program_words.specs.declared.words.Command.TheVariants.{Derive}
-use Rattle.chart_program.specs.CommandStatuses.{IsBarred}
+use Rattle.chart_program.specs.CommandStatuses.{codes_of}
 use Rattle.chart_program.specs.Served.{Faults}
 use Rattle.chart_program.specs.Ran.{AreDerived, CommandEnds, of_done}
-use Rattle.chart_program.proofs.Codes.{told_all}
+use Rattle.chart_program.proofs.Codes.{told_all, told_both}
+use Rattle.chart_program.proofs.CommandsEnd.{all_told}
 use Rattle.chart_program.proofs.Counts.{told_any}
-use Rattle.chart_program.proofs.CommandCodes.{never, of_derive, derive_codes}
-use Rattle.chart_program.proofs.CommandsEnd.{all_told, small_never}
+use Rattle.chart_program.proofs.EndsByCode.{Came, by_code}
 
 -- with good input it is done, a stream fails, or there is no memory
-completed : (old new : View) (input : List ℕ) (left' before now : Option (List ℕ)) (faults : Faults) (code place : ℕ) → AreDerived old new input → DeriveEnds old new (Some input) left' before now faults.reads faults.reads_now faults.sends faults.sends_now code place → Contains of_derive code → Contains of_done code
-completed old new input left' before now faults code place r e (zero, inside, is) = (0, omega arith, is)
-completed old new input left' before now faults code place r e (suc zero, inside, is) = (1, omega arith, is)
-completed old new input left' before now faults code place r e (suc (suc zero), inside, is) = (2, omega arith, is)
-completed old new input left' before now faults code place r e (suc (suc (suc zero)), inside, is) = (3, omega arith, is)
-completed old new input left' before now faults code place r e (suc (suc (suc (suc zero))), inside, is) = absurd (r.whole (e.fault (sym is)))
-completed old new input left' before now faults code place r e (suc (suc (suc (suc (suc zero)))), inside, is) = absurd (e.undamaged (sym is) r.total r.book r.holds)
-completed old new input left' before now faults code place r e (suc (suc (suc (suc (suc (suc zero))))), inside, is) = absurd (bad_never r.book input before now place r.text r.answers (e.bad (sym is) r.total r.book r.holds))
-completed old new input left' before now faults code place r e (suc (suc (suc (suc (suc (suc (suc zero)))))), inside, is) = absurd (omega (arith, r.short, ((e.much (sym is)).1 r.total r.book r.holds).past))
-completed old new input left' before now faults code place r e (suc (suc (suc (suc (suc (suc (suc (suc zero))))))), inside, is) = absurd (small_never old r.total r.book r.holds (omega (arith, (e.small (sym is)).1)))
-completed old new input left' before now faults code place r e (suc (suc (suc (suc (suc (suc (suc (suc (suc zero)))))))), inside, is) = let at = e.refused (sym is) r.total r.book r.holds in absurd (refused_never r.book input before now at.at at.refusal r.text r.answers at.draws)
-completed old new input left' before now faults code place r e (suc (suc (suc (suc (suc (suc (suc (suc (suc (suc k))))))))), inside, is) = absurd (omega (arith, inside))
+completed : (old new : View) (input : List ℕ) (left' before now : Option (List ℕ)) (t : Traffic) → AreDerived old new input → (end : End) → IsDeriveCause end old new t → OfBook (page_count old.size) old (λ total book. EndsSo book input left' before now end)
+    → Contains of_done (code_of end)
+completed old new input left' before now t r Done cause sent = (0, omega arith, refl)
+completed old new input left' before now t r NoMemory cause sent = (1, omega arith, refl)
+completed old new input left' before now t r ReadFault cause sent = (2, omega arith, refl)
+completed old new input left' before now t r SendFault cause sent = (3, omega arith, refl)
+completed old new input left' before now t r DiskFault cause sent = absurd (r.whole cause)
+completed old new input left' before now t r (DamagedBlock block) cause sent = absurd (sent r.total r.book r.holds)
+completed old new input left' before now t r (DamagedPage page) cause sent = absurd (sent r.total r.book r.holds)
+completed old new input left' before now t r (BadInput at) cause sent = absurd (bad_never r.book input before now at r.text r.answers (sent r.total r.book r.holds))
+completed old new input left' before now t r InputTooLong cause sent = absurd (omega (arith, r.short, (sent r.total r.book r.holds).past))
+completed old new input left' before now t r (TooSmall blocks) cause sent = absurd (sent r.total r.book r.holds)
+completed old new input left' before now t r (RefusedLine at number) cause sent = let is = sent r.total r.book r.holds in absurd (refused_never r.book input before now at is.why r.text r.answers is.draws)
+completed old new input left' before now t r end cause sent = absurd cause
 
-complete : (old new : View) (left left' before now : Option (List ℕ)) (faults : Faults) (code place : ℕ) → DeriveEnds old new left left' before now faults.reads faults.reads_now faults.sends faults.sends_now code place → IfSome left (λ input. AreDerived old new input → Contains of_done code)
-complete old new None left' before now faults code place e = tt
-complete old new (Some input) left' before now faults code place e = λ good. completed old new input left' before now faults code place good e e.codes
+complete : (old new : View) (left left' before now : Option (List ℕ)) (t : Traffic) (end : End) → IsDeriveCause end old new t → IfSome left (λ input. OfBook (page_count old.size) old (λ total book. EndsSo book input left' before now end))
+    → IfSome left (λ input. AreDerived old new input → Contains of_done (code_of end))
+complete old new None left' before now t end cause sent = tt
+complete old new (Some input) left' before now t end cause sent = λ good. completed old new input left' before now t good end cause sent
 
-taken : (old new : View) (left left' before now : Option (List ℕ)) → IfSome left (λ input. DerivesTaken (page_count old.size) old input left' before now) → IfSome left (λ input. IfSome left' (λ bytes. DerivesTaken (page_count old.size) old input (Some bytes) before now))
-taken old new None left' before now all = tt
-taken old new (Some input) None before now all = tt
-taken old new (Some input) (Some bytes) before now all = all
+taken : (old : View) (left left' before now : Option (List ℕ)) → IfSome left (λ input. DerivesTaken (page_count old.size) old input left' before now) → IfSome left (λ input. IfSome left' (λ bytes. DerivesTaken (page_count old.size) old input (Some bytes) before now))
+taken old None left' before now all = tt
+taken old (Some input) None before now all = tt
+taken old (Some input) (Some bytes) before now all = all
 
-barred : (old new : View) (left left' before now : Option (List ℕ)) (place : ℕ) → FindsDamaged old new left left' before now place → IsBarred (page_count old.size) new left left' before now place
-barred old new left left' before now place (inl first) = inl (first.0.0, first.1)
-barred old new left left' before now place (inr later) = inr later
+-- a line that is refused, by its place
+refused : (old : View) (left before now : Option (List ℕ)) (at number : ℕ) → IfSome left (λ input. OfBook (page_count old.size) old (λ total book. DrawsToNumber book input before now at number))
+    → IfSome left (λ input. DerivesToRefused (page_count old.size) old input (256 * at + number) before now)
+refused old None before now at number all = tt
+refused old (Some input) before now at number all = λ total book holds.
+    let is = all total book holds in
+    record { at = at; refusal = is.why; place_is = ap (λ n. 256 * at + n) is.number_is; draws = is.draws }
 
-found : (old new : View) (left left' before now : Option (List ℕ)) (place : ℕ) → FindsDamaged old new left left' before now place → IsDamagedPlace IsBadForRequest old new place
-found old new left left' before now place (inl first) = inl first.0
-found old new left left' before now place (inr later) = inr later
+module _ (old new : View) (left left' before now : Option (List ℕ)) (faults : Faults) where
+  abbrev passed : Traffic
+  passed = record { left = left; left_now = left'; sent = before; sent_now = now; reads = faults.reads; reads_now = faults.reads_now; sends = faults.sends; sends_now = faults.sends_now }
 
-pub derive_ends : (old new : View) (left left' before now : Option (List ℕ)) (faults : Faults) (code place : ℕ) → DeriveEnds old new left left' before now faults.reads faults.reads_now faults.sends faults.sends_now code place → (old.size < 128 → IsTurnedAway left left' before now code) → CommandEnds Derive old new left left' before now faults code place
-derive_ends old new left left' before now faults code place e away = record {
-  codes = derive_codes code e.codes;
-  own = e.codes;
-  away = λ over. away;
-  untaken = λ none. absurd none;
-  bars = λ is. barred old new left left' before now place (e.damaged is);
-  reads = tt;
-  reads_lines = told_any left;
-  syncs = told_any left;
-  unsent = λ is. absurd (never of_derive code 14 e.codes refl is);
-  read = e.read;
-  stopped = λ is. taken old new left left' before now (e.stopped is);
-  send = e.send;
-  bad = e.bad;
-  much = e.much;
-  missing = λ is. absurd (never of_derive code 10 e.codes refl is);
-  misfit = λ is. absurd (never of_derive code 11 e.codes refl is);
-  unopened = λ is. absurd (never of_derive code 15 e.codes refl is);
-  memory = e.memory;
-  within = e.within;
-  fault = e.fault;
-  faulted = e.faulted;
-  damaged = λ is. found old new left left' before now place (e.damaged is);
-  undamaged = e.undamaged;
-  small = e.small;
-  there = λ is. absurd (never of_derive code 13 e.codes refl is);
-  refused = λ is. absurd (never of_derive code 14 e.codes refl is);
-  unnamed = tt;
-  unknown = λ is. absurd (never of_derive code 17 e.codes refl is);
-  refused_line = e.refused;
-  zero_place = e.zero_place;
-  done = e.done;
-  part = e.part;
-  nothing = λ some unsent quiet. absurd (quiet tt);
-  pictures = λ is command. cc;
-  holds = λ other. told_all left _ (λ total book held. (book, e.holds total book held));
-  crash = all_told left before _ e.crash;
-  disk = e.goes_on;
-  made = λ is. tt;
-  complete = complete old new left left' before now faults code place e;
-  drawn = λ command. cc;
-  ready = λ command. cc;
-}
+  derive_came : (end : End) → IsDeriveCause end old new passed → IfSome left (λ input. OfBook (page_count old.size) old (λ total book. EndsSo book input left' before now end)) → Came Derive old new left left' before now faults end
+  derive_came Done cause sent = (cause, sent, tt)
+  derive_came NoMemory cause sent = sent
+  derive_came ReadFault cause sent = (cause, taken old left left' before now sent)
+  derive_came SendFault cause sent = (cause, sent)
+  derive_came DiskFault cause sent = (cause, sent)
+  derive_came (DamagedBlock block) cause sent = (inl cause.0, sent, inl (cause.0.0, cause.1))
+  derive_came (DamagedPage page) cause sent = (inr cause, sent, inr cause)
+  derive_came (BadInput at) cause sent = sent
+  derive_came InputTooLong cause sent = told_both left _ _ refl sent
+  derive_came (TooSmall blocks) cause sent = cause
+  derive_came (RefusedLine at number) cause sent = refused old left before now at number sent
+  derive_came end cause sent = absurd cause
+
+  derive_own : (end : End) → IsDeriveCause end old new passed → Contains (codes_of Derive) (code_of end)
+  derive_own Done cause = (0, omega arith, refl)
+  derive_own NoMemory cause = (1, omega arith, refl)
+  derive_own ReadFault cause = (2, omega arith, refl)
+  derive_own SendFault cause = (3, omega arith, refl)
+  derive_own DiskFault cause = (4, omega arith, refl)
+  derive_own (DamagedBlock block) cause = (5, omega arith, refl)
+  derive_own (DamagedPage page) cause = (5, omega arith, refl)
+  derive_own (BadInput at) cause = (6, omega arith, refl)
+  derive_own InputTooLong cause = (7, omega arith, refl)
+  derive_own (TooSmall blocks) cause = (8, omega arith, refl)
+  derive_own (RefusedLine at number) cause = (9, omega arith, refl)
+  derive_own end cause = absurd cause
+
+  pub derive_ends : (end : End) → DeriveEnds old new passed end → (old.size < 128 → IsTurnedAway left left' before now (code_of end)) → CommandEnds Derive old new left left' before now faults (code_of end) (place_of end)
+  derive_ends end e away = by_code Derive old new left left' before now faults end (record {
+    came = derive_came end e.cause e.sent;
+    own = derive_own end e.cause;
+    away = λ over. away;
+    untaken = λ none. absurd none;
+    reads = tt;
+    reads_lines = told_any left;
+    syncs = told_any left;
+    unnamed = tt;
+    nothing = λ some unsent quiet. absurd (quiet tt);
+    pictures = λ is command. cc;
+    holds = λ other. told_all left _ (λ total book held. (book, e.holds total book held));
+    crash = all_told left before _ e.crash;
+    disk = e.goes_on;
+    complete = complete old new left left' before now passed end e.cause e.sent;
+    drawn = λ command. cc;
+    ready = λ command. cc;
+  })

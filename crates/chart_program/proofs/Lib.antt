@@ -26,6 +26,7 @@ pub mod Drawings
 pub mod InitLemmas
 pub mod InitEnds
 pub mod OneCommand
+pub mod DerivePage
 pub mod StorePages
 pub mod StreamPages
 pub mod RetainEnds

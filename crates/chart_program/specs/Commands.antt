@@ -4,7 +4,7 @@ use Rattle.block_disk.specs.View.{View}
 use Rattle.chart_grid.specs.Limits.{IsSide}
 use Rattle.program_words.specs.Words.{AreWordsOf, IsEvery}
 use Rattle.program_words.specs.declared.words.Command.{Command}
-use Rattle.program_words.specs.declared.words.Command.TheVariants.{Plot, Demo, Draw, Init, Check, ListSeries, Export}
+use Rattle.program_words.specs.declared.words.Command.TheVariants.{Plot, Demo, Draw, Init, Check, ListSeries, Export, Derive}
 use Rattle.program_words.specs.declared.words.Command.TheVariants.{Cover}
 use Rattle.run_ends.specs.Statuses.{status_of}
 use Rattle.run_ends.specs.declared.ending.End.{End}
@@ -13,6 +13,7 @@ use Rattle.chart_program.specs.Check.{OfCheck}
 use Rattle.chart_program.specs.Course.{Course, course}
 use Rattle.chart_program.specs.Cover.{OfCover}
 use Rattle.chart_program.specs.Demo.{OfDemo}
+use Rattle.chart_program.specs.Derive.{OfDerive}
 use Rattle.chart_program.specs.Draw.{OfDraw}
 use Rattle.chart_program.specs.Export.{OfExport}
 use Rattle.chart_program.specs.Init.{OfInit}
@@ -45,6 +46,7 @@ Does Check c status = EndsSo status (OfCheck c)
 Does ListSeries c status = EndsSo status (OfList c)
 Does (Export name window) c status = EndsSo status (OfExport name window c)
 Does (Cover every) c status = EndsSo status (OfCover every c)
+Does Derive c status = EndsSo status (OfDerive c)
 Does command c status = ⊤
 
 -- where the words are this command's, and there was memory to read them, its page is so of some end with the status

@@ -90,7 +90,10 @@ pub(crate) fn status_of_command<W: World>(
             (status, world)
         }
         Command::Live => live(alloc, world),
-        Command::Derive => derive(alloc, world),
+        Command::Derive => {
+            let (end, world) = derive(alloc, world);
+            (status_of(end), world)
+        }
     }
 }
 

@@ -2,7 +2,7 @@ ghost use Rattle.std.specs.Prelude.{◌≡◌, ◌≢◌, ◌⊎◌, ℕ, List, 
 ghost use Rattle.block_disk.specs.Counts.{HasRisen};
 ghost use Rattle.chart_world.specs.Faults.{CountsFault};
 ghost use Rattle.program_words.specs.CommandLine.{plain_words};
-ghost use Rattle.program_words.specs.declared.words.Command.TheVariants.{Check, Cover, Demo, Draw, Export, Init, ListSeries, Plot};
+ghost use Rattle.program_words.specs.declared.words.Command.TheVariants.{Check, Cover, Demo, Derive, Draw, Export, Init, ListSeries, Plot};
 ghost use Rattle.program_words.specs.Words.{AreCommand, AreWordsOf, ByCommand, Spells, IsWrong};
 ghost use Rattle.store_commands.specs.Status.{code_fault};
 ghost use Rattle.series_export.specs.declared.window.Window.{Window};
@@ -10,6 +10,7 @@ ghost use Rattle.chart_program.specs.Check.{OfCheck};
 ghost use Rattle.chart_program.specs.Commands.{ByPage};
 ghost use Rattle.chart_program.specs.Cover.{OfCover};
 ghost use Rattle.chart_program.specs.Demo.{OfDemo};
+ghost use Rattle.chart_program.specs.Derive.{OfDerive};
 ghost use Rattle.chart_program.specs.Draw.{OfDraw};
 ghost use Rattle.chart_program.specs.Export.{OfExport};
 ghost use Rattle.chart_program.specs.Init.{OfInit};
@@ -121,6 +122,7 @@ pub fn chart<W: World>(alloc: Global, words: &[String], world: W) -> (Status, W)
     ensures list { ByPage words.now W.view W.left W.sent world result.1 result.0 ListSeries OfList }
     ensures export { (name : List ℕ) (window : Option Window) → ByPage words.now W.view W.left W.sent world result.1 result.0 (Export name window) (OfExport name window) }
     ensures cover { (every : ℕ) → ByPage words.now W.view W.left W.sent world result.1 result.0 (Cover every) (OfCover every) }
+    ensures derive { ByPage words.now W.view W.left W.sent world result.1 result.0 Derive OfDerive }
 {
     one_frame_a_spelling();
     length_is_told();

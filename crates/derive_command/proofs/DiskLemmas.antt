@@ -1,39 +1,50 @@
--- What is done over a store on a disk, in the words of the disk.
-use Rattle.std.proofs.Common.{◌≡◌, ℕ, ◌≤◌, ◌^◌, Bool, List, length, Option, Some, None, Result, Ok, Err, IfSome, subst, arith}
-use Rattle.std.specs.Prelude.{IfErr, OnOk}
+-- How lines end over the store of a disk, in the words of the disk.
+use Rattle.std.proofs.Common.{◌≡◌, ◌≢◌, ◌∙◌, ℕ, ◌+◌, ◌<◌, ◌≤◌, ◌^◌, ◌⊎◌, Bool, List, length, Option, Some, None, IfSome, inl, inr, refl, sym, subst, arith}
 use Rattle.block_disk.proofs.Passing.{passes_weaker}
+use Rattle.block_disk.specs.SentLaws.{sent_none}
 use Rattle.block_disk.specs.View.{Image, View, Honest, Now, Passes, sent_now}
 use Rattle.chart_service.specs.MomentLaws.{since_both, since_none}
+use Rattle.chart_service.specs.Moments.{Since}
 use Rattle.chart_service.proofs.DiskKept.{risen_since}
 use Rattle.disk_store.specs.Held.{HoldsBook}
-use Rattle.disk_store.specs.Openings.{Opens}
+use Rattle.disk_store.specs.Openings.{IsOutside, Opens}
+use Rattle.disk_store.specs.declared.causes.OpeningCause.{OpeningCause}
+use Rattle.disk_store.specs.declared.causes.OpeningCause.TheVariants as opening
 use Rattle.gate_pages.specs.GateLaws.{goes_then}
 use Rattle.gate_pages.specs.GatePages.{IsClosed, PagesOf, pages_view}
 use Rattle.gate_pages.specs.Journal.{page_count, pages_of}
+use Rattle.run_ends.specs.declared.ending.End.{End}
+use Rattle.run_ends.specs.declared.ending.End.TheVariants.{Done, NoMemory, ReadFault, SendFault, DiskFault, DamagedPage}
+use Rattle.run_ends.specs.declared.ending.End.TheVariants.{BadInput, InputTooLong, RefusedLine}
 use Rattle.series_book.specs.declared.one_series.Series.{Series}
 use Rattle.stored_book.proofs.CurrentLemmas.{recovers_new}
+use Rattle.stored_book.specs.Damage.{IsBadForRequest}
 use Rattle.stored_book.specs.Standing.{StandsForBook, RecoversTo}
 use Rattle.store_commands.proofs.CheckLooks.{left_stands}
 use Rattle.store_commands.proofs.Damages.{later_bad}
 use Rattle.store_commands.proofs.Held.{RestsNew, held, holds_same, stands_held, within_held}
+use Rattle.store_commands.proofs.InputLemmas.{any_told}
 use Rattle.store_commands.proofs.Moments.{on_at, opened_goes, opened_since, since_on}
+use Rattle.store_commands.proofs.WorldLemmas.{IsUnopened}
 use Rattle.store_commands.specs.Books.{LeavesSame, OfBook}
-use Rattle.derive_command.specs.Derived.{DerivesAll}
-use Rattle.derive_command.specs.Deriving.{Drawn, IsEndCause, StopsAt}
+use Rattle.store_commands.specs.Codes.{unopened}
+use Rattle.store_commands.specs.Damaged.{IsDamagedLater}
 use Rattle.store_commands.specs.Sides.{Side}
+use Rattle.store_commands.specs.Status.{opening_end}
+use Rattle.store_commands.specs.Traffic.{Traffic}
+use Rattle.derive_command.specs.Derived.{DeriveEnds, IsDeriveCause}
 use Rattle.derive_command.specs.Doing.{Goes, IsCause}
-use Rattle.derive_command.specs.Lines.{DrawsAll, EndsSo}
-use Rattle.derive_command.specs.declared.derive_end.DeriveEnd.{DeriveEnd}
-use Rattle.derive_command.specs.declared.derive_end.DeriveEnd.TheVariants.{BadLine, Refused, ReadFault, SendFault, InputTooLong, DiskFault, Damaged, NoMemory}
+use Rattle.derive_command.specs.Lines.{EndsSo}
+use Rattle.derive_command.proofs.LineLemmas.{no_lines}
 
 abbrev pub disk_side : ℕ → Bool → View → ℕ → ℕ → ℕ → Side
 disk_side count sound disk total reads sends = record { told = Honest disk; view = pages_view count sound disk; under = disk; total = total; read_faults = reads; send_faults = sends }
 
--- Lines were answered over the pages of a disk, which is at rest afterwards.
-module _ (count count' : ℕ) (sound sound' : Bool) (old new : View) (total total' reads reads_now sends sends_now : ℕ) (goes : Goes (disk_side count sound old total reads sends) (disk_side count' sound' new total' reads_now sends_now)) (rests : RestsNew count old) (closed : IsClosed new) (few : total ≤ count) (faults : old.faults ≤ new.faults) where
-  -- this is so where the pages stand for a book
-  abbrev pub OfPages : (List Series → Type 0) → Type 0
-  OfPages IsSo = (total : ℕ) (book : List Series) → Honest old → StandsForBook (pages_of count old.image) total book → IsSo book
+-- A store was opened, lines were answered over its pages, and its disk is at rest afterwards.
+module _ (count count' : ℕ) (sound sound' : Bool) (first old new : View) (total total' : ℕ) (t : Traffic) (goes : Goes (disk_side count sound old total t.reads t.sends) (disk_side count' sound' new total' t.reads_now t.sends_now)) (rests : RestsNew count old) (closed : IsClosed new) (few : total ≤ count) (counted : count ≡ page_count first.size) (opens : Opens (page_count first.size) first old) (quiet : old.faults ≡ first.faults) where
+  -- the disk holds the book once the store is open
+  held_open : (total : ℕ) (book : List Series) → HoldsBook (page_count first.size) total book first → HoldsBook count total book old
+  held_open total book holds = let C : ℕ → Type 0 = λ n. HoldsBook n total book old in subst C (sym counted) (held first old opens total book holds)
 
   leaves : LeavesSame count old new
   leaves = λ total book holds.
@@ -47,109 +58,72 @@ module _ (count count' : ℕ) (sound sound' : Bool) (old new : View) (total tota
       let on = on_at count count' total sound sound' old new goes.size (within_held count total book old holds) Q S (λ pages is. book) (λ pages is. is) passes at image low high left in
       recovers_new count image total book on.readable on.within on.so)
 
-  holds_on : OfBook count old (λ total book. HoldsBook count total book new)
-  holds_on = λ total book holds. holds_same count count' total book old new rests goes.size goes.is_told goes.image closed holds
+  cause_on : (end : End) → (end ≡ Done → IfSome t.left (λ input. length input ≤ 2 ^ 32)) → (end ≢ Done → IsCause end (disk_side count sound old total t.reads t.sends) (disk_side count' sound' new total' t.reads_now t.sends_now)) → IsDeriveCause end first new t
+  cause_on Done within cause = within refl
+  cause_on NoMemory within cause = tt
+  cause_on ReadFault within cause = cause (λ is. cc)
+  cause_on SendFault within cause = cause (λ is. cc)
+  cause_on DiskFault within cause = risen_since first.faults old.faults new.faults quiet (cause (λ is. cc))
+  cause_on (DamagedPage page) within cause =
+      let is = cause (λ is. cc) in
+      let C : ℕ → Type 0 = λ n. IsDamagedLater IsBadForRequest n new (66 + page) in
+      subst C counted (later_bad count count' new page goes.size (omega (arith, is.0, few, goes.size)) is.1)
+  cause_on (BadInput at) within cause = tt
+  cause_on InputTooLong within cause = tt
+  cause_on (RefusedLine at refusal) within cause = tt
+  cause_on end within cause = absurd (cause (λ is. cc))
 
-  cause_on : (end : DeriveEnd) → IsCause end (disk_side count sound old total reads sends) (disk_side count' sound' new total' reads_now sends_now) → IsEndCause end count old new reads reads_now sends sends_now
-  cause_on (BadLine at) is = tt
-  cause_on (Refused at why) is = tt
-  cause_on ReadFault is = is
-  cause_on SendFault is = is
-  cause_on InputTooLong is = tt
-  cause_on DiskFault is = is
-  cause_on (Damaged page) is = later_bad count count' new page goes.size (omega (arith, is.0, few, goes.size)) is.1
-  cause_on NoMemory is = tt
+  sent_on : (left : Option (List ℕ)) (end : End) → ((total : ℕ) (book : List Series) → Honest old → StandsForBook (pages_of count old.image) total book → IfSome left (λ input. EndsSo book input t.left_now t.sent t.sent_now end))
+      → IfSome left (λ input. OfBook (page_count first.size) first (λ total book. EndsSo book input t.left_now t.sent t.sent_now end))
+  sent_on None end ends = tt
+  sent_on (Some input) end ends = λ total book holds. let here = held_open total book holds in ends total book here.honest (stands_held count total book old rests here)
 
-  done_on : (left before now : Option (List ℕ)) → OfPages (λ book. IfSome left (λ input. DrawsAll book input before now)) → IfSome left (λ input. DerivesAll count old input before now)
-  done_on None before now all = tt
-  done_on (Some input) before now all = λ total book holds. all total book holds.honest (stands_held count total book old rests holds)
-
-  stops_on : (left left' before now : Option (List ℕ)) (end : DeriveEnd) → OfPages (λ book. IfSome left (λ input. EndsSo book input left' before now end)) → IfSome left (λ input. StopsAt count old input left' before now end)
-  stops_on None left' before now end all = tt
-  stops_on (Some input) left' before now end all = λ total book holds. all total book holds.honest (stands_held count total book old rests holds)
-
-  pub drawn_by : {T : Type 0} (answer : Result T DeriveEnd) (left left' before now : Option (List ℕ))
-      → OfPages (λ book. OnOk answer (IfSome left (λ input. DrawsAll book input before now)))
-      → OnOk answer (IfSome left (λ input. length input ≤ 2 ^ 32))
-      → OfPages (λ book. IfErr answer (λ end. IfSome left (λ input. EndsSo book input left' before now end)))
-      → IfErr answer (λ end. IsCause end (disk_side count sound old total reads sends) (disk_side count' sound' new total' reads_now sends_now))
-      → Drawn count old new left left' before now reads reads_now sends sends_now answer
-  drawn_by {T} (Ok v) left left' before now done within stops cause = record {
-    done = done_on left before now done;
-    within = within;
-    stops = tt;
-    cause = tt;
-    crash = leaves;
-    holds = holds_on;
-    goes_on = goes.goes_on;
-    faults = faults;
-  }
-  drawn_by {T} (Err end) left left' before now done within stops cause = record {
-    done = tt;
-    within = tt;
-    stops = stops_on left left' before now end stops;
-    cause = cause_on end cause;
-    crash = leaves;
-    holds = holds_on;
-    goes_on = goes.goes_on;
-    faults = faults;
+  pub derived_by : (end : End) → (end ≡ Done → IfSome t.left (λ input. length input ≤ 2 ^ 32))
+      → (end ≢ Done → IsCause end (disk_side count sound old total t.reads t.sends) (disk_side count' sound' new total' t.reads_now t.sends_now))
+      → ((total : ℕ) (book : List Series) → Honest old → StandsForBook (pages_of count old.image) total book → IfSome t.left (λ input. EndsSo book input t.left_now t.sent t.sent_now end))
+      → DeriveEnds first new t end
+  derived_by end within cause ends = record {
+    cause = cause_on end within cause;
+    sent = sent_on t.left end ends;
+    crash = λ total book holds.
+        let C : ℕ → Type 0 = λ n. Since old new (λ image sent. RecoversTo n image total book) in
+        since_both first old new (λ image sent. RecoversTo (page_count first.size) image total book) (opened_since first old opens total book holds) (subst C counted (leaves total book (held_open total book holds)));
+    holds = λ total book holds.
+        let C : ℕ → Type 0 = λ n. HoldsBook n total book new in
+        subst C counted (holds_same count count' total book old new rests goes.size goes.is_told goes.image closed (held_open total book holds));
+    goes_on = goes_then first old new (opened_goes first old opens) goes.goes_on;
   }
 
--- ---- the store is opened first
+-- what passed through the streams of a world that begins as another one
+pub traffic_from : (t : Traffic) (left sent : Option (List ℕ)) (reads sends : ℕ) → t.left ≡ left → t.sent ≡ sent → t.reads ≡ reads → t.sends ≡ sends → t ≡ record t { left = left; sent = sent; reads = reads; sends = sends }
+traffic_from t left sent reads sends l s r f = λ i. record { left = l i; left_now = t.left_now; sent = s i; sent_now = t.sent_now; reads = r i; reads_now = t.reads_now; sends = f i; sends_now = t.sends_now }
 
-module _ (old mid new : View) (opens : Opens (page_count old.size) old mid) (same_faults : mid.faults ≡ old.faults) where
-  done_opened : (left before now : Option (List ℕ)) → IfSome left (λ input. DerivesAll (page_count old.size) mid input before now) → IfSome left (λ input. DerivesAll (page_count old.size) old input before now)
-  done_opened None before now all = tt
-  done_opened (Some input) before now all = λ total book holds. all total book (held old mid opens total book holds)
+-- ---- no store was opened
 
-  stops_opened : (left left' before now : Option (List ℕ)) (end : DeriveEnd) → IfSome left (λ input. StopsAt (page_count old.size) mid input left' before now end) → IfSome left (λ input. StopsAt (page_count old.size) old input left' before now end)
-  stops_opened None left' before now end all = tt
-  stops_opened (Some input) left' before now end all = λ total book holds. all total book (held old mid opens total book holds)
+too_small : (size : ℕ) → IsOutside (opening.TooSmall size) → ⊥
+too_small size (inl same) = cc
+too_small size (inr same) = cc
 
-  crash_opened : LeavesSame (page_count old.size) mid new → LeavesSame (page_count old.size) old new
-  crash_opened leaves = λ total book holds.
-      since_both old mid new (λ image sent. RecoversTo (page_count old.size) image total book) (opened_since old mid opens total book holds) (leaves total book (held old mid opens total book holds))
+module _ (old new : View) (t : Traffic) where
+  unopened_cause : (cause : OpeningCause) → IsUnopened old new t.left t.left_now t.sent t.sent_now cause → IsDeriveCause (opening_end cause) old new t
+  unopened_cause (opening.TooSmall size) u = (u.prevents.0, omega (arith, u.prevents.0, u.prevents.1))
+  unopened_cause (opening.Damaged block) u = (u.prevents.1, (u.left_is, u.sent_is))
+  unopened_cause opening.DiskFault u = u.prevents
+  unopened_cause opening.NoMemory u = tt
 
-  cause_opened : (end : DeriveEnd) (reads reads_now sends sends_now : ℕ) → IsEndCause end (page_count old.size) mid new reads reads_now sends sends_now → IsEndCause end (page_count old.size) old new reads reads_now sends sends_now
-  cause_opened (BadLine at) reads reads_now sends sends_now is = tt
-  cause_opened (Refused at why) reads reads_now sends sends_now is = tt
-  cause_opened ReadFault reads reads_now sends sends_now is = is
-  cause_opened SendFault reads reads_now sends sends_now is = is
-  cause_opened InputTooLong reads reads_now sends sends_now is = tt
-  cause_opened DiskFault reads reads_now sends sends_now is = risen_since old.faults mid.faults new.faults same_faults is
-  cause_opened (Damaged page) reads reads_now sends sends_now is = is
-  cause_opened NoMemory reads reads_now sends sends_now is = tt
+  unopened_sent : (input : List ℕ) (cause : OpeningCause) → IsUnopened old new t.left t.left_now t.sent t.sent_now cause → OfBook (page_count old.size) old (λ total book. EndsSo book input t.left_now t.sent t.sent_now (opening_end cause))
+  unopened_sent input (opening.TooSmall size) u = λ total book holds. absurd (too_small size (u.outside total book holds))
+  unopened_sent input (opening.Damaged block) u = λ total book holds. absurd (unopened block (u.outside total book holds))
+  unopened_sent input opening.DiskFault u = λ total book holds. record { first = no_lines book input; sent = u.sent_is ∙ sent_none t.sent }
+  unopened_sent input opening.NoMemory u = λ total book holds. record { first = no_lines book input; sent = u.sent_is ∙ sent_none t.sent }
 
-  drawn_opened : {T : Type 0} (left left' before now : Option (List ℕ)) (reads reads_now sends sends_now : ℕ) (answer : Result T DeriveEnd) → Drawn (page_count old.size) mid new left left' before now reads reads_now sends sends_now answer → Drawn (page_count old.size) old new left left' before now reads reads_now sends sends_now answer
-  drawn_opened {T} left left' before now reads reads_now sends sends_now (Ok v) s = record {
-    done = done_opened left before now s.done;
-    within = s.within;
-    stops = tt;
-    cause = tt;
-    crash = crash_opened s.crash;
-    holds = λ total book holds. s.holds total book (held old mid opens total book holds);
-    goes_on = goes_then old mid new (opened_goes old mid opens) s.goes_on;
-    faults = omega (arith, opens.faults, s.faults);
-  }
-  drawn_opened {T} left left' before now reads reads_now sends sends_now (Err end) s = record {
-    done = tt;
-    within = tt;
-    stops = stops_opened left left' before now end s.stops;
-    cause = cause_opened end reads reads_now sends sends_now s.cause;
-    crash = crash_opened s.crash;
-    holds = λ total book holds. s.holds total book (held old mid opens total book holds);
-    goes_on = goes_then old mid new (opened_goes old mid opens) s.goes_on;
-    faults = omega (arith, opens.faults, s.faults);
-  }
-
--- the same of a store that was opened
-pub drawn_on : {T : Type 0} (count : ℕ) (old start new : View) (left_start left left' before_start before now : Option (List ℕ)) (reads_start reads reads_now sends_start sends sends_now : ℕ) (answer : Result T DeriveEnd) → count ≡ page_count old.size → Opens (page_count old.size) old start → start.faults ≡ old.faults
-    → left_start ≡ left → before_start ≡ before → reads_start ≡ reads → sends_start ≡ sends → Drawn count start new left_start left' before_start now reads_start reads_now sends_start sends_now answer
-    → Drawn (page_count old.size) old new left left' before now reads reads_now sends sends_now answer
-drawn_on {T} count old start new left_start left left' before_start before now reads_start reads reads_now sends_start sends sends_now answer counted opens same_faults same_left same_sent same_reads same_sends s =
-    let C : ℕ → Type 0 = λ n. Drawn n start new left_start left' before_start now reads_start reads_now sends_start sends_now answer in
-    let L : Option (List ℕ) → Type 0 = λ l. Drawn (page_count old.size) start new l left' before_start now reads_start reads_now sends_start sends_now answer in
-    let B : Option (List ℕ) → Type 0 = λ b. Drawn (page_count old.size) start new left left' b now reads_start reads_now sends_start sends_now answer in
-    let D : ℕ → Type 0 = λ n. Drawn (page_count old.size) start new left left' before now n reads_now sends_start sends_now answer in
-    let S : ℕ → Type 0 = λ n. Drawn (page_count old.size) start new left left' before now reads reads_now n sends_now answer in
-    drawn_opened old start new opens same_faults left left' before now reads reads_now sends sends_now answer (subst S same_sends (subst D same_reads (subst B same_sent (subst L same_left (subst C counted s)))))
+  pub unopened_ends : (cause : OpeningCause) (end : End) → end ≡ opening_end cause → IsUnopened old new t.left t.left_now t.sent t.sent_now cause → DeriveEnds old new t end
+  unopened_ends cause end same u =
+      let E : End → Type 0 = λ e. DeriveEnds old new t e in
+      subst E (sym same) (record {
+        cause = unopened_cause cause u;
+        sent = any_told t.left _ (λ input. unopened_sent input cause u);
+        crash = opened_since old new u.opens;
+        holds = held old new u.opens;
+        goes_on = opened_goes old new u.opens;
+      })

@@ -7,9 +7,10 @@ use Rattle.chart_service.specs.Serving.{told}
 use Rattle.chart_service.specs.ViewingLaws.{no_window, no_sides, no_range}
 use Rattle.chart_world.specs.FrontLaws.{some_left, whole_front}
 use Rattle.chart_world.specs.Fronts.{says}
-use Rattle.chart_world.specs.LineLaws.{says_text, told_behind}
+use Rattle.chart_world.specs.LineLaws.{told_behind}
 use Rattle.derived_chart.specs.Points.{IsSumAt}
 use Rattle.line_raster.specs.Canvas.{Canvas}
+use Rattle.line_runs.specs.Given.{NextLine}
 use Rattle.plain_chart.specs.declared.value_range.ValueRange.{ValueRange}
 use Rattle.series_book.specs.Edits.{id_of}
 use Rattle.series_book.specs.declared.one_series.Series.{Series}
@@ -18,13 +19,12 @@ use Rattle.series_pair.specs.Derived.{AreAlike, AreShifted, HasLargeSum, IsDeriv
 use Rattle.view_keys.proofs.Grids.{grid_same}
 use Rattle.whole_number.specs.Range.{IsValue}
 use Rattle.derive_command.specs.Answers.{AnswersLine, AreNamed, AreOnOneGrid, IsAnswer, IsGridOf, IsRefused, asked_range}
-use Rattle.store_commands.specs.InputLines.{NextLine}
 use Rattle.derive_command.specs.Lines.{AreAnswers, DrawsToBad, DrawsToRefused, FirstLines}
 use Rattle.derive_command.specs.Requests.{Says}
 use Rattle.derive_command.specs.declared.derive_refusal.DeriveRefusal.{DeriveRefusal}
 use Rattle.derive_command.specs.declared.derive_refusal.DeriveRefusal.TheVariants as refusal
 use Rattle.derive_command.specs.declared.request.Request.{Request}
-use Rattle.derive_command.proofs.LineLemmas.{spells_some}
+use Rattle.derive_command.proofs.LineLemmas.{says_true}
 use Rattle.derive_command.proofs.PictureLemmas.{picture_same}
 use Rattle.derive_command.proofs.SpellLemmas.{one_request}
 
@@ -147,10 +147,6 @@ one_answer law book r one other first second =
 says_one : (line : Option (List ℕ)) (first second : Request) → Says line first → Says line second → first ≡ second
 says_one None first second one two = absurd one
 says_one (Some text) first second one two = one_request text first second one two
-
-says_true : (line : Option (List ℕ)) (r : Request) → Says line r → says line ≡ true
-says_true None r is = absurd is
-says_true (Some text) r is = says_text text (spells_some r text is)
 
 -- behind some first lines the others have answers too
 split : (book : List Series) (first others : List (Option (List ℕ))) (text : List ℕ) → AreAnswers book (first ++ others) text → (later : List ℕ) × AreAnswers book others later

@@ -1,10 +1,9 @@
 pub mod SpellLemmas
 pub mod LineLemmas
-pub mod EndLemmas
 pub mod AskLemmas
 pub mod DoingLemmas
-pub mod FaultLemmas
+pub mod WorkLemmas
+pub mod RunLemmas
 pub mod DiskLemmas
-pub mod StatusLemmas
 pub mod PictureLemmas
 pub mod GoodLemmas

@@ -1,18 +1,20 @@
--- How `derive` ends over the store of a disk, by its status.
-use Rattle.std.specs.Prelude.{◌≡◌, ℕ, ◌+◌, ◌*◌, ◌<◌, ◌≤◌, ◌⊎◌, ◌^◌, List, [], ◌∷◌, length, Contains, Option, IfSome}
+-- How `derive` ends over the store of a disk.
+use Rattle.std.specs.Prelude.{◌≡◌, ℕ, ◌+◌, ◌*◌, ◌<◌, ◌≤◌, ◌^◌, List, length, Option, IfSome, ⊤}
 use Rattle.block_disk.specs.Counts.{HasRisen}
 use Rattle.block_disk.specs.View.{View}
 use Rattle.disk_store.specs.Held.{HoldsBook}
 use Rattle.gate_pages.specs.Journal.{page_count}
 use Rattle.gate_pages.specs.Pages.{GoesOn}
+use Rattle.run_ends.specs.declared.ending.End.{End}
+use Rattle.run_ends.specs.declared.ending.End.TheVariants.{Done, NoMemory, ReadFault, SendFault, DiskFault, DamagedBlock, DamagedPage}
+use Rattle.run_ends.specs.declared.ending.End.TheVariants.{BadInput, InputTooLong, TooSmall, RefusedLine}
 use Rattle.series_book.specs.declared.one_series.Series.{Series}
 use Rattle.stored_book.specs.Damage.{IsBadForRequest}
-use Rattle.store_commands.specs.Books.{LeavesSame, Never, OfBook}
+use Rattle.store_commands.specs.Books.{LeavesSame, OfBook}
 use Rattle.store_commands.specs.Damaged.{IsDamagedAtFirst, IsDamagedLater}
 use Rattle.store_commands.specs.Traffic.{Traffic}
-use Rattle.run_ends.specs.declared.status.Status.{Status}
 use Rattle.derive_command.specs.Answers.{number_of}
-use Rattle.derive_command.specs.Lines.{DrawsAll, DrawsFirst, DrawsPart, DrawsTaken, DrawsToBad, DrawsToRefused, DrawsWithin}
+use Rattle.derive_command.specs.Lines.{DrawsAll, DrawsFirst, DrawsPart, DrawsTaken, DrawsToBad, DrawsToRefused, DrawsWithin, EndsSo}
 use Rattle.derive_command.specs.declared.derive_refusal.DeriveRefusal.{DeriveRefusal}
 
 -- all lines of the input are requests, and their answers, by the book that the disk holds, were sent
@@ -50,35 +52,25 @@ pub record IsRefusedAt (book : List Series) (input : List ℕ) (before now : Opt
 abbrev pub DerivesToRefused : ℕ → View → List ℕ → ℕ → Option (List ℕ) → Option (List ℕ) → Type 0
 DerivesToRefused count disk input place before now = OfBook count disk (λ total book. IsRefusedAt book input before now place)
 
--- The block at this place was found damaged at the opening, and then no input was taken and nothing was sent; or it is a
--- page that a chart found so.
-abbrev pub FindsDamaged : View → View → Option (List ℕ) → Option (List ℕ) → Option (List ℕ) → Option (List ℕ) → ℕ → Type 0
-FindsDamaged old new left left' before now place =
-    (IsDamagedAtFirst old place × ((left' ≡ left) × (now ≡ before))) ⊎ IsDamagedLater IsBadForRequest (page_count old.size) new place
+-- Why `derive` ended, whatever the disk holds. Where its store wasn't opened no input was taken and nothing was sent.
+abbrev pub IsDeriveCause : End → View → View → Traffic → Type 0
+IsDeriveCause Done old new t = IfSome t.left (λ input. length input ≤ 2 ^ 32)
+IsDeriveCause NoMemory old new t = ⊤
+IsDeriveCause ReadFault old new t = HasRisen t.reads t.reads_now
+IsDeriveCause SendFault old new t = HasRisen t.sends t.sends_now
+IsDeriveCause DiskFault old new t = HasRisen old.faults new.faults
+IsDeriveCause (DamagedBlock block) old new t = IsDamagedAtFirst old block × ((t.left_now ≡ t.left) × (t.sent_now ≡ t.sent))
+IsDeriveCause (DamagedPage page) old new t = IsDamagedLater IsBadForRequest (page_count old.size) new (66 + page)
+IsDeriveCause (BadInput at) old new t = ⊤
+IsDeriveCause InputTooLong old new t = ⊤
+IsDeriveCause (TooSmall blocks) old new t = (blocks ≡ old.size) × (old.size < 128)
+IsDeriveCause (RefusedLine at refusal) old new t = ⊤
+IsDeriveCause end old new t = ⊥
 
--- What `derive` sent, and why it ended, by the status. The book stays, and at each moment a crash leaves it.
-pub record DeriveEnds (old new : View) (left left' before now : Option (List ℕ)) (reads reads_now sends sends_now code place : ℕ) : Type 0 where
-  pub codes : Contains (0 ∷ 3 ∷ 4 ∷ 5 ∷ 6 ∷ 7 ∷ 8 ∷ 9 ∷ 12 ∷ 16 ∷ []) code
-  pub done : code ≡ 0 → IfSome left (λ input. DerivesAll (page_count old.size) old input before now)
-  pub within : code ≡ 0 → IfSome left (λ input. length input ≤ 2 ^ 32)
-  pub memory : code ≡ 3 → IfSome left (λ input. DerivesFirst (page_count old.size) old input before now)
-  pub read : code ≡ 4 → HasRisen reads reads_now
-  pub stopped : code ≡ 4 → IfSome left (λ input. DerivesTaken (page_count old.size) old input left' before now)
-  pub send : code ≡ 5 → HasRisen sends sends_now
-  pub part : code ≡ 5 → IfSome left (λ input. DerivesPart (page_count old.size) old input before now)
-  pub fault : code ≡ 6 → HasRisen old.faults new.faults
-  pub faulted : code ≡ 6 → IfSome left (λ input. DerivesFirst (page_count old.size) old input before now)
-  pub damaged : code ≡ 7 → FindsDamaged old new left left' before now place
-  pub undamaged : code ≡ 7 → IfSome left (λ input. Never (page_count old.size) old)
-  pub bad : code ≡ 8 → IfSome left (λ input. DerivesToBad (page_count old.size) old input place before now)
-  pub much : code ≡ 9 → IfSome left (λ input. (place ≡ 2 ^ 32) × DerivesWithin (page_count old.size) old input before now)
-  pub small : code ≡ 12 → (place ≡ old.size) × (old.size < 128)
-  pub refused : code ≡ 16 → IfSome left (λ input. DerivesToRefused (page_count old.size) old input place before now)
-  pub zero_place : Contains (0 ∷ 3 ∷ 4 ∷ 5 ∷ 6 ∷ []) code → place ≡ 0
+-- Why `derive` ended, and what it sent by the book that the disk holds, which stays: at each moment a crash leaves it.
+pub record DeriveEnds (old new : View) (t : Traffic) (end : End) : Type 0 where
+  pub cause : IsDeriveCause end old new t
+  pub sent : IfSome t.left (λ input. OfBook (page_count old.size) old (λ total book. EndsSo book input t.left_now t.sent t.sent_now end))
   pub crash : LeavesSame (page_count old.size) old new
   pub holds : OfBook (page_count old.size) old (λ total book. HoldsBook (page_count old.size) total book new)
   pub goes_on : GoesOn old new
-
--- the same by the status of the command, and by what passed through the streams
-abbrev pub EndsDerive : View → View → Traffic → Status → Type 0
-EndsDerive old new t end = DeriveEnds old new t.left t.left_now t.sent t.sent_now t.reads t.reads_now t.sends t.sends_now end.code end.place

@@ -1,27 +1,25 @@
 -- What is asked, what is done of one line, and what calls move. Private contracts are stated by these words.
-use Rattle.std.specs.Prelude.{◌≡◌, ℕ, ◌<◌, ◌≤◌, ◌⊎◌, List, [], length, Option, None, Some, Result, Ok, Err, IfErr, OnOk, ⊤}
+use Rattle.std.specs.Prelude.{◌≡◌, ℕ, ◌<◌, ◌≤◌, ◌⊎◌, List, [], Option, None, Some, Result, Ok, Err, IfErr, IsTrue, OnOk, ⊤}
 use Rattle.block_disk.specs.Counts.{HasRisen}
 use Rattle.block_disk.specs.Streams.{sent_after, PartSent}
 use Rattle.block_disk.specs.View.{Now, Passes, sent_now}
 use Rattle.chart_grid.specs.Limits.{IsWindow, IsSide, IsBadWindow, IsBadSide}
 use Rattle.chart_grid.specs.declared.grid.Grid.{Grid}
 use Rattle.chart_service.specs.Viewing.{IsBadRange}
-use Rattle.chart_world.specs.Faults.{Fault, OfDisk, OfSend, OfTake}
-use Rattle.chart_world.specs.declared.line_answer.LineFault.{LineFault}
-use Rattle.chart_world.specs.declared.line_answer.LineFault.TheVariants as fault
+use Rattle.chart_world.specs.Fronts.{says}
 use Rattle.gate_pages.specs.Pages.{GoesOn}
 use Rattle.plain_chart.specs.declared.value_range.ValueRange.{ValueRange}
+use Rattle.run_ends.specs.declared.ending.End.{End}
+use Rattle.run_ends.specs.declared.ending.End.TheVariants.{NoMemory, ReadFault, SendFault, DiskFault, DamagedPage, BadInput, InputTooLong, RefusedLine}
 use Rattle.series_book.specs.declared.one_series.Series.{Series}
 use Rattle.series_pair.specs.Derived.{AreShifted}
 use Rattle.series_pair.specs.declared.sum_error.SumError.{SumError}
 use Rattle.series_pair.specs.declared.sum_error.SumError.TheVariants as sum
 use Rattle.store_commands.specs.Sides.{Side}
 use Rattle.stored_book.specs.Damage.{IsBadForRequest}
-use Rattle.derive_command.specs.Answers.{AnswersLine, AreNamed, IsAnswer, IsGridOf, IsRefused, RefusesLine, asked_range}
+use Rattle.derive_command.specs.Answers.{AnswersLine, AreNamed, IsAnswer, IsGridOf, IsRefused, RefusesLine, asked_range, number_of}
 use Rattle.derive_command.specs.Requests.{SaysNone}
 use Rattle.derive_command.specs.declared.asked.Asked.{Asked}
-use Rattle.derive_command.specs.declared.derive_end.DeriveEnd.{DeriveEnd}
-use Rattle.derive_command.specs.declared.derive_end.DeriveEnd.TheVariants.{BadLine, Refused, ReadFault, SendFault, InputTooLong, DiskFault, Damaged, NoMemory}
 use Rattle.derive_command.specs.declared.derive_refusal.DeriveRefusal.{DeriveRefusal}
 use Rattle.derive_command.specs.declared.derive_refusal.DeriveRefusal.TheVariants as refusal
 use Rattle.derive_command.specs.declared.request.Request.{Request}
@@ -54,28 +52,22 @@ pub record IsAsked (book : List Series) (r : Request) (asked : Asked) : Type 0 w
 
 -- ---- what is done of one line
 
--- what an error of a chart is for the line at this offset
-abbrev pub end_at : ℕ → SumError → DeriveEnd
-end_at at (sum.TooLarge time) = Refused at refusal.TooLarge
+-- the end where the line at this offset is refused
+abbrev pub refused_at : ℕ → DeriveRefusal → End
+refused_at at why = RefusedLine at (number_of why)
+
+-- and where its chart gave this error
+abbrev pub end_at : ℕ → SumError → End
+end_at at (sum.TooLarge time) = refused_at at refusal.TooLarge
 end_at at sum.DiskFault = DiskFault
-end_at at (sum.Damaged page) = Damaged page
+end_at at (sum.Damaged page) = DamagedPage page
 end_at at sum.NoMemory = NoMemory
 
--- and what a fault of the lines is
-abbrev pub end_of : LineFault → DeriveEnd
-end_of fault.ReadFault = ReadFault
-end_of fault.InputTooLong = InputTooLong
-
 -- a text wasn't sent, or not all of it
-abbrev pub TextStops : List ℕ → Option (List ℕ) → Option (List ℕ) → DeriveEnd → Type 0
-TextStops text before now (BadLine at) = ⊥
-TextStops text before now (Refused at refusal) = ⊥
-TextStops text before now ReadFault = ⊥
-TextStops text before now SendFault = PartSent text before now
-TextStops text before now InputTooLong = ⊥
-TextStops text before now DiskFault = ⊥
-TextStops text before now (Damaged page) = ⊥
+abbrev pub TextStops : List ℕ → Option (List ℕ) → Option (List ℕ) → End → Type 0
 TextStops text before now NoMemory = now ≡ before
+TextStops text before now SendFault = PartSent text before now
+TextStops text before now end = ⊥
 
 -- the answer to a request was sent
 pub record SendsAnswer (book : List Series) (r : Request) (before now : Option (List ℕ)) : Type 0 where
@@ -89,52 +81,62 @@ pub record SendsPartOfAnswer (book : List Series) (r : Request) (before now : Op
   pub answer : IsAnswer book r text
   pub part : PartSent text before now
 
--- the request is refused, and nothing was sent
-pub record RefusesAt (book : List Series) (r : Request) (at place : ℕ) (refusal : DeriveRefusal) (before now : Option (List ℕ)) : Type 0 where
+-- the request is refused for the reason of this number, and nothing was sent
+pub record RefusesAt (book : List Series) (r : Request) (at place number : ℕ) (before now : Option (List ℕ)) : Type 0 where
   pub place_is : place ≡ at
-  pub refused : IsRefused book r refusal
+  pub why : DeriveRefusal
+  pub number_is : number ≡ number_of why
+  pub refused : IsRefused book r why
   pub unsent : now ≡ before
 
 -- why a request wasn't answered
-abbrev pub RequestStops : List Series → Request → ℕ → Option (List ℕ) → Option (List ℕ) → DeriveEnd → Type 0
-RequestStops book r at before now (BadLine place) = ⊥
-RequestStops book r at before now (Refused place refusal) = RefusesAt book r at place refusal before now
-RequestStops book r at before now ReadFault = ⊥
-RequestStops book r at before now SendFault = SendsPartOfAnswer book r before now
-RequestStops book r at before now InputTooLong = ⊥
-RequestStops book r at before now DiskFault = now ≡ before
-RequestStops book r at before now (Damaged page) = ⊥
+abbrev pub RequestStops : List Series → Request → ℕ → Option (List ℕ) → Option (List ℕ) → End → Type 0
 RequestStops book r at before now NoMemory = now ≡ before
+RequestStops book r at before now SendFault = SendsPartOfAnswer book r before now
+RequestStops book r at before now DiskFault = now ≡ before
+RequestStops book r at before now (RefusedLine place number) = RefusesAt book r at place number before now
+RequestStops book r at before now end = ⊥
 
 -- what a call does that answers a request
-pub record DoesRequest {T : Type 0} (book : List Series) (r : Request) (at : ℕ) (result : Result T DeriveEnd) (before now : Option (List ℕ)) : Type 0 where
+pub record DoesRequest {T : Type 0} (book : List Series) (r : Request) (at : ℕ) (result : Result T End) (before now : Option (List ℕ)) : Type 0 where
   pub done : OnOk result (SendsAnswer book r before now)
   pub stops : IfErr result (RequestStops book r at before now)
 
--- the line is empty, or its answer was sent
-abbrev pub LineDone : List Series → List ℕ → Option (List ℕ) → Option (List ℕ) → Type 0
-LineDone book line before now =
-    ((line ≡ []) × (now ≡ before)) ⊎ ((text : List ℕ) × AnswersLine book (Some line) text × (now ≡ sent_after text before))
+-- the text is what is sent for a line: none for an empty one, and else its answer
+abbrev pub IsSaid : List Series → Option (List ℕ) → List ℕ → Type 0
+IsSaid book line text = ((line ≡ Some []) × (text ≡ [])) ⊎ AnswersLine book line text
+
+pub record LineDone (book : List Series) (line : Option (List ℕ)) (before now : Option (List ℕ)) : Type 0 where
+  pub text : List ℕ
+  pub said : IsSaid book line text
+  pub sent : now ≡ sent_after text before
 
 -- it isn't empty and says no request
-pub record LineBad (line : List ℕ) (at place : ℕ) (before now : Option (List ℕ)) : Type 0 where
+pub record LineBad (line : Option (List ℕ)) (at place : ℕ) (before now : Option (List ℕ)) : Type 0 where
   pub place_is : place ≡ at
-  pub some : 0 < length line
-  pub none : SaysNone (Some line)
+  pub some : IsTrue (says line)
+  pub none : SaysNone line
   pub unsent : now ≡ before
 
-abbrev pub LineStops : List Series → List ℕ → ℕ → Option (List ℕ) → Option (List ℕ) → DeriveEnd → Type 0
-LineStops book line at before now (BadLine place) = LineBad line at place before now
-LineStops book line at before now (Refused place refusal) = (place ≡ at) × RefusesLine book (Some line) refusal × (now ≡ before)
-LineStops book line at before now ReadFault = ⊥
-LineStops book line at before now SendFault = (text : List ℕ) × AnswersLine book (Some line) text × PartSent text before now
-LineStops book line at before now InputTooLong = ⊥
-LineStops book line at before now DiskFault = now ≡ before
-LineStops book line at before now (Damaged page) = ⊥
+-- it says a request that is refused for the reason of this number
+pub record LineRefused (book : List Series) (line : Option (List ℕ)) (at place number : ℕ) (before now : Option (List ℕ)) : Type 0 where
+  pub place_is : place ≡ at
+  pub why : DeriveRefusal
+  pub number_is : number ≡ number_of why
+  pub refuses : RefusesLine book line why
+  pub unsent : now ≡ before
+
+-- why a line wasn't answered
+abbrev pub LineStops : List Series → Option (List ℕ) → ℕ → Option (List ℕ) → Option (List ℕ) → End → Type 0
 LineStops book line at before now NoMemory = now ≡ before
+LineStops book line at before now SendFault = (text : List ℕ) × AnswersLine book line text × PartSent text before now
+LineStops book line at before now DiskFault = now ≡ before
+LineStops book line at before now (BadInput place) = LineBad line at place before now
+LineStops book line at before now (RefusedLine place number) = LineRefused book line at place number before now
+LineStops book line at before now end = ⊥
 
 -- what a call does that answers a line
-pub record DoesLine {T : Type 0} (book : List Series) (line : List ℕ) (at : ℕ) (result : Result T DeriveEnd) (before now : Option (List ℕ)) : Type 0 where
+pub record DoesLine {T : Type 0} (book : List Series) (line : Option (List ℕ)) (at : ℕ) (result : Result T End) (before now : Option (List ℕ)) : Type 0 where
   pub done : OnOk result (LineDone book line before now)
   pub stops : IfErr result (LineStops book line at before now)
 
@@ -155,24 +157,14 @@ pub record Goes (old new : Side) : Type 0 where
   pub reads : old.read_faults ≤ new.read_faults
   pub sends : old.send_faults ≤ new.send_faults
 
--- why lines weren't answered. A page that is called damaged is one of the store's, and is so where reads give what the pages are.
-abbrev pub IsCause : DeriveEnd → Side → Side → Type 0
-IsCause (BadLine at) old new = ⊤
-IsCause (Refused at refusal) old new = ⊤
+-- Why lines weren't answered. A page that is called damaged is one of the store's, and is so where reads give what the pages are.
+abbrev pub IsCause : End → Side → Side → Type 0
+IsCause NoMemory old new = ⊤
 IsCause ReadFault old new = HasRisen old.read_faults new.read_faults
 IsCause SendFault old new = HasRisen old.send_faults new.send_faults
-IsCause InputTooLong old new = ⊤
 IsCause DiskFault old new = HasRisen old.view.faults new.view.faults
-IsCause (Damaged page) old new = (page < old.total) × (new.told → IsBadForRequest new.view.size new.view.image page)
-IsCause NoMemory old new = ⊤
-
--- the failed call of which the end tells
-abbrev pub derive_fault : DeriveEnd → Option Fault
-derive_fault (BadLine at) = None
-derive_fault (Refused at refusal) = None
-derive_fault ReadFault = Some OfTake
-derive_fault SendFault = Some OfSend
-derive_fault InputTooLong = None
-derive_fault DiskFault = Some OfDisk
-derive_fault (Damaged page) = None
-derive_fault NoMemory = None
+IsCause (DamagedPage page) old new = (page < old.total) × (new.told → IsBadForRequest new.view.size new.view.image page)
+IsCause (BadInput at) old new = ⊤
+IsCause InputTooLong old new = ⊤
+IsCause (RefusedLine at refusal) old new = ⊤
+IsCause end old new = ⊥

@@ -4,12 +4,13 @@ use Rattle.block_disk.specs.Streams.{sent_after, PartSent}
 use Rattle.chart_service.specs.Serving.{told}
 use Rattle.chart_world.specs.Fronts.{says, BeginsWith, IsWhole}
 use Rattle.chart_world.specs.Lines.{lines, NoLineFeed}
+use Rattle.line_runs.specs.Given.{NextLine}
+use Rattle.line_runs.specs.Runs.{Unended}
+use Rattle.run_ends.specs.declared.ending.End.{End}
+use Rattle.run_ends.specs.declared.ending.End.TheVariants.{Done, NoMemory, ReadFault, SendFault, DiskFault, BadInput, InputTooLong, RefusedLine}
 use Rattle.series_book.specs.declared.one_series.Series.{Series}
-use Rattle.store_commands.specs.InputLines.{NextLine, Unended}
-use Rattle.derive_command.specs.Answers.{AnswersLine, RefusesLine}
+use Rattle.derive_command.specs.Answers.{AnswersLine, RefusesLine, number_of}
 use Rattle.derive_command.specs.Requests.{SaysNone}
-use Rattle.derive_command.specs.declared.derive_end.DeriveEnd.{DeriveEnd}
-use Rattle.derive_command.specs.declared.derive_end.DeriveEnd.TheVariants.{BadLine, Refused, ReadFault, SendFault, InputTooLong, DiskFault, Damaged, NoMemory}
 use Rattle.derive_command.specs.declared.derive_refusal.DeriveRefusal.{DeriveRefusal}
 
 -- The text is the answers to these lines, one after the other: each of them says a request, which isn't refused.
@@ -67,6 +68,12 @@ module _ (book : List Series) (input : List ℕ) (before now : Option (List ℕ)
     pub refuses : RefusesLine book line refusal
     pub at_is : at ≡ length drawn.first.front
 
+  -- for the reason of this number
+  pub record DrawsToNumber (at number : ℕ) : Type 0 where
+    pub why : DeriveRefusal
+    pub number_is : number ≡ number_of why
+    pub draws : DrawsToRefused at why
+
   -- the answers to some first lines were sent, and a part of the answer to the one behind them
   pub record DrawsPart : Type 0 where
     pub first : FirstLines book input
@@ -78,13 +85,14 @@ module _ (book : List Series) (input : List ℕ) (before now : Option (List ℕ)
     pub sent : between ≡ sent_after first.text before
     pub part : PartSent text between now
 
--- why not all lines were answered, and what was sent
-abbrev pub EndsSo : List Series → List ℕ → Option (List ℕ) → Option (List ℕ) → Option (List ℕ) → DeriveEnd → Type 0
-EndsSo book input left before now (BadLine at) = DrawsToBad book input before now at
-EndsSo book input left before now (Refused at refusal) = DrawsToRefused book input before now at refusal
+-- what was sent, by how a run ended that this book answers
+abbrev pub EndsSo : List Series → List ℕ → Option (List ℕ) → Option (List ℕ) → Option (List ℕ) → End → Type 0
+EndsSo book input left before now Done = DrawsAll book input before now
+EndsSo book input left before now NoMemory = DrawsFirst book input before now
 EndsSo book input left before now ReadFault = DrawsTaken book input before now left
 EndsSo book input left before now SendFault = DrawsPart book input before now
-EndsSo book input left before now InputTooLong = DrawsWithin book input before now
 EndsSo book input left before now DiskFault = DrawsFirst book input before now
-EndsSo book input left before now (Damaged page) = ⊥
-EndsSo book input left before now NoMemory = DrawsFirst book input before now
+EndsSo book input left before now (BadInput at) = DrawsToBad book input before now at
+EndsSo book input left before now InputTooLong = DrawsWithin book input before now
+EndsSo book input left before now (RefusedLine at number) = DrawsToNumber book input before now at number
+EndsSo book input left before now end = ⊥

@@ -12,17 +12,16 @@ mod answering;
 mod asked;
 mod asking;
 mod command;
-mod derive_end;
 mod derive_refusal;
 mod drawing;
 pub mod laws;
 mod request;
 mod request_error;
+mod request_work;
 mod requests;
 mod tokens;
 
 pub use command::derive;
-pub use derive_end::DeriveEnd;
 pub use derive_refusal::DeriveRefusal;
 pub use drawing::draw_lines;
 pub use request::Request;

@@ -3,10 +3,12 @@ use Rattle.program_words.specs.declared.words.Command.{Command}
 use Rattle.run_ends.specs.Statuses.{code_of, place_of}
 use Rattle.run_ends.specs.declared.status.Status.{Status}
 use Rattle.store_commands.specs.Faulting.{counts_end}
+use Rattle.store_commands.specs.Traffic.{traffic}
 use Rattle.chart_program.specs.Served.{faults_of}
 use Rattle.chart_program.specs.Commands.{Does}
 use Rattle.chart_program.specs.Course.{course}
 use Rattle.chart_program.specs.Ran.{CommandEnds}
+use Rattle.chart_program.proofs.DerivePage.{of_derive}
 use Rattle.chart_program.proofs.StorePages.{of_check, of_demo, of_export, of_init, of_list}
 use Rattle.chart_program.proofs.CommandsEnd.{load_ends, run_ends, serve_ends}
 use Rattle.chart_program.proofs.InitEnds.{init_ends}
@@ -244,11 +246,18 @@ returns-in-Derive-clause-ends g c =
     let reads = g.W.Streams.read_faults in
     let sends = g.W.Streams.send_faults in
     let old = c.args.world in
-    let new = c.derive.result.1 in
-    let status = c.derive.result.0 in
+    let new = c.derive-end.result.1 in
+    let end = c.derive-end.result.0 in
+    let e = c.derive-end.ensures in
     let faults = faults_of (reads old) (reads new) (sends old) (sends new) in
-    let P : Command → Type 0 = λ command. CommandEnds command (view old) (view new) (left old) (left new) (sent old) (sent new) faults status.code status.place in
-    subst P (sym c.in-Derive.is) (derive_ends (view old) (view new) (left old) (left new) (sent old) (sent new) faults status.code status.place c.derive.ensures.ends c.derive.ensures.away)
+    let P : Command → Type 0 = λ command. CommandEnds command (view old) (view new) (left old) (left new) (sent old) (sent new) faults (code_of end) (place_of end) in
+    let S : Status → Type 0 = λ s. CommandEnds c.args.command (view old) (view new) (left old) (left new) (sent old) (sent new) faults s.code s.place in
+    subst S (sym c.status_of-in-Derive.ensures.status)
+    (subst P (sym c.in-Derive.is) (derive_ends (view old) (view new) (left old) (left new) (sent old) (sent new) faults end e.ends e.away))
+
+pub returns-in-Derive-clause-faults : goal.returns-in-Derive-clause-faults
+returns-in-Derive-clause-faults g c =
+    counts_end c.derive-end.result.0 c.status_of-in-Derive.result (g.W.Disk.view c.args.world) (g.W.Disk.view c.derive-end.result.1) c.status_of-in-Derive.ensures.status c.derive-end.ensures.faults
 
 -- ---- the pages
 
@@ -342,6 +351,12 @@ returns-in-Live-clause-does g c =
 
 pub returns-in-Derive-clause-does : goal.returns-in-Derive-clause-does
 returns-in-Derive-clause-does g c =
-    let at = course g.W.Disk.view g.W.Streams.left g.W.Streams.sent c.args.world c.derive.result.1 in
-    let P : Command → Type 0 = λ command. Does command at c.derive.result.0 in
-    subst P (sym c.in-Derive.is) tt
+    let view = g.W.Disk.view in
+    let s = g.W.Streams in
+    let old = c.args.world in
+    let new = c.derive-end.result.1 in
+    let P : Command → Type 0 = λ command. Does command (course view s.left s.sent old new) c.status_of-in-Derive.result in
+    let end = c.derive-end.result.0 in
+    let e = c.derive-end.ensures in
+    let did = of_derive (view old) (view new) (traffic s.left s.sent s.read_faults s.send_faults old new) end e.ends e.away in
+    subst P (sym c.in-Derive.is) (end, c.status_of-in-Derive.ensures.status, did)

@@ -11,7 +11,7 @@ use Rattle.chart_program.proofs.Parsing.{told_good, replies_good, covers_book}
 use Rattle.chart_program.proofs.Codes.{told_both}
 use Rattle.chart_program.proofs.Words.{of_command, with_operands, chart_codes, streams, one_init, one_draw, completes, covers_complete, good_never, wrong_never, wrong_end}
 use Rattle.chart_program.proofs.OneCommand.{by_words}
-use Rattle.program_words.specs.declared.words.Command.TheVariants.{Check, Cover, Demo, Draw, Export, Init, ListSeries, Plot}
+use Rattle.program_words.specs.declared.words.Command.TheVariants.{Check, Cover, Demo, Derive, Draw, Export, Init, ListSeries, Plot}
 use Rattle.chart_program.proofs.top.chart.Goals as goal
 
 pub returns-in-Err-NoMemory-clause-codes : goal.returns-in-Err-NoMemory-clause-codes
@@ -598,3 +598,12 @@ returns-in-Err-Wrong-clause-cover g c = λ every own. absurd (wrong_never c.in-E
 
 pub returns-in-Err-NoMemory-clause-cover : goal.returns-in-Err-NoMemory-clause-cover
 returns-in-Err-NoMemory-clause-cover g c = λ every own. inl (c.status_of-in-Err-NoMemory.ensures.code, refl)
+
+pub returns-in-Ok-clause-derive : goal.returns-in-Ok-clause-derive
+returns-in-Ok-clause-derive g c = λ own. inr (by_words c.in-Ok.command Derive _ _ _ c.in-Ok.ensures.command own.1 c.status_of_command.ensures.does)
+
+pub returns-in-Err-Wrong-clause-derive : goal.returns-in-Err-Wrong-clause-derive
+returns-in-Err-Wrong-clause-derive g c = λ own. absurd (wrong_never c.in-Err-Wrong.place _ Derive own.0 own.1 (wrong_end c.in-Err-Wrong.field-0 c.in-Err-Wrong.place _ c.in-Err-Wrong.field-0-is c.in-Err-Wrong.ensures.wrong))
+
+pub returns-in-Err-NoMemory-clause-derive : goal.returns-in-Err-NoMemory-clause-derive
+returns-in-Err-NoMemory-clause-derive g c = λ own. inl (c.status_of-in-Err-NoMemory.ensures.code, refl)

@@ -3,44 +3,45 @@ use Rattle.block_disk.specs.View.{Beside}
 use Rattle.chart_world.specs.FaultLaws.{counts_then}
 use Rattle.chart_world.specs.Faults.{CountsFault, fault_in}
 use Rattle.line_raster.specs.Canvas.{Canvas}
+use Rattle.run_ends.specs.declared.ending.End.{End}
 use Rattle.page_space.specs.declared.superblock.Superblock.{Superblock}
 use Rattle.pbm_writer.specs.Picture.{picture}
 use Rattle.series_pair.specs.Derived.{IsChartAnswer, sum_fault}
 use Rattle.series_pair.specs.declared.sum_error.SumError.{SumError}
 use Rattle.series_store.specs.Shown as shown
-use Rattle.derive_command.proofs.DoingLemmas.{causes_later, chart_cause, goes_further, goes_looks, goes_sends, request_drawn, request_refused, request_undrawn, sent_cause}
-use Rattle.derive_command.proofs.FaultLemmas.{end_fault}
+use Rattle.derive_command.specs.WorkLaws.{goes_further}
+use Rattle.derive_command.proofs.DoingLemmas.{causes_later, chart_cause, chart_fault, goes_looks, goes_sends, request_drawn, request_refused, request_undrawn, sent_cause}
 use Rattle.store_commands.specs.Faulting.{counts_told}
 use Rattle.store_commands.specs.Sides.{AreBeside, side_of}
-use Rattle.derive_command.specs.Doing.{derive_fault, end_at}
-use Rattle.derive_command.specs.declared.derive_end.DeriveEnd.{DeriveEnd}
+use Rattle.store_commands.specs.Status.{end_fault}
+use Rattle.derive_command.specs.Doing.{end_at}
 use Rattle.derive_command.proofs.answering.answer_request.Goals as goal
 
 pub returns-in-Err-clause-does : goal.returns-in-Err-clause-does
 returns-in-Err-clause-does g c = λ total book told stands.
-    request_refused book c.args.request.now c.args.at c.in-Err.refusal (g.P.Streams.sent (shown.pages c.args.store)) (c.in-Err.ensures.asked total book c.requires.sound told stands)
+    request_refused book c.args.request.now c.args.at c.in-Err.refusal c.refused_at.result (g.P.Streams.sent (shown.pages c.args.store.now)) c.refused_at.ensures (c.in-Err.ensures.asked total book c.requires.sound told stands)
 
 pub returns-in-Ok-chart-clause-does : goal.returns-in-Ok-chart-clause-does
 returns-in-Ok-chart-clause-does g c = λ total book told stands.
     let sent = g.P.Streams.sent in
     let w = g.met.P.PageWorld in
-    let first = shown.pages c.args.store in
+    let first = shown.pages c.args.store.now in
     let mid = shown.pages c.chart_of_sum-chart.new.store in
-    let new = shown.pages c.send_picture-answer.new.store in
+    let new = shown.pages c.send_picture.new.store in
     let asked = c.in-Ok.asked in
     let is = c.in-Ok.ensures.asked total book c.requires.sound told stands in
-    let made = c.send_picture-answer.ensures in
+    let made = c.send_picture.ensures in
     let P : Result Canvas SumError → Type 0 = λ r. IsChartAnswer book asked.x asked.y asked.sum.a asked.sum.b asked.grid asked.range r in
     let chart = subst P c.in-Ok-chart.is (c.chart_of_sum-chart.ensures.answer total book told stands is.shifted) in
     request_drawn book c.args.request.now asked is c.args.at (sent first) (sent mid) (sent new)
     (sym (w.beside_sent mid) ∙ ap (λ (b : Beside). b.sent) c.chart_of_sum-chart.ensures.looks.beside ∙ w.beside_sent first)
-    c.in-Ok-chart.chart chart c.send_picture-answer.result made.whole made.stops
+    c.in-Ok-chart.chart chart c.send_picture.result made.whole made.stops
 
 pub returns-in-Err-chart-clause-does : goal.returns-in-Err-chart-clause-does
 returns-in-Err-chart-clause-does g c = λ total book told stands.
     let sent = g.P.Streams.sent in
     let w = g.met.P.PageWorld in
-    let first = shown.pages c.args.store in
+    let first = shown.pages c.args.store.now in
     let mid = shown.pages c.chart_of_sum-chart.new.store in
     let asked = c.in-Ok.asked in
     let is = c.in-Ok.ensures.asked total book c.requires.sound told stands in
@@ -54,11 +55,11 @@ pub returns-in-Ok-chart-clause-goes : goal.returns-in-Ok-chart-clause-goes
 returns-in-Ok-chart-clause-goes g c =
     let w = g.met.P.PageWorld in
     let side = side_of g.P.Streams in
-    let first = c.args.store in
+    let first = c.args.store.now in
     let mid = c.chart_of_sum-chart.new.store in
-    let new = c.send_picture-answer.new.store in
+    let new = c.send_picture.new.store in
     let looks = c.chart_of_sum-chart.ensures.looks in
-    let made = c.send_picture-answer.ensures in
+    let made = c.send_picture.ensures in
     let sends = made.beside.pages_are in
     let n = length (picture c.in-Ok-chart.chart) in
     let pm = shown.pages mid in
@@ -75,31 +76,31 @@ returns-in-Ok-chart-clause-cause g c =
     let w = g.met.P.PageWorld in
     let side = side_of g.P.Streams in
     let sent = g.P.Streams.sent in
-    let first = c.args.store in
+    let first = c.args.store.now in
     let mid = c.chart_of_sum-chart.new.store in
-    let new = c.send_picture-answer.new.store in
+    let new = c.send_picture.new.store in
     let looks = c.chart_of_sum-chart.ensures.looks in
-    let made = c.send_picture-answer.ensures in
+    let made = c.send_picture.ensures in
     let pm = shown.pages mid in
     let was : AreBeside (shown.view first) (side first).read_faults (side first).send_faults = record { reads_are = w.beside_read_faults (shown.pages first); sends_are = w.beside_send_faults (shown.pages first) } in
     let are : AreBeside (shown.view mid) (side mid).read_faults (side mid).send_faults = record { reads_are = w.beside_read_faults pm; sends_are = w.beside_send_faults pm } in
     let P : Result Canvas SumError → Type 0 = λ r. CountsFault (fault_in sum_fault r) (shown.view first) (shown.view mid) in
-    causes_later (side first) (side mid) (side new) was are (subst P c.in-Ok-chart.is c.chart_of_sum-chart.ensures.faults) c.send_picture-answer.result
+    causes_later (side first) (side mid) (side new) was are (subst P c.in-Ok-chart.is c.chart_of_sum-chart.ensures.faults) c.send_picture.result
     (goes_looks (side first) (side mid) (shown.numbers first) (shown.numbers mid) first.catalog mid.catalog was are (ap (λ (s : Superblock). s.total)) looks)
-    (sent_cause (side mid) (side new) (picture c.in-Ok-chart.chart) (sent pm) (sent (shown.pages new)) c.send_picture-answer.result made.stops made.cause)
+    (sent_cause (side mid) (side new) (picture c.in-Ok-chart.chart) (sent pm) (sent (shown.pages new)) c.send_picture.result made.stops made.cause)
 
 pub returns-in-Ok-chart-clause-left : goal.returns-in-Ok-chart-clause-left
 returns-in-Ok-chart-clause-left g c =
     let w = g.met.P.PageWorld in
-    let first = shown.pages c.args.store in
+    let first = shown.pages c.args.store.now in
     let mid = shown.pages c.chart_of_sum-chart.new.store in
-    c.send_picture-answer.ensures.left ∙ sym (w.beside_left mid) ∙ ap (λ (b : Beside). b.left) c.chart_of_sum-chart.ensures.looks.beside ∙ w.beside_left first
+    c.send_picture.ensures.left ∙ sym (w.beside_left mid) ∙ ap (λ (b : Beside). b.left) c.chart_of_sum-chart.ensures.looks.beside ∙ w.beside_left first
 
 pub returns-in-Err-chart-clause-goes : goal.returns-in-Err-chart-clause-goes
 returns-in-Err-chart-clause-goes g c =
     let w = g.met.P.PageWorld in
     let side = side_of g.P.Streams in
-    let first = c.args.store in
+    let first = c.args.store.now in
     let mid = c.chart_of_sum-chart.new.store in
     let pm = shown.pages mid in
     goes_looks (side first) (side mid) (shown.numbers first) (shown.numbers mid) first.catalog mid.catalog
@@ -110,7 +111,7 @@ returns-in-Err-chart-clause-goes g c =
 pub returns-in-Err-chart-clause-cause : goal.returns-in-Err-chart-clause-cause
 returns-in-Err-chart-clause-cause g c =
     let side = side_of g.P.Streams in
-    let first = c.args.store in
+    let first = c.args.store.now in
     let mid = c.chart_of_sum-chart.new.store in
     let P : Result Canvas SumError → Type 0 = λ r. Rattle.std.specs.Prelude.IfErr r (λ e. Rattle.series_pair.specs.Derived.IsChartCause e (shown.IsTold mid) (shown.total first) (shown.view first) (shown.view mid)) in
     chart_cause (side first) (side mid) c.args.at c.in-Err-chart.error c.end_at.result c.end_at.ensures (subst P c.in-Err-chart.is c.chart_of_sum-chart.ensures.cause)
@@ -118,23 +119,23 @@ returns-in-Err-chart-clause-cause g c =
 pub returns-in-Err-chart-clause-left : goal.returns-in-Err-chart-clause-left
 returns-in-Err-chart-clause-left g c =
     let w = g.met.P.PageWorld in
-    let first = shown.pages c.args.store in
+    let first = shown.pages c.args.store.now in
     let mid = shown.pages c.chart_of_sum-chart.new.store in
     sym (w.beside_left mid) ∙ ap (λ (b : Beside). b.left) c.chart_of_sum-chart.ensures.looks.beside ∙ w.beside_left first
 
 pub returns-in-Ok-chart-clause-faults : goal.returns-in-Ok-chart-clause-faults
 returns-in-Ok-chart-clause-faults g c =
-    let first = c.args.store in
+    let first = c.args.store.now in
     let mid = c.chart_of_sum-chart.new.store in
-    let new = c.send_picture-answer.new.store in
+    let new = c.send_picture.new.store in
     let P : Result Canvas SumError → Type 0 = λ r. CountsFault (fault_in sum_fault r) (shown.view first) (shown.view mid) in
-    counts_then (fault_in derive_fault c.send_picture-answer.result) (shown.view first) (shown.view mid) (shown.view new) (subst P c.in-Ok-chart.is c.chart_of_sum-chart.ensures.faults) c.send_picture-answer.ensures.faults
+    counts_then (fault_in end_fault c.send_picture.result) (shown.view first) (shown.view mid) (shown.view new) (subst P c.in-Ok-chart.is c.chart_of_sum-chart.ensures.faults) c.send_picture.ensures.faults
 
 pub returns-in-Err-chart-clause-faults : goal.returns-in-Err-chart-clause-faults
 returns-in-Err-chart-clause-faults g c =
-    let first = c.args.store in
+    let first = c.args.store.now in
     let mid = c.chart_of_sum-chart.new.store in
     let P : Result Canvas SumError → Type 0 = λ r. CountsFault (fault_in sum_fault r) (shown.view first) (shown.view mid) in
     let error = c.in-Err-chart.error in
-    let E : DeriveEnd → Type 0 = λ e. CountsFault (derive_fault e) (shown.view first) (shown.view mid) in
-    subst E (sym c.end_at.ensures) (counts_told (sum_fault error) (derive_fault (end_at c.args.at error)) (shown.view first) (shown.view mid) (end_fault c.args.at error) (subst P c.in-Err-chart.is c.chart_of_sum-chart.ensures.faults))
+    let E : End → Type 0 = λ e. CountsFault (end_fault e) (shown.view first) (shown.view mid) in
+    subst E (sym c.end_at.ensures) (counts_told (sum_fault error) (end_fault (end_at c.args.at error)) (shown.view first) (shown.view mid) (chart_fault c.args.at error) (subst P c.in-Err-chart.is c.chart_of_sum-chart.ensures.faults))

@@ -1,17 +1,19 @@
-use Rattle.std.proofs.Common.{◌∙◌, ap, sym}
+use Rattle.std.proofs.Common.{◌≡◌, ◌∙◌, ap, subst, sym, arith}
 use Rattle.block_disk.specs.View.{Beside}
 use Rattle.chart_world.specs.FaultLaws.{counts_no_disk, counts_then}
-use Rattle.chart_world.specs.Faults.{fault_in}
+use Rattle.chart_world.specs.Faults.{CountsFault}
+use Rattle.gate_pages.specs.GatePages.{IsClosed}
+use Rattle.run_ends.specs.Statuses.{status_of}
+use Rattle.run_ends.specs.declared.ending.End.{End}
 use Rattle.series_store.specs.Shown as shown
+use Rattle.store_commands.proofs.Held.{rests_new}
 use Rattle.store_commands.proofs.TurnedAway.{away_never}
 use Rattle.store_commands.proofs.WorldLemmas.{away_over, unopened_over}
-use Rattle.store_commands.specs.Faulting.{counts_as, counts_told, counts_unopened}
-use Rattle.store_commands.specs.Status.{code_fault, opening_status}
-use Rattle.derive_command.proofs.DiskLemmas.{drawn_on}
-use Rattle.derive_command.proofs.FaultLemmas.{answer_fault}
-use Rattle.derive_command.proofs.StatusLemmas.{ends_by, unopened_ends}
-use Rattle.derive_command.specs.Deriving.{answer_status}
-use Rattle.derive_command.specs.Doing.{derive_fault}
+use Rattle.store_commands.specs.Faulting.{counts_unopened_end}
+use Rattle.store_commands.specs.Status.{end_fault}
+use Rattle.store_commands.specs.Traffic.{Traffic, traffic}
+use Rattle.derive_command.specs.Derived.{DeriveEnds}
+use Rattle.derive_command.proofs.DiskLemmas.{derived_by, traffic_from, unopened_ends}
 use Rattle.derive_command.proofs.command.derive.Goals as goal
 
 pub returns-in-Ok-clause-ends : goal.returns-in-Ok-clause-ends
@@ -21,47 +23,65 @@ returns-in-Ok-clause-ends g c =
     let sent = g.W.Streams.sent in
     let reads = g.W.Streams.read_faults in
     let sends = g.W.Streams.send_faults in
-    let old = c.args.world in
-    let opened = shown.pages c.in-Ok.store in
-    let start = opened.disk in
-    let new = c.draw_store-answer.result.1 in
-    let beside = c.in-Ok.ensures.opens.beside_is in
     let w = g.met.W.World in
-    let s = drawn_on opened.count (view old) (view start) (view new) (left start) (left old) (left new) (sent start) (sent old) (sent new) (reads start) (reads old) (reads new) (sends start) (sends old) (sends new) c.draw_store-answer.result.0 c.in-Ok.ensures.count c.in-Ok.ensures.opens c.in-Ok.ensures.quiet
-    (sym (w.beside_left start) ∙ ap (λ (b : Beside). b.left) beside ∙ w.beside_left old)
-    (sym (w.beside_sent start) ∙ ap (λ (b : Beside). b.sent) beside ∙ w.beside_sent old)
-    (sym (w.beside_read_faults start) ∙ ap (λ (b : Beside). b.read_faults) beside ∙ w.beside_read_faults old)
-    (sym (w.beside_send_faults start) ∙ ap (λ (b : Beside). b.send_faults) beside ∙ w.beside_send_faults old)
-    c.draw_store-answer.ensures.drawn in
-    ends_by (view old) (view new) (left old) (left new) (sent old) (sent new) (reads old) (reads new) (sends old) (sends new) c.draw_store-answer.result.0 c.answer_status.result c.answer_status.ensures s
+    let first = c.args.world in
+    let before = c.in-Ok.store in
+    let after = c.draw_lines-end.new.store in
+    let pages = shown.pages before in
+    let end_pages = shown.pages after in
+    let old = pages.disk in
+    let new = end_pages.disk in
+    let opened = c.in-Ok.ensures in
+    let made = c.draw_lines-end.ensures in
+    let t = traffic left sent reads sends old new in
+    let P : g.row.W.Denot → Type 0 = λ d. IsClosed (view d) in
+    let closed : IsClosed (view new) = subst P c.disk_of.ensures.disk (c.disk_of.ensures.rests (made.goes.fit opened.sound)) in
+    let all = derived_by pages.count end_pages.count pages.sound end_pages.sound (view first) (view old) (view new) (shown.total before) (shown.total after) t made.goes
+    (rests_new pages.count (view old) (shown.numbers before) (pages.at_rest opened.sound) (before.space.spelled opened.sound)) closed (omega (arith, before.space.rules.total_high)) opened.count opened.opens opened.quiet
+    c.draw_lines-end.result made.within made.cause made.ends in
+    let beside = opened.opens.beside_is in
+    let same = traffic_from t (left first) (sent first) (reads first) (sends first)
+    (sym (w.beside_left old) ∙ ap (λ (b : Beside). b.left) beside ∙ w.beside_left first)
+    (sym (w.beside_sent old) ∙ ap (λ (b : Beside). b.sent) beside ∙ w.beside_sent first)
+    (sym (w.beside_read_faults old) ∙ ap (λ (b : Beside). b.read_faults) beside ∙ w.beside_read_faults first)
+    (sym (w.beside_send_faults old) ∙ ap (λ (b : Beside). b.send_faults) beside ∙ w.beside_send_faults first) in
+    let T : Traffic → Type 0 = λ x. DeriveEnds (view first) (view new) x c.draw_lines-end.result in
+    let D : g.row.W.Denot → Type 0 = λ d. DeriveEnds (view first) (view d) (traffic left sent reads sends first d) c.draw_lines-end.result in
+    subst D (sym c.disk_of.ensures.disk) (subst T same all)
 
 pub returns-in-Err-clause-ends : goal.returns-in-Err-clause-ends
 returns-in-Err-clause-ends g c =
-    unopened_ends _ _ _ _ _ _ (g.W.Streams.read_faults c.args.world) (g.W.Streams.read_faults c.in-Err.field-0.value) (g.W.Streams.send_faults c.args.world) (g.W.Streams.send_faults c.in-Err.field-0.value) c.in-Err.field-0.cause (unopened_over g.W.Disk.view g.W.Streams.left g.W.Streams.sent g.met.W.World.beside_left g.met.W.World.beside_sent c.args.world c.in-Err.field-0.value c.in-Err.field-0.cause c.in-Err.ensures.opens.beside_is c.in-Err.ensures.opens c.in-Err.ensures.cause c.in-Err.ensures.a_store) c.opening_status.result c.opening_status.ensures
+    let view = g.W.Disk.view in
+    let left = g.W.Streams.left in
+    let sent = g.W.Streams.sent in
+    let old = c.args.world in
+    let back = c.in-Err.field-0 in
+    let e = c.in-Err.ensures in
+    unopened_ends (view old) (view back.value) (traffic left sent g.W.Streams.read_faults g.W.Streams.send_faults old back.value) back.cause c.opening_end.result c.opening_end.ensures
+    (unopened_over view left sent g.met.W.World.beside_left g.met.W.World.beside_sent old back.value back.cause e.opens.beside_is e.opens e.cause e.a_store)
 
 pub returns-in-Ok-clause-away : goal.returns-in-Ok-clause-away
 returns-in-Ok-clause-away g c = away_never _ _ c.in-Ok.ensures.large
 
 pub returns-in-Err-clause-away : goal.returns-in-Err-clause-away
 returns-in-Err-clause-away g c =
-    away_over g.W.Disk.view g.W.Streams.left g.W.Streams.sent g.met.W.World.beside_left g.met.W.World.beside_sent c.args.world c.in-Err.field-0.value c.in-Err.field-0.cause c.in-Err.ensures.opens.beside_is c.opening_status.result c.opening_status.ensures c.in-Err.ensures.cause
+    away_over g.W.Disk.view g.W.Streams.left g.W.Streams.sent g.met.W.World.beside_left g.met.W.World.beside_sent c.args.world c.in-Err.field-0.value c.in-Err.field-0.cause c.in-Err.ensures.opens.beside_is (status_of c.opening_end.result)
+    (ap (λ (e : End). status_of e) c.opening_end.ensures) c.in-Err.ensures.cause
 
 pub returns-in-Ok-clause-faults : goal.returns-in-Ok-clause-faults
 returns-in-Ok-clause-faults g c =
     let view = g.W.Disk.view in
-    let old = view c.args.world in
-    let start = view (shown.pages c.in-Ok.store).disk in
-    let new = view c.draw_store-answer.result.1 in
-    let answer = c.draw_store-answer.result.0 in
-    let told = fault_in derive_fault answer in
-    let opened = counts_no_disk old start c.in-Ok.ensures.opens.beside_is c.in-Ok.ensures.quiet in
-    counts_as c.answer_status.result (answer_status answer) old new c.answer_status.ensures
-    (counts_told told (code_fault (answer_status answer).code) old new (answer_fault answer) (counts_then told old start new opened c.draw_store-answer.ensures.faults))
+    let first = view c.args.world in
+    let old = view (shown.pages c.in-Ok.store).disk in
+    let e = c.in-Ok.ensures in
+    let end = c.draw_lines-end.result in
+    let D : g.row.W.Denot → Type 0 = λ d. CountsFault (end_fault end) first (view d) in
+    subst D (sym c.disk_of.ensures.disk)
+    (counts_then (end_fault end) first old (view (shown.pages c.draw_lines-end.new.store).disk) (counts_no_disk first old e.opens.beside_is e.quiet) c.draw_lines-end.ensures.faults)
 
 pub returns-in-Err-clause-faults : goal.returns-in-Err-clause-faults
 returns-in-Err-clause-faults g c =
-    let old = g.W.Disk.view c.args.world in
+    let view = g.W.Disk.view in
     let back = c.in-Err.field-0 in
-    let new = g.W.Disk.view back.value in
     let e = c.in-Err.ensures in
-    counts_as c.opening_status.result (opening_status back.cause) old new c.opening_status.ensures (counts_unopened back.cause old new e.opens.beside_is e.cause e.quiet_err)
+    counts_unopened_end back.cause c.opening_end.result (view c.args.world) (view back.value) c.opening_end.ensures e.opens.beside_is e.cause e.quiet_err

@@ -1,0 +1,191 @@
+-- What lines of `derive` sent, by what a run of lines says.
+use Rattle.std.proofs.Common.{◌≡◌, ◌≢◌, ◌∙◌, ℕ, ◌+◌, ◌≤◌, ◌^◌, ◌⊎◌, Bool, cond, List, [], ◌∷◌, ◌++◌, length, map, Option, Some, None, Result, Ok, Err, IfSome, refl, ap, sym, subst, inl, inr}
+use Rattle.std.specs.List.{filter}
+use Rattle.std.specs.Prelude.{IfErr, OnOk}
+use Rattle.std.proofs.lemmas.List.{append-nil}
+use Rattle.block_disk.specs.Counts.{HasRisen}
+use Rattle.block_disk.specs.SentLaws.{sent_none}
+use Rattle.block_disk.specs.Streams.{sent_after}
+use Rattle.block_disk.specs.View.{View}
+use Rattle.chart_world.specs.Faults.{CountsFault, OfTake, fault_in}
+use Rattle.chart_world.specs.Fronts.{says}
+use Rattle.chart_world.specs.Lines.{lines, split_lines, text_of}
+use Rattle.chart_world.specs.declared.line_answer.LineFault.TheVariants as fault
+use Rattle.line_runs.specs.Carried.{Carries, Done}
+use Rattle.line_runs.specs.CarriedLaws.{carries_both}
+use Rattle.line_runs.specs.Given as given
+use Rattle.line_runs.specs.Given.{AreFirst, Given, IsNext, NextLine, given_from, given_lines}
+use Rattle.line_runs.specs.Runs as runs
+use Rattle.line_runs.specs.declared.lines_stop.LinesStop.{LinesStop}
+use Rattle.line_runs.specs.declared.lines_stop.LinesStop.TheVariants as stop
+use Rattle.run_ends.specs.declared.ending.End.{End}
+use Rattle.run_ends.specs.declared.ending.End.TheVariants as ends
+use Rattle.series_book.specs.declared.one_series.Series.{Series}
+use Rattle.store_commands.specs.Sides.{Side, AreBeside}
+use Rattle.store_commands.specs.Status.{end_fault}
+use Rattle.derive_command.specs.Doing.{IsCause, IsSaid, LineStops}
+use Rattle.derive_command.specs.Lines.{AreAnswers, DrawsAll, DrawsFirst, EndsSo, FirstLines}
+use Rattle.derive_command.specs.Working.{LineDoes, LineStopsSo, end_of}
+use Rattle.derive_command.proofs.LineLemmas.{no_lines, says_true}
+
+-- the text is the answers to lines that were done, and the book stays
+record Answered (book : List Series) (all : List (Option (List ℕ))) (text : List ℕ) (behind : List Series) : Type 0 where
+  pub are : AreAnswers book (filter says all) text
+  pub behind_is : behind ≡ book
+
+answered_from : (at : ℕ) (parts : List (List ℕ)) (book : List Series) (text : List ℕ) (behind : List Series) → Carries LineDoes book (given_from at parts) text behind → Answered book (map text_of parts) text behind
+answered_from at [] book text behind (none, same) = record { are = none; behind_is = same }
+answered_from at (part ∷ parts) book text behind follows =
+    let P : List Series → Type 0 = λ b. Answered b (map text_of parts) follows.more behind in
+    by (text_of part) follows.does.1 (subst P follows.does.0 (answered_from (at + length part + 1) parts follows.between follows.more behind follows.others))
+  where
+    by : (line : Option (List ℕ)) → IsSaid book line follows.first → Answered book (map text_of parts) follows.more behind → Answered book (line ∷ map text_of parts) text behind
+    by line (inl (empty, none)) rest =
+        let L : Option (List ℕ) → Type 0 = λ l. AreAnswers book (filter says (l ∷ map text_of parts)) text in
+        let T : List ℕ → Type 0 = λ t. AreAnswers book (filter says (map text_of parts)) t in
+        let same : text ≡ follows.more = follows.texts ∙ ap (λ t. t ++ follows.more) none in
+        record { are = subst L (sym empty) (subst T (sym same) rest.are); behind_is = rest.behind_is }
+    by line (inr is) rest =
+        let R : Bool → Type 0 = λ v. AreAnswers book (cond v (line ∷ filter says (map text_of parts)) (filter says (map text_of parts))) text in
+        record { are = subst R (sym (says_true line is.request is.says_it)) (follows.first, follows.more, is, rest.are, follows.texts); behind_is = rest.behind_is }
+
+answered : (front : List ℕ) (book : List Series) (text : List ℕ) (behind : List Series) → Carries LineDoes book (given_lines front) text behind → Answered book (lines front) text behind
+unfolding lines given_lines
+answered front book text behind carries = answered_from 0 (split_lines front) book text behind carries
+
+-- at the end nothing is sent
+end_none : (book : List Series) (text : List ℕ) (behind : List Series) → Carries LineDoes book (given.End ∷ []) text behind → text ≡ []
+end_none book text behind f = f.texts ∙ ap (λ t. t ++ f.more) f.does.1 ∙ f.others.0
+
+module _ (book : List Series) (input : List ℕ) where
+  all_so : (IsNow : List Series → Type 0) (before now : Option (List ℕ)) → runs.Runs LineDoes book runs.AreAll IsNow (Some input) before now → DrawsAll book input before now
+  all_so IsNow before now all =
+      let done = all.done in
+      let P : List Given → Type 0 = λ l. Carries LineDoes book l done.text done.behind in
+      let both = carries_both LineDoes (given_lines input) (given.End ∷ []) book done.text done.behind (subst P all.are done.carries) in
+      let first = answered input book both.begin both.between both.begins in
+      let none = end_none both.between both.more done.behind both.others in
+      let same = both.texts ∙ ap (λ t. both.begin ++ t) none ∙ append-nil both.begin in
+      record { text = both.begin; answers = first.are; sent = all.sent ∙ ap (λ t. sent_after t before) same }
+
+  -- some first lines
+  firsts_are : (done : Done LineDoes book) (first : AreFirst input done.given) → Answered book (lines first.front) done.text done.behind
+  firsts_are done first =
+      let P : List Given → Type 0 = λ l. Carries LineDoes book l done.text done.behind in
+      answered first.front book done.text done.behind (subst P first.given_are done.carries)
+
+  abbrev firsts : (done : Done LineDoes book) → AreFirst input done.given → FirstLines book input
+  firsts done first = record {
+    front = first.front;
+    rest = first.rest;
+    begins = first.begins;
+    early = first.early;
+    text = done.text;
+    answers = (firsts_are done first).are;
+  }
+
+  -- a line stopped the run
+  module _ (left before now : Option (List ℕ)) (first : FirstLines book input) where
+    line_ends : (at : ℕ) (line : Option (List ℕ)) → at ≡ length first.front → NextLine (length first.front) first.rest line → (end : End) → LineStops book line at (sent_after first.text before) now end → EndsSo book input left before now end
+    line_ends at line at_is next ends.NoMemory unsent = record { first = first; sent = unsent }
+    line_ends at line at_is next ends.SendFault (text, is, part) = record {
+      first = first;
+      line = line;
+      next = next;
+      text = text;
+      answer = is;
+      between = sent_after first.text before;
+      sent = refl;
+      part = part;
+    }
+    line_ends at line at_is next ends.DiskFault unsent = record { first = first; sent = unsent }
+    line_ends at line at_is next (ends.BadInput place) bad = record {
+      drawn = record { first = first; sent = bad.unsent };
+      line = line;
+      next = next;
+      some = bad.some;
+      none = bad.none;
+      at_is = bad.place_is ∙ at_is;
+    }
+    line_ends at line at_is next (ends.RefusedLine place number) refused = record {
+      why = refused.why;
+      number_is = refused.number_is;
+      draws = record {
+        drawn = record { first = first; sent = refused.unsent };
+        line = line;
+        next = next;
+        refuses = refused.refuses;
+        at_is = refused.place_is ∙ at_is;
+      };
+    }
+    line_ends at line at_is next end why = absurd why
+
+    next_ends : (next : Given) → IsNext (length first.front) first.rest next → (end : End) → LineStopsSo book next (sent_after first.text before) now end → EndsSo book input left before now end
+    next_ends (given.Line at line) (at_is, next) end why = line_ends at line at_is next end why
+    next_ends given.End none end why = absurd why
+
+  -- how the run ended
+  ends_so : {T S : Type 0} (IsNow : List Series → Type 0) (sent : S → Option (List ℕ)) (left before : Option (List ℕ)) (new : S) (answer : Result T (LinesStop End))
+      → OnOk answer (runs.Runs LineDoes book runs.AreAll IsNow (Some input) before (sent new))
+      → IfErr answer (runs.StopsSo LineDoes (λ b it end store was. LineStopsSo b it was (sent store) end) IsNow book (Some input) left before (sent new) new)
+      → EndsSo book input left before (sent new) (end_of answer)
+  ends_so {T} {S} IsNow sent left before new (Ok v) all is = all_so IsNow before (sent new) all
+  ends_so {T} {S} IsNow sent left before new (Err (stop.Fault fault.ReadFault)) all is = record {
+    drawn = record { first = firsts is.done is.are.first; sent = is.sent };
+    whole = is.are.whole;
+    behind = is.are.behind;
+  }
+  ends_so {T} {S} IsNow sent left before new (Err (stop.Fault fault.InputTooLong)) all is = record {
+    drawn = record { first = firsts is.done is.are.first; sent = is.sent };
+    unended = is.are.unended;
+    past = is.are.past;
+  }
+  ends_so {T} {S} IsNow sent left before new (Err (stop.Work end)) all is =
+      let B : List Series → Type 0 = λ b. LineStopsSo b is.next (sent_after is.done.text before) (sent new) end in
+      next_ends left before (sent new) (firsts is.done is.are.first) is.next is.are.next_is end (subst B (firsts_are is.done is.are.first).behind_is is.why)
+
+-- the same of an input that may be told
+pub ends_told : {T S : Type 0} (book : List Series) (IsNow : List Series → Type 0) (sent : S → Option (List ℕ)) (input left before : Option (List ℕ)) (new : S) (answer : Result T (LinesStop End))
+    → OnOk answer (runs.Runs LineDoes book runs.AreAll IsNow input before (sent new))
+    → IfErr answer (runs.StopsSo LineDoes (λ b it end store was. LineStopsSo b it was (sent store) end) IsNow book input left before (sent new) new)
+    → IfSome input (λ bytes. EndsSo book bytes left before (sent new) (end_of answer))
+ends_told {T} {S} book IsNow sent None left before new answer all is = tt
+ends_told {T} {S} book IsNow sent (Some bytes) left before new answer all is = ends_so book bytes IsNow sent left before new answer all is
+
+-- where no line was given
+pub none_told : (book : List Series) (input left before : Option (List ℕ)) → IfSome input (λ bytes. EndsSo book bytes left before before ends.NoMemory)
+none_told book None left before = tt
+none_told book (Some bytes) left before = record { first = no_lines book bytes; sent = sent_none before }
+
+-- ---- whatever the pages are
+
+-- the fault that an end tells of is that of the loop
+pub end_faults : {T : Type 0} (answer : Result T (LinesStop End)) → end_fault (end_of answer) ≡ fault_in (runs.fault_of end_fault) answer
+end_faults {T} (Ok v) = refl
+end_faults {T} (Err (stop.Fault fault.ReadFault)) = refl
+end_faults {T} (Err (stop.Fault fault.InputTooLong)) = refl
+end_faults {T} (Err (stop.Work end)) = refl
+
+take_risen : (old new : Side) → AreBeside old.view old.read_faults old.send_faults → AreBeside new.view new.read_faults new.send_faults → CountsFault (Some OfTake) old.view new.view → HasRisen old.read_faults new.read_faults
+take_risen old new was are (disk, risen, send) =
+    let P : ℕ → Type 0 = λ n. HasRisen n new.read_faults in
+    let Q : ℕ → Type 0 = λ n. HasRisen old.view.beside.read_faults n in
+    subst P was.reads_are (subst Q are.reads_are risen)
+
+pub ends_cause : {T S : Type 0} (side : S → Side) (old new : S) (answer : Result T (LinesStop End)) → AreBeside (side old).view (side old).read_faults (side old).send_faults → AreBeside (side new).view (side new).read_faults (side new).send_faults
+    → CountsFault (fault_in (runs.fault_of end_fault) answer) (side old).view (side new).view → IfErr answer (runs.cause_of (λ end s s'. IsCause end (side s) (side s')) old new) → end_of answer ≢ ends.Done
+    → IsCause (end_of answer) (side old) (side new)
+ends_cause {T} {S} side old new (Ok v) was are counts cause other = absurd (other refl)
+ends_cause {T} {S} side old new (Err (stop.Fault fault.ReadFault)) was are counts cause other = take_risen (side old) (side new) was are counts
+ends_cause {T} {S} side old new (Err (stop.Fault fault.InputTooLong)) was are counts cause other = tt
+ends_cause {T} {S} side old new (Err (stop.Work end)) was are counts cause other = cause
+
+-- an end that is done told that all lines were
+pub ends_within : {T S : Type 0} (side : S → Side) (old new : S) (input : Option (List ℕ)) (answer : Result T (LinesStop End)) → OnOk answer (IfSome input (λ bytes. length bytes ≤ 2 ^ 32)) → IfErr answer (runs.cause_of (λ end s s'. IsCause end (side s) (side s')) old new)
+    → end_of answer ≡ ends.Done → IfSome input (λ bytes. length bytes ≤ 2 ^ 32)
+ends_within {T} {S} side old new input (Ok v) within cause is = within
+ends_within {T} {S} side old new input (Err (stop.Fault fault.ReadFault)) within cause is = cc
+ends_within {T} {S} side old new input (Err (stop.Fault fault.InputTooLong)) within cause is = cc
+ends_within {T} {S} side old new input (Err (stop.Work end)) within cause is =
+    let C : End → Type 0 = λ e. IsCause e (side old) (side new) in
+    absurd (subst C is cause)

@@ -1,0 +1,33 @@
+-- What a line of `derive` does, as a work of lines says it.
+use Rattle.std.proofs.Common.{◌≡◌, ℕ, ◌≤◌, List, Option, Result, Ok, Err, refl, sym, subst}
+use Rattle.std.specs.Prelude.{OnOk, IfErr}
+use Rattle.block_disk.specs.View.{Image, View, Now, sent_now}
+use Rattle.line_runs.specs.Carried.{DoesOne}
+use Rattle.line_runs.specs.Given.{Line}
+use Rattle.line_runs.specs.MomentLaws.{through_by}
+use Rattle.line_runs.specs.Moments.{Through}
+use Rattle.run_ends.specs.declared.ending.End.{End}
+use Rattle.series_book.specs.declared.one_series.Series.{Series}
+use Rattle.stored_book.specs.Standing.{StandsForBook}
+use Rattle.store_commands.specs.Sides.{Side}
+use Rattle.derive_command.specs.Doing.{DoesLine, Goes}
+use Rattle.derive_command.specs.Working.{LineDoes, LineStopsSo, StandFor}
+
+-- the pages stay
+pub stand_still : (old new : Side) (book : List Series) → Goes old new → StandFor old.told old.view.image book → StandFor new.told new.view.image book
+stand_still old new book goes stand =
+    let P : Image → Type 0 = λ i. StandsForBook i stand.1.0 book in
+    (goes.is_told stand.0, (stand.1.0, subst P (sym (goes.image stand.0)) stand.1.1))
+
+pub work_done : {T : Type 0} (IsNow : List Series → Type 0) (book : List Series) (line : Option (List ℕ)) (at : ℕ) (before now : Option (List ℕ)) (result : Result T End) → IsNow book → DoesLine book line at result before now
+    → OnOk result (DoesOne LineDoes IsNow book (Line at line) before now)
+work_done {T} IsNow book line at before now (Ok v) stands does = record { text = does.done.text; behind = book; done = (refl, does.done.said); stands = stands; sent = does.done.sent }
+work_done {T} IsNow book line at before now (Err end) stands does = tt
+
+pub work_stops : {T : Type 0} (book : List Series) (line : Option (List ℕ)) (at : ℕ) (before now : Option (List ℕ)) (result : Result T End) → DoesLine book line at result before now
+    → IfErr result (λ end. LineStopsSo book (Line at line) before now end)
+work_stops {T} book line at before now (Ok v) does = tt
+work_stops {T} book line at before now (Err end) does = does.stops
+
+pub any_leaves : (old new : Side) → Goes old new → Through old.view new.view (λ image sent. Unit {0})
+any_leaves old new goes = through_by old.view new.view (Now old.view) (λ count. (sent_now old.view ≤ count) × (count ≤ sent_now new.view)) (λ image sent. Unit {0}) goes.time (λ image count left sent. tt)

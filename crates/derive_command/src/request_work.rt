@@ -1,0 +1,87 @@
+//! The work of `derive`: each line is a request.
+ghost use Rattle.std.specs.Prelude.{List, ⊤};
+ghost use Rattle.series_book.specs.declared.one_series.Series.{Series};
+ghost use Rattle.series_store.specs.Shown as shown;
+ghost use Rattle.store_commands.specs.Sides.{side_of};
+ghost use Rattle.store_commands.specs.Status.{end_fault};
+ghost use Rattle.derive_command.specs.Doing.{Goes, IsCause};
+ghost use Rattle.derive_command.specs.WorkLaws.{besides, cause_later, goes_further, goes_nowhere, goes_takes, no_less, same_total, stand_kept};
+ghost use Rattle.derive_command.specs.Working.{LineDoes, LineStopsSo, StandFor};
+
+use crate::answering::answer_line;
+use gate_pages::PageWorld;
+use line_runs::LineWork;
+use run_ends::End;
+use series_store::Store;
+use std::alloc::Global;
+
+/// Sends the picture that each line asks for.
+#[derive(Drop)]
+pub(crate) struct RequestWork {
+    pub(crate) alloc: Global,
+}
+
+impl<P: PageWorld> LineWork<Store<P>, End> for RequestWork {
+    ghost State = { List Series };
+
+    ghost view = { λ store. shown.view store };
+
+    ghost fit = { λ work store at. shown.IsSound store };
+
+    ghost stands = { λ book work store. StandFor (shown.IsTold store) (shown.image store) book };
+
+    // what a crash leaves is said by `goes`, whatever the pages are
+    ghost rests = { λ book image. ⊤ };
+
+    ghost does = { LineDoes };
+
+    ghost stops = { λ book it end store before. LineStopsSo book it before (P.sent (shown.pages store)) end };
+
+    ghost leaves = { λ book it from image sent. ⊤ };
+
+    ghost goes = { λ old new. Goes (side_of P.Streams old) (side_of P.Streams new) };
+
+    ghost cause = { λ end old new. IsCause end (side_of P.Streams old) (side_of P.Streams new) };
+
+    ghost harms = { λ end. ⊥ };
+
+    ghost fault = { end_fault };
+
+    fn line(&mut self, from: &mut Store<P>, at: u32, line: &[u8]) -> Result<(), End> {
+        answer_line(self.alloc, from, at, line)
+    }
+
+    fn long_line(&mut self, from: &mut Store<P>, at: u32) -> Result<(), End> {
+        Err(End::BadInput { at: u64::from(at) })
+    }
+
+    fn finish(&mut self, from: &mut Store<P>) -> Result<(), End> {
+        Ok(())
+    }
+
+    ghost fit_later = { λ work at first later less sound. sound };
+
+    ghost fit_taken = { λ work old new at takes. (P.take_keeps (shown.pages old) (shown.pages new) takes.pages_are).fit };
+
+    ghost stands_taken = { λ book work old new takes stands. stand_kept (shown.view old) (shown.view new) book (P.take_told (shown.pages old) (shown.pages new) takes.pages_are) (P.take_keeps (shown.pages old) (shown.pages new) takes.pages_are) stands };
+
+    ghost take_keeps = { λ old new takes. P.take_keeps (shown.pages old) (shown.pages new) takes.pages_are };
+
+    ghost take_passes = { λ old new takes. P.take_passes (shown.pages old) (shown.pages new) takes.pages_are };
+
+    ghost take_goes = { λ old new takes sent reads sends pieces. goes_takes _ _ (P.take_keeps (shown.pages old) (shown.pages new) takes.pages_are) (P.take_passes (shown.pages old) (shown.pages new) takes.pages_are) (P.take_told (shown.pages old) (shown.pages new) takes.pages_are) (P.take_was_told (shown.pages old) (shown.pages new) takes.pages_are) (P.take_goes_on (shown.pages old) (shown.pages new) takes.pages_are) (same_total takes.superblock) reads (no_less sends) };
+
+    ghost now_rests = { λ book work from at fit stands image left. tt };
+
+    ghost goes_none = { λ at. goes_nowhere _ };
+
+    ghost goes_then = { λ old between new. goes_further _ _ _ };
+
+    ghost cause_later = { λ end old between new quiet. cause_later _ _ _ (besides (P.beside_read_faults (shown.pages old)) (P.beside_send_faults (shown.pages old))) (besides (P.beside_read_faults (shown.pages between)) (P.beside_send_faults (shown.pages between))) quiet end };
+
+    ghost counts_sent = { λ at. P.counts_sent (shown.pages at) };
+
+    ghost beside_read_faults = { λ at. P.beside_read_faults (shown.pages at) };
+
+    ghost beside_send_faults = { λ at. P.beside_send_faults (shown.pages at) };
+}
