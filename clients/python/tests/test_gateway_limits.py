@@ -59,6 +59,25 @@ class Guarded(OverAGateway):
 
 
 class Busy(unittest.TestCase):
+    def test_who_takes_no_answer_is_hung_up_on(self):
+        with tempfile.TemporaryDirectory() as folder:
+            gateway = Gateway(folder, {"read": 'at_once = 1\nseconds = "9s"\nlookback = "1d"'}, SECOND).start()
+            try:
+                self.assertEqual(gateway.write("\n".join(f"w,n={at} v={at} {T}" for at in range(60)))[0], 204)
+                slow = socket.socket()
+                self.addCleanup(slow.close)
+                slow.setsockopt(socket.SOL_SOCKET, socket.SO_RCVBUF, 4096)
+                slow.connect(("127.0.0.1", gateway.port))
+                slow.sendall(f"GET /api/v1/query_range?query=w_v&start={T}&end={T + 10_000}&step=1 HTTP/1.1\r\nHost: localhost\r\n\r\n".encode())
+                broken, ends = 'zurtkvani_gateway_requests_total{path="/api/v1/query_range",status="499"}', time.monotonic() + 60
+                while broken not in gateway.metrics():
+                    self.assertLess(time.monotonic(), ends)
+                    time.sleep(0.2)
+                self.assertEqual(gateway.ask(f"/api/v1/query?query=w_v&time={T}")[0], 200)
+                self.assertEqual([line for line in gateway.told().splitlines() if not line.startswith("{")], [])
+            finally:
+                gateway.close()
+
     def test_what_comes_faster_than_the_disk_is_sent_away(self):
         with tempfile.TemporaryDirectory() as folder:
             gateway = Gateway(folder, {"write": 'waiting_points = 1000\nseconds = "2s"'}, SECOND).start()

@@ -43,7 +43,7 @@ class Evaluation:
 
     def found(self, selector):
         known = select(self.stores, selector.matchers)
-        self.reads.spend(len(known) * 4)
+        self.reads.spend(len(known) * self.count)
         return known
 
     def windows(self, length):

@@ -26,6 +26,7 @@ class Gateway:
         self.stores, self.writers = Stores(given), {}
         self.intake = Intake(given, self.stores, self.writer_of, self.waiting, self.counts)
         self.retention, self.backing_up = Retention(self), asyncio.Lock()
+        self.reading = asyncio.Semaphore(given.read.at_once)
         self.sweeping = None
         self.line_reader = Reader(given.write.database_label, given.write.separator)
 

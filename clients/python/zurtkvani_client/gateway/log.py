@@ -1,6 +1,7 @@
 """What the gateway tells of itself: a line of JSON on standard error for each event."""
 import datetime
 import json
+import logging
 import sys
 
 
@@ -13,3 +14,11 @@ def tell(event, level="info", **fields):
         sys.stderr.flush()
     except OSError:
         pass  # nobody reads the log; that is no reason to stop
+
+
+class LogLines(logging.Handler):
+    """What the libraries log, as lines of the same kind."""
+
+    def emit(self, record):
+        why = {"why": repr(record.exc_info[1])} if record.exc_info else {}
+        tell(record.getMessage(), record.levelname.lower(), of=record.name, **why)

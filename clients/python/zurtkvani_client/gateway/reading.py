@@ -11,8 +11,7 @@ from itertools import accumulate
 from . import child
 
 COLUMNS = 4096  # of a view
-MOST_PARTS = 16 * COLUMNS
-MOST_JOINS = 500_000  # parts of all windows together
+MOST_PARTS = 64 * COLUMNS
 MOST_LOST = 3
 TURN = 16  # views that are asked for at once
 LEAST_COST = 16  # of a view, as many rows cost
@@ -79,12 +78,11 @@ class Reads:
             found = dict(await self.columns(known, t0, length, count))
             return [found.get(at) for at in range(count)]
         part = math.gcd(step, length)
-        parts, joined = ((count - 1) * step + length) // part, length // part
-        if parts > MOST_PARTS or joined * count > MOST_JOINS:
+        parts = ((count - 1) * step + length) // part
+        if parts > MOST_PARTS:
             return await self._by_steps(known, windows)
         self.ways.add("parts")
-        found = dict(await self.columns(known, t0, part, parts))
-        return [join(found, at * (step // part), joined) for at in range(count)]
+        return joined(await self.columns(known, t0, part, parts), count, step // part, length // part)
 
     async def _by_steps(self, known, windows):
         """A view of one column for each window."""
@@ -143,9 +141,26 @@ class Reads:
         return [(totals[to] - totals[at], counts[to] - counts[at]) for at, to in places]
 
 
-def join(found, at, count):
-    """The row of so many columns together."""
-    rows = [found[column] for column in range(at, at + count) if column in found]
-    if not rows:
-        return None
-    return Row(rows[0].first, min(row.least for row in rows), max(row.greatest for row in rows), rows[-1].last)
+def joined(columns, count, step, length):
+    """The rows of windows, each of so many columns, and so many columns behind the one before; None where no column has a row.
+
+    The queues have the columns that may yet be the least or the greatest of a window: none of them has a later one that is as low, or as high.
+    """
+    rows, lows, highs, first, behind = [], collections.deque(), collections.deque(), 0, 0
+    for begin in range(0, count * step, step):
+        while behind < len(columns) and columns[behind][0] < begin + length:
+            _, row = column = columns[behind]
+            while lows and lows[-1][1].least >= row.least:
+                lows.pop()
+            while highs and highs[-1][1].greatest <= row.greatest:
+                highs.pop()
+            lows.append(column)
+            highs.append(column)
+            behind += 1
+        while first < behind and columns[first][0] < begin:
+            first += 1
+        for queue in (lows, highs):
+            while queue and queue[0][0] < begin:
+                queue.popleft()
+        rows.append(Row(columns[first][1].first, lows[0][1].least, highs[0][1].greatest, columns[behind - 1][1].last) if first < behind else None)
+    return rows

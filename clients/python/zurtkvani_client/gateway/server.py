@@ -1,6 +1,8 @@
 """The HTTP server of a gateway: its addresses, its limits of connections, its start and its end."""
 import asyncio
+import contextlib
 import json
+import logging
 import signal
 import sys
 import time
@@ -10,8 +12,9 @@ from aiohttp import web
 from . import backup, charts_http, configuration, metrics, names, prometheus_http, writes_http
 from .gateway import Gateway
 from .guard import EITHER, OPEN, READ, WRITE
-from .log import tell
+from .log import LogLines, tell
 
+GONE = 499  # what is counted for who has gone before the answer was sent
 STOP_SECONDS = 60  # for requests that are under way when the gateway ends
 
 
@@ -44,6 +47,35 @@ ROUTES = [
 ]
 
 
+@contextlib.asynccontextmanager
+async def turn_of(gateway, answer):
+    """Waits for a turn, where an answer takes memory and time, so that few of these are made and sent at once."""
+    if answer in LIGHT:
+        yield
+        return
+    try:
+        await asyncio.wait_for(gateway.reading.acquire(), gateway.given.read.seconds / 10**9)
+    except TimeoutError:
+        raise web.HTTPServiceUnavailable(text="too many queries at once\n", headers={"Retry-After": "5"}) from None
+    try:
+        yield
+    finally:
+        gateway.reading.release()
+
+
+async def is_sent(response, request, seconds):
+    """Sends an answer, and hangs up on who doesn't take it in time. Tells whether it was taken."""
+    try:
+        async with asyncio.timeout(seconds):
+            await response.prepare(request)
+            await response.write_eof()
+        return True
+    except (TimeoutError, ConnectionError):
+        if request.transport:
+            request.transport.abort()
+        return False
+
+
 def answering(gateway, path, kind, answer):
     """The handler of an address: it lets in, counts, and answers what went wrong within as 500."""
 
@@ -51,14 +83,15 @@ def answering(gateway, path, kind, answer):
         begun, status = time.monotonic(), 500
         try:
             gateway.guard.require(request, kind)
-            response = await answer(gateway, request)
-            status = response.status
+            async with turn_of(gateway, answer):
+                response = await answer(gateway, request)
+                status = response.status if await is_sent(response, request, gateway.given.read.seconds / 10**9) else GONE
             return response
         except web.HTTPException as why:
             status = why.status
             raise
         except (ConnectionError, asyncio.CancelledError):
-            status = 499  # whoever asked has gone
+            status = GONE
             raise
         except Exception as why:
             tell("a request failed", "error", path=path, why=repr(why))
@@ -68,6 +101,10 @@ def answering(gateway, path, kind, answer):
             gateway.counts.add("request_seconds_total", time.monotonic() - begun, path=path)
 
     return handler
+
+
+# What waits for no other answer.
+LIGHT = {answer for _, _, kind, answer in ROUTES if kind != READ} | {metrics_of, prometheus_http.build_info}
 
 
 def application(gateway, doors):
@@ -152,6 +189,7 @@ async def serve(given):
 
 def main(path):
     """Runs a gateway by the configuration in a file, and gives its exit status."""
+    logging.getLogger().addHandler(LogLines())
     try:
         given = configuration.read(path)
         asyncio.run(serve(given))
