@@ -2,7 +2,7 @@
 use Rattle.std.proofs.Common.{◌≡◌, ◌∙◌, ℕ, List, [], ◌∷◌, ◌++◌, refl, sym, ap, subst, append_assoc}
 use Rattle.std.proofs.lemmas.List.{append-nil}
 use Rattle.line_runs.specs.Carried.{Carries, Done}
-use Rattle.line_runs.specs.Given.{Given}
+use Rattle.line_runs.specs.Given.{Given, Line, Pause, End, unpaused}
 
 -- some of it was done, and then the others
 pub record CarriesBoth {State : Type 0} (does : State → Given → List ℕ → State → Type 0) (first later : List Given) (state : State)
@@ -57,6 +57,43 @@ module _ {State : Type 0} (does : State → Given → List ℕ → State → Typ
         others = rest.others;
         texts = all.texts ∙ ap (λ t. all.first ++ t) rest.texts ∙ sym (append_assoc all.first rest.begin rest.more);
       }
+
+  -- where a pause does nothing, lines with pauses do what the lines do
+  pub carries_unpaused : ((state : State) (text : List ℕ) (behind : State) → does state Pause text behind → (text ≡ []) × (behind ≡ state))
+      → (given : List Given) (state : State) (text : List ℕ) (behind : State) → Carries does state given text behind
+      → Carries does state (unpaused given) text behind
+  carries_unpaused idle [] state text behind all = all
+  carries_unpaused idle (Line at line ∷ later) state text behind all = record {
+    first = all.first;
+    between = all.between;
+    does = all.does;
+    more = all.more;
+    others = carries_unpaused idle later all.between all.more behind all.others;
+    texts = all.texts;
+  }
+  carries_unpaused idle (Pause ∷ later) state text behind all =
+      let none = idle state all.first all.between all.does in
+      let P : State → Type 0 = λ s. Carries does s (unpaused later) text behind in
+      let Q : List ℕ → Type 0 = λ t. Carries does all.between (unpaused later) t behind in
+      subst P none.1 (subst Q (sym (all.texts ∙ ap (λ t. t ++ all.more) none.0))
+      (carries_unpaused idle later all.between all.more behind all.others))
+  carries_unpaused idle (End ∷ later) state text behind all = record {
+    first = all.first;
+    between = all.between;
+    does = all.does;
+    more = all.more;
+    others = carries_unpaused idle later all.between all.more behind all.others;
+    texts = all.texts;
+  }
+
+  -- what each thing that is done keeps, they keep
+  pub carries_on : (Keeps : State → Type 0)
+      → ((state : State) (it : Given) (text : List ℕ) (behind : State) → does state it text behind → Keeps state → Keeps behind)
+      → (given : List Given) (state : State) (text : List ℕ) (behind : State) → Carries does state given text behind → Keeps state
+      → Keeps behind
+  carries_on Keeps on [] state text behind all is = subst Keeps (sym all.1) is
+  carries_on Keeps on (it ∷ later) state text behind all is =
+      carries_on Keeps on later all.between all.more behind all.others (on state it all.first all.between all.does is)
 
   -- nothing was done, and one thing more was
   abbrev pub done_none : (state : State) → Done does state

@@ -1,11 +1,12 @@
--- What is given of whole lines, and of a line more.
+-- What is given of whole lines, of a line more and of a pause more.
 use Rattle.std.proofs.Common.{◌≡◌, ◌∙◌, ℕ, ◌+◌, List, [], ◌∷◌, ◌++◌, length, map, Option, refl, ap, sym, subst, inl, inr, arith, length-append}
 use Rattle.std.specs.List.{flat_map}
 use Rattle.chart_world.specs.Fronts.{IsWhole}
 use Rattle.chart_world.specs.Laws.{with_line_feed}
 use Rattle.chart_world.specs.LineLaws.{joined_lines, split_none, split_whole}
 use Rattle.chart_world.specs.Lines.{lines, split_lines, text_of}
-use Rattle.line_runs.specs.Given.{Line, given_from, given_lines}
+use Rattle.std.proofs.lemmas.List.{append-nil}
+use Rattle.line_runs.specs.Given.{EndsPaused, Given, Line, Pause, End, given_from, given_lines, pauses, unpaused}
 
 -- how many bytes lines have, with a line feed behind each
 abbrev bytes_of : List (List ℕ) → ℕ
@@ -61,3 +62,24 @@ given_more front piece line whole is =
     ∙ ap (λ l. given_from 0 (split_lines front) ++ l)
     (given_at (0 + bytes_of (split_lines front)) (length front) (split_lines piece) (omega (arith, bytes_whole front whole))
     ∙ one_given (length front) line piece is)
+
+-- ---- pauses
+
+pub unpaused_joined : (first later : List Given) → unpaused (first ++ later) ≡ unpaused first ++ unpaused later
+unpaused_joined [] later = refl
+unpaused_joined (Line at line ∷ first) later = ap (λ l. Line at line ∷ l) (unpaused_joined first later)
+unpaused_joined (Pause ∷ first) later = unpaused_joined first later
+unpaused_joined (End ∷ first) later = ap (λ l. End ∷ l) (unpaused_joined first later)
+
+pub pauses_joined : (first later : List Given) → pauses (first ++ later) ≡ pauses first + pauses later
+pauses_joined [] later = omega arith
+pauses_joined (Line at line ∷ first) later = pauses_joined first later
+pauses_joined (Pause ∷ first) later = omega (arith, pauses_joined first later)
+pauses_joined (End ∷ first) later = pauses_joined first later
+
+-- a pause more is no line more
+pub unpaused_pause : (given : List Given) → unpaused (given ++ Pause ∷ []) ≡ unpaused given
+unpaused_pause given = unpaused_joined given (Pause ∷ []) ∙ append-nil (unpaused given)
+
+pub pauses_paused : (given : List Given) (p : EndsPaused given) → pauses given ≡ pauses p.earlier + 1
+pauses_paused given p = omega (arith, ap pauses p.given_are, pauses_joined p.earlier (Pause ∷ []))

@@ -1,5 +1,5 @@
 -- How much of an input was done.
-use Rattle.std.specs.Prelude.{◌≡◌, ℕ, ◌+◌, ◌-◌, ◌^◌, ◌<◌, ◌⊎◌, List, ◌++◌, length, take, Option, Some, None, IfSome, ⊤}
+use Rattle.std.specs.Prelude.{◌≡◌, ℕ, ◌+◌, ◌-◌, ◌^◌, ◌<◌, ◌⊎◌, List, [], ◌∷◌, ◌++◌, ◌≤◌, length, take, Option, Some, None, IfSome, ⊤}
 use Rattle.block_disk.specs.Streams.{sent_after}
 use Rattle.block_disk.specs.View.{Image}
 use Rattle.chart_world.specs.Faults.{Fault, OfTake}
@@ -7,7 +7,7 @@ use Rattle.chart_world.specs.Fronts.{IsWhole}
 use Rattle.chart_world.specs.Lines.{NoLineFeed}
 use Rattle.chart_world.specs.declared.line_answer.LineFault.TheVariants as fault
 use Rattle.line_runs.specs.Carried.{Done}
-use Rattle.line_runs.specs.Given.{AreBefore, AreFirst, Given, all_given}
+use Rattle.line_runs.specs.Given.{AreBefore, AreFirst, EndsPaused, Given, End, given_lines, pauses, unpaused}
 use Rattle.line_runs.specs.declared.lines_stop.LinesStop.{LinesStop}
 use Rattle.line_runs.specs.declared.lines_stop.LinesStop.TheVariants as stop
 
@@ -17,21 +17,35 @@ pub record Unended (rest left : List ℕ) : Type 0 where
   pub taken : rest ≡ partial ++ left
   pub unended : NoLineFeed partial
 
--- all lines of the input, and its end
-abbrev pub AreAll : List ℕ → List Given → Type 0
-AreAll input given = given ≡ all_given input
+-- There were no more pauses than so many pieces were taken, and two, where the pieces are counted: one pause before a take,
+-- one before the input's end is found, and one before that is answered.
+abbrev pub FewPauses : ℕ → ℕ → List Given → Type 0
+FewPauses before now given = now < 2 ^ 64 - 1 → before + pauses given ≤ now + 2
 
--- the lines whose line feeds were among the bytes taken, where the bytes left are told
-pub record AreTaken (left : Option (List ℕ)) (input : List ℕ) (given : List Given) : Type 0 where
-  pub first : AreFirst input given
-  pub whole : IsWhole first.front
-  pub behind : IfSome left (Unended first.rest)
+module _ (pieces pieces' : ℕ) where
+  -- all lines of the input, and behind a pause its end
+  pub record AreAll (input : List ℕ) (given : List Given) : Type 0 where
+    pub earlier : List Given
+    pub given_are : given ≡ earlier ++ End ∷ []
+    pub lines_are : unpaused earlier ≡ given_lines input
+    pub paused : EndsPaused earlier
+    pub few : FewPauses pieces pieces' given
 
--- the lines that ended among the first 2^32 bytes, and there is a byte more
-pub record AreWithin (input : List ℕ) (given : List Given) : Type 0 where
-  pub first : AreFirst input given
-  pub unended : NoLineFeed (take (2 ^ 32 - length first.front) first.rest)
-  pub past : 2 ^ 32 < length input
+  -- the lines whose line feeds were among the bytes taken, where the bytes left are told, and a pause
+  pub record AreTaken (left : Option (List ℕ)) (input : List ℕ) (given : List Given) : Type 0 where
+    pub first : AreFirst input given
+    pub whole : IsWhole first.front
+    pub behind : IfSome left (Unended first.rest)
+    pub paused : EndsPaused given
+    pub few : FewPauses pieces pieces' given
+
+  -- the lines that ended among the first 2^32 bytes, and a pause, and there is a byte more
+  pub record AreWithin (input : List ℕ) (given : List Given) : Type 0 where
+    pub first : AreFirst input given
+    pub unended : NoLineFeed (take (2 ^ 32 - length first.front) first.rest)
+    pub past : 2 ^ 32 < length input
+    pub paused : EndsPaused given
+    pub few : FewPauses pieces pieces' given
 
 -- the failed call that a stop tells, and its cause
 abbrev pub fault_of : {E : Type 0} → (E → Option Fault) → LinesStop E → Option Fault
@@ -56,24 +70,25 @@ pub record Runs {State : Type 0} (does : State → Given → List ℕ → State 
   pub sent : now ≡ sent_after done.text before
 
 -- what is given behind some first lines stopped the work
-pub record RunsTo {State E S : Type 0} (does : State → Given → List ℕ → State → Type 0)
-    (stops : State → Given → E → S → Option (List ℕ) → Type 0) (state : State) (input before : Option (List ℕ)) (new : S) (end : E)
-    : Type 0 where
+pub record RunsTo {State E : Type 0} (does : State → Given → List ℕ → State → Type 0)
+    (stops : State → Given → E → Option (List ℕ) → Type 0) (state : State) (input before : Option (List ℕ)) (pieces pieces' : ℕ)
+    (end : E) : Type 0 where
   pub done : Done does state
   pub next : Given
   pub are : IfSome input (λ bytes. AreBefore bytes done.given next)
-  pub why : stops done.behind next end new (sent_after done.text before)
+  pub few : IfSome input (λ bytes. FewPauses pieces pieces' (done.given ++ next ∷ []))
+  pub why : stops done.behind next end (sent_after done.text before)
 
 -- why not all was done, what was done and what was sent
-abbrev pub StopsSo : {State E S : Type 0} (does : State → Given → List ℕ → State → Type 0)
-    (stops : State → Given → E → S → Option (List ℕ) → Type 0) (IsNow : State → Type 0) (state : State)
-    (input left before now : Option (List ℕ)) → S → LinesStop E → Type 0
-StopsSo {State} {E} {S} does stops IsNow state input left before now new (stop.Fault fault.ReadFault) =
-    Runs does state (AreTaken left) IsNow input before now
-StopsSo {State} {E} {S} does stops IsNow state input left before now new (stop.Fault fault.InputTooLong) =
-    Runs does state AreWithin IsNow input before now
-StopsSo {State} {E} {S} does stops IsNow state input left before now new (stop.Work end) =
-    RunsTo does stops state input before new end
+abbrev pub StopsSo : {State E : Type 0} (does : State → Given → List ℕ → State → Type 0)
+    (stops : State → Given → E → Option (List ℕ) → Type 0) (IsNow : State → Type 0) (state : State)
+    (input left before now : Option (List ℕ)) (pieces pieces' : ℕ) → LinesStop E → Type 0
+StopsSo {State} {E} does stops IsNow state input left before now pieces pieces' (stop.Fault fault.ReadFault) =
+    Runs does state (AreTaken pieces pieces' left) IsNow input before now
+StopsSo {State} {E} does stops IsNow state input left before now pieces pieces' (stop.Fault fault.InputTooLong) =
+    Runs does state (AreWithin pieces pieces') IsNow input before now
+StopsSo {State} {E} does stops IsNow state input left before now pieces pieces' (stop.Work end) =
+    RunsTo does stops state input before pieces pieces' end
 
 module _ {State : Type 0} {does : State → Given → List ℕ → State → Type 0} {state : State} (done : Done does state)
     (input before : Option (List ℕ)) (from : ℕ) (image : Image) (sent : ℕ) where

@@ -1,9 +1,9 @@
 //! One loop over the lines of an input.
 //!
 //! What a line does is a `LineWork`: it says in ghost members what a line does to a state and sends, how it may stop, and
-//! what a crash leaves meanwhile; and the same of the end of the input. `run_lines` gives each line to the work, and its
-//! contract says of any such work what was done at the end of the input, at a fault of the input, at a line that stopped
-//! it, and at each moment.
+//! what a crash leaves meanwhile; and the same of a pause, which comes before each take, and of the end of the input.
+//! `run_lines` gives each line to the work, and its contract says of any such work what was done at the end of the input,
+//! at a fault of the input, at a line that stopped it, and at each moment.
 #![tactic(auto)]
 
 mod line_work;

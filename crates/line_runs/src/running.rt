@@ -3,15 +3,41 @@ ghost use Rattle.std.specs.Prelude.{◌≡◌, ◌≤◌, ◌^◌, length, IfErr
 ghost use Rattle.chart_world.specs.Faults.{CountsFault, fault_in};
 ghost use Rattle.chart_world.specs.Reading.{unread_input};
 ghost use Rattle.line_runs.specs.Runs.{cause_of, fault_of, harms_of};
-ghost use Rattle.line_runs.specs.Shown.{LastsOn, RunsAll, StopsOn};
+ghost use Rattle.line_runs.specs.Given.{Pause};
+ghost use Rattle.line_runs.specs.Shown.{LastsOn, LeavesOn, PausesOn, RunsAll, StopsOn};
 
 use crate::line_work::LineWork;
 use crate::lines_stop::LinesStop;
 use block_disk::Streams;
 use chart_world::{LineAnswer, Lines, offset_of};
 
-/// Gives each line of the input to the work, in order, and then the end, by a reader of lines that has given none. After
-/// `Ok` the input was read to its end.
+/// Pauses the work, unless the next line stands ready.
+fn pause_for<S: Streams, E, W: LineWork<S, E>>(
+    work: &mut W,
+    from: &mut S,
+    lines: &Lines,
+) -> Result<(), E>
+    requires fit { W.fit work.old from.old lines.now.given }
+    requires within { lines.now.given ≤ 2 ^ 32 }
+    ensures does { (state : W.State) → W.stands state work.old from.old → OnOk result (PausesOn S.sent W.stands W.does state lines.now work.new from.old from.new) }
+    ensures stops { (state : W.State) → W.stands state work.old from.old → IfErr result (λ end. W.stops state Pause end work.new from.new (S.sent from.old)) }
+    ensures leaves { (state : W.State) → W.stands state work.old from.old → W.lasting state → LeavesOn W.view W.leaves state Pause from.old from.new }
+    ensures fit { OnOk result (W.fit work.new from.new lines.now.given) }
+    ensures fit_on_err { IfErr result (λ end. (W.harms end → ⊥) → W.fit work.new from.new (2 ^ 32)) }
+    ensures goes { W.goes from.old from.new }
+    ensures cause { IfErr result (λ end. W.cause end from.old from.new) }
+    ensures faults { CountsFault (fault_in W.fault result) (W.view from.old) (W.view from.new) }
+    ensures left { S.left from.new ≡ S.left from.old }
+    ensures pieces { S.pieces from.old ≤ S.pieces from.new }
+{
+    if lines.ready() {
+        return Ok(());
+    }
+    work.pause(from)
+}
+
+/// Gives each line of the input to the work, in order, and then the end, by a reader of lines that has given none. Where the
+/// next line doesn't stand ready the work is paused first. After `Ok` the input was read to its end.
 pub fn run_lines<S: Streams, E, W: LineWork<S, E>>(
     work: &mut W,
     from: &mut S,
@@ -19,11 +45,11 @@ pub fn run_lines<S: Streams, E, W: LineWork<S, E>>(
 ) -> Result<(), LinesStop<E>>
     requires fit { W.fit work.old from.old 0 }
     requires fresh { lines.old ≡ unread_input }
-    ensures done { (state : W.State) → W.stands state work.old from.old → OnOk result (RunsAll S.left S.sent W.stands W.does state work.new from.old from.new) }
+    ensures done { (state : W.State) → W.stands state work.old from.old → OnOk result (RunsAll S.left S.sent S.pieces W.stands W.does state work.new from.old from.new) }
     ensures within { OnOk result (IfSome (S.left from.old) (λ input. length input ≤ 2 ^ 32)) }
-    ensures stops { (state : W.State) → W.stands state work.old from.old → IfErr result (StopsOn S.left S.sent W.stands W.does state work.new from.old from.new W.stops) }
+    ensures stops { (state : W.State) → W.stands state work.old from.old → IfErr result (StopsOn S.left S.sent S.pieces W.stands W.does state work.new from.old from.new W.stops) }
     // at each moment a crash leaves what some first lines left, or what the next one leaves on its way
-    ensures crash { (state : W.State) → W.stands state work.old from.old → LastsOn S.left S.sent W.view W.does W.rests W.leaves state from.old from.new }
+    ensures crash { (state : W.State) → W.stands state work.old from.old → W.lasting state → LastsOn S.left S.sent W.view W.does W.rests W.leaves state from.old from.new }
     // whatever the state is
     ensures fit { OnOk result (W.fit work.new from.new (2 ^ 32)) }
     ensures fit_on_err { IfErr result (λ stop. (harms_of W.harms stop → ⊥) → W.fit work.new from.new (2 ^ 32)) }
@@ -32,6 +58,10 @@ pub fn run_lines<S: Streams, E, W: LineWork<S, E>>(
     ensures faults { CountsFault (fault_in (fault_of W.fault) result) (W.view from.old) (W.view from.new) }
 {
     'lines: loop {
+        match pause_for(work, from, lines) {
+            Ok(()) => {}
+            Err(end) => return Err(LinesStop::Work(end)),
+        }
         let answer = match lines.next(from) {
             Ok(answer) => answer,
             Err(fault) => return Err(LinesStop::Fault(fault)),

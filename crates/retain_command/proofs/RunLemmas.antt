@@ -12,8 +12,8 @@ use Rattle.chart_world.specs.LineLaws.{says_text}
 use Rattle.chart_world.specs.Lines.{lines, split_lines, text_of}
 use Rattle.chart_world.specs.declared.line_answer.LineFault.TheVariants as fault
 use Rattle.line_runs.specs.Carried.{Carries, Done}
-use Rattle.line_runs.specs.CarriedLaws.{carries_both}
-use Rattle.line_runs.specs.Given.{AreFirst, Given, IsNext, Line, End, given_from, given_lines}
+use Rattle.line_runs.specs.CarriedLaws.{carries_both, carries_unpaused}
+use Rattle.line_runs.specs.Given.{AreFirst, Given, IsNext, Line, Pause, End, given_from, given_lines, unpaused}
 use Rattle.line_runs.specs.Given as lines_given
 use Rattle.line_runs.specs.Moments.{Since}
 use Rattle.line_runs.specs.Runs as runs
@@ -79,10 +79,18 @@ ruled_from at (part ∷ parts) held text behind follows =
           behind_is = here.behind_is;
         }
 
-ruled : (front : List ℕ) (held : Held) (text : List ℕ) (behind : Held) → Carries LineDoes held (given_lines front) text behind
+ruled_lines : (front : List ℕ) (held : Held) (text : List ℕ) (behind : Held) → Carries LineDoes held (given_lines front) text behind
     → Ruled held (lines front) text behind
 unfolding lines given_lines
-ruled front held text behind carries = ruled_from 0 (split_lines front) held text behind carries
+ruled_lines front held text behind carries = ruled_from 0 (split_lines front) held text behind carries
+
+-- these lines, with pauses
+ruled : (front : List ℕ) (given : List Given) (held : Held) (text : List ℕ) (behind : Held) → unpaused given ≡ given_lines front
+    → Carries LineDoes held given text behind → Ruled held (lines front) text behind
+ruled front given held text behind are carries =
+    let P : List Given → Type 0 = λ l. Carries LineDoes held l text behind in
+    ruled_lines front held text behind
+    (subst P are (carries_unpaused LineDoes (λ state none behind is. is) given held text behind carries))
 
 -- at the end nothing was done
 end_none : (held : Held) (text : List ℕ) (behind : Held) → Carries LineDoes held (End ∷ []) text behind → (text ≡ []) × (behind ≡ held)
@@ -90,16 +98,17 @@ end_none held text behind f = (f.texts ∙ ap (λ t. t ++ f.more) f.does.0 ∙ f
 
 module _ (total : ℕ) (book : List Series) (input : List ℕ) where
   -- all lines
-  all_so : (Told : Type 0) (image : Image) (before now : Option (List ℕ))
-      → runs.Runs LineDoes (held_by total book) runs.AreAll (IsHeld Told image) (Some input) before now
+  all_so : (Told : Type 0) (image : Image) (before now : Option (List ℕ)) (pieces pieces' : ℕ)
+      → runs.Runs LineDoes (held_by total book) (runs.AreAll pieces pieces') (IsHeld Told image) (Some input) before now
       → SweepsAll (Stands total image) total book input before now
-  all_so Told image before now all =
+  all_so Told image before now pieces pieces' all =
       let done = all.done in
       let P : List Given → Type 0 = λ l. Carries LineDoes (held_by total book) l done.text done.behind in
-      let both = carries_both LineDoes (given_lines input) (End ∷ []) (held_by total book) done.text done.behind
-      (subst P all.are done.carries) in
+      let are = all.are in
+      let both = carries_both LineDoes are.earlier (End ∷ []) (held_by total book) done.text done.behind
+      (subst P are.given_are done.carries) in
       let none = end_none both.between both.more done.behind both.others in
-      let r = ruled input (held_by total book) both.begin both.between both.begins in
+      let r = ruled input are.earlier (held_by total book) both.begin both.between are.lines_are both.begins in
       let S : Held → Type 0 = λ h. IsHeld Told image h in
       let same = both.texts ∙ ap (λ t. both.begin ++ t) none.0 ∙ append-nil both.begin ∙ r.text_is in
       record {
@@ -117,8 +126,7 @@ module _ (total : ℕ) (book : List Series) (input : List ℕ) where
 
   abbrev firsts : (done : Done LineDoes (held_by total book)) → AreFirst input done.given → Firsts done.text done.behind
   firsts done first =
-      let P : List Given → Type 0 = λ l. Carries LineDoes (held_by total book) l done.text done.behind in
-      let r = ruled first.front (held_by total book) done.text done.behind (subst P first.given_are done.carries) in
+      let r = ruled first.front done.given (held_by total book) done.text done.behind first.given_are done.carries in
       record {
         first = record {
           front = first.front;
@@ -215,29 +223,29 @@ module _ (total : ℕ) (book : List Series) (input : List ℕ) where
 
     next_stops : (next : Given) → IsNext (length first.front) first.rest next → (end : RetainEnd) → Stopped next end → Ended end
     next_stops (Line at line) (at_is, next) end why = line_so at at_is line (next_so (length first.front) first.rest line next) end why
+    next_stops Pause any end why = absurd why
     next_stops End none end why = absurd why
 
-  stops_so : {S : Type 0} (Told : Type 0) (image : S → Image) (sent : S → Option (List ℕ)) (left before : Option (List ℕ)) (new : S)
-      (e : LinesStop RetainEnd)
-      → runs.StopsSo LineDoes (λ held it end store was. LineStopsSo held it (image store) was (sent store) end)
-      (IsHeld Told (image new)) (held_by total book) (Some input) left before (sent new) new e
-      → EndsSo (Stands total (image new)) total book input left before (sent new) (end_of_stop e)
-  stops_so {S} Told image sent left before new (stop.Fault fault.ReadFault) is = record {
-    swept = first_so Told (image new) before (sent new) is.done.text is.done.behind (firsts is.done is.are.first) is.stands is.sent;
+  stops_so : (Told : Type 0) (image : Image) (left before now : Option (List ℕ)) (pieces pieces' : ℕ) (e : LinesStop RetainEnd)
+      → runs.StopsSo LineDoes (λ held it end was. LineStopsSo held it image was now end) (IsHeld Told image) (held_by total book)
+      (Some input) left before now pieces pieces' e
+      → EndsSo (Stands total image) total book input left before now (end_of_stop e)
+  stops_so Told image left before now pieces pieces' (stop.Fault fault.ReadFault) is = record {
+    swept = first_so Told image before now is.done.text is.done.behind (firsts is.done is.are.first) is.stands is.sent;
     whole = is.are.whole;
     behind = unended_so is.are.first.rest left is.are.behind;
   }
-  stops_so {S} Told image sent left before new (stop.Fault fault.InputTooLong) is = record {
-    swept = first_so Told (image new) before (sent new) is.done.text is.done.behind (firsts is.done is.are.first) is.stands is.sent;
+  stops_so Told image left before now pieces pieces' (stop.Fault fault.InputTooLong) is = record {
+    swept = first_so Told image before now is.done.text is.done.behind (firsts is.done is.are.first) is.stands is.sent;
     unended = is.are.unended;
     past = is.are.past;
   }
-  stops_so {S} Told image sent left before new (stop.Work end) is =
+  stops_so Told image left before now pieces pieces' (stop.Work end) is =
       let f = firsts is.done is.are.first in
-      let H : Held → Type 0 = λ h. LineStopsSo h is.next (image new) (sent_after is.done.text before) (sent new) end in
+      let H : Held → Type 0 = λ h. LineStopsSo h is.next image (sent_after is.done.text before) now end in
       let T : List ℕ → Type 0 = λ t.
-      LineStopsSo (held_by total (left_by total book input f.first)) is.next (image new) (sent_after t before) (sent new) end in
-      next_stops (image new) left before (sent new) f.first is.next is.are.next_is end (subst T f.text_is (subst H f.behind_is is.why))
+      LineStopsSo (held_by total (left_by total book input f.first)) is.next image (sent_after t before) now end in
+      next_stops image left before now f.first is.next is.are.next_is end (subst T f.text_is (subst H f.behind_is is.why))
 
   -- at each moment
   next_leaves : (from begun sent : ℕ) (image : Image) (first : FirstRules total book input)
@@ -263,6 +271,7 @@ module _ (total : ℕ) (book : List Series) (input : List ℕ) where
       all = λ more. m.all (omega (arith, more, begun_is));
     });
   }
+  next_leaves from begun sent image first begun_is Pause next none = absurd none
   next_leaves from begun sent image first begun_is End next none = absurd none
 
   ahead_so : (bytes : List ℕ) (from : ℕ) (image : Image) (sent : ℕ)
@@ -285,19 +294,19 @@ module _ (total : ℕ) (book : List Series) (input : List ℕ) where
 
 -- the same of an input that may be told
 module _ (total : ℕ) (book : List Series) where
-  pub all_told : (Told : Type 0) (image : Image) (o before now : Option (List ℕ))
-      → runs.Runs LineDoes (held_by total book) runs.AreAll (IsHeld Told image) o before now
+  pub all_told : (Told : Type 0) (image : Image) (o before now : Option (List ℕ)) (pieces pieces' : ℕ)
+      → runs.Runs LineDoes (held_by total book) (runs.AreAll pieces pieces') (IsHeld Told image) o before now
       → IfSome o (λ input. SweepsAll (Stands total image) total book input before now)
-  all_told Told image None before now all = tt
-  all_told Told image (Some input) before now all = all_so total book input Told image before now all
+  all_told Told image None before now pieces pieces' all = tt
+  all_told Told image (Some input) before now pieces pieces' all = all_so total book input Told image before now pieces pieces' all
 
-  pub stops_told : {S : Type 0} (Told : Type 0) (image : S → Image) (sent : S → Option (List ℕ)) (o left before : Option (List ℕ))
-      (new : S) (e : LinesStop RetainEnd)
-      → runs.StopsSo LineDoes (λ held it end store was. LineStopsSo held it (image store) was (sent store) end)
-      (IsHeld Told (image new)) (held_by total book) o left before (sent new) new e
-      → IfSome o (λ input. EndsSo (Stands total (image new)) total book input left before (sent new) (end_of_stop e))
-  stops_told {S} Told image sent None left before new e is = tt
-  stops_told {S} Told image sent (Some input) left before new e is = stops_so total book input Told image sent left before new e is
+  pub stops_told : (Told : Type 0) (image : Image) (o left before now : Option (List ℕ)) (pieces pieces' : ℕ) (e : LinesStop RetainEnd)
+      → runs.StopsSo LineDoes (λ held it end was. LineStopsSo held it image was now end) (IsHeld Told image) (held_by total book) o left
+      before now pieces pieces' e
+      → IfSome o (λ input. EndsSo (Stands total image) total book input left before now (end_of_stop e))
+  stops_told Told image None left before now pieces pieces' e is = tt
+  stops_told Told image (Some input) left before now pieces pieces' e is =
+      stops_so total book input Told image left before now pieces pieces' e is
 
   abbrev Lasts : Option (List ℕ) → Option (List ℕ) → View → View → Type 0
   Lasts o before old new = IfSome o (λ input. IfSome before (λ bytes.

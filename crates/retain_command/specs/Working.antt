@@ -6,7 +6,7 @@ use Rattle.retention.specs.Drops.{book_swept}
 use Rattle.retention.specs.Sweeps.{NamesNone}
 use Rattle.retention.specs.declared.rule.Rule.{Rule}
 use Rattle.retain_command.specs.Answers.{answer}
-use Rattle.line_runs.specs.Given.{Given, Line, End}
+use Rattle.line_runs.specs.Given.{Given, Line, Pause, End}
 use Rattle.line_runs.specs.declared.lines_stop.LinesStop.{LinesStop}
 use Rattle.line_runs.specs.declared.lines_stop.LinesStop.TheVariants as stop
 use Rattle.retain_command.specs.Doing.{end_of, LineMoment, LineStops, Untouched}
@@ -31,15 +31,17 @@ pub record RuleDoes (held : Held) (line : Option (List ℕ)) (text : List ℕ) (
   pub text_is : text ≡ answer held.total held.book rule
   pub behind_is : behind ≡ held_swept held rule
 
--- a line is empty, or such a rule; at the end nothing is done
+-- a line is empty, or such a rule; at a pause and at the end nothing is done
 abbrev pub LineDoes : Held → Given → List ℕ → Held → Type 0
 LineDoes held (Line at line) text behind = ((line ≡ Some []) × (text ≡ []) × (behind ≡ held)) ⊎ RuleDoes held line text behind
+LineDoes held Pause text behind = (text ≡ []) × (behind ≡ held)
 LineDoes held End text behind = (text ≡ []) × (behind ≡ held)
 
 -- why it stopped the run
 abbrev pub LineStopsSo : Held → Given → Image → Option (List ℕ) → Option (List ℕ) → RetainEnd → Type 0
 LineStopsSo held (Line at None) image before now end = (end ≡ BadLine at) × Untouched held.total held.book image before now
 LineStopsSo held (Line at (Some text)) image before now end = LineStops held.total held.book text at image before now end
+LineStopsSo held Pause image before now end = ⊥
 LineStopsSo held End image before now end = ⊥
 
 -- after it no line may be given
@@ -50,6 +52,7 @@ Harms end = end ≡ DiskFault
 abbrev pub LineLeaves : Held → Given → ℕ → Image → ℕ → Type 0
 LineLeaves held (Line at None) from image sent = ⊥
 LineLeaves held (Line at (Some text)) from image sent = LineMoment held.total held.book text from image sent
+LineLeaves held Pause from image sent = ⊥
 LineLeaves held End from image sent = ⊥
 
 -- what a stop of the lines is

@@ -49,6 +49,7 @@ fn send_swept<P: PageWorld>(
     ensures faults { CountsFault (fault_in retain_fault result) (shown.view store.old) (shown.view store.new) }
     ensures send_faults { P.send_faults (shown.pages store.old) ≤ P.send_faults (shown.pages store.new) }
     ensures left { P.left (shown.pages store.new) ≡ P.left (shown.pages store.old) }
+    ensures pieces { P.pieces (shown.pages store.new) ≡ P.pieces (shown.pages store.old) }
     ensures read_faults { P.read_faults (shown.pages store.new) ≡ P.read_faults (shown.pages store.old) }
     ensures beside { shown.Keeps (P.sends (length (swept_text swept.clears swept.used)) (shown.pages store.old) (shown.pages store.new)) store.old store.new }
 {
@@ -75,6 +76,7 @@ fn answer_rule<P: PageWorld>(
     ensures faults { CountsFault (fault_in retain_fault result) (shown.view store.old) (shown.view store.new) }
     ensures sound { result ≢ Err RetainEnd.DiskFault → shown.IsSound store.new }
     ensures left { P.left (shown.pages store.new) ≡ P.left (shown.pages store.old) }
+    ensures pieces { P.pieces (shown.pages store.new) ≡ P.pieces (shown.pages store.old) }
 {
     match sweep(store, rule) {
         Ok(swept) => send_swept(alloc, store, swept),
@@ -96,6 +98,7 @@ pub(crate) fn answer_line<P: PageWorld>(
     ensures faults { CountsFault (fault_in retain_fault result) (shown.view store.old) (shown.view store.new) }
     ensures sound { result ≢ Err RetainEnd.DiskFault → shown.IsSound store.new }
     ensures left { P.left (shown.pages store.new) ≡ P.left (shown.pages store.old) }
+    ensures pieces { P.pieces (shown.pages store.new) ≡ P.pieces (shown.pages store.old) }
 {
     if line.is_empty() {
         return Ok(());

@@ -1,4 +1,5 @@
 //! The work of `retain`: each line is a rule.
+ghost use Rattle.std.specs.Prelude.{⊤};
 ghost use Rattle.series_store.specs.Shown as shown;
 ghost use Rattle.stored_book.specs.Standing.{StandsForBook};
 ghost use Rattle.store_commands.specs.Sides.{side_of};
@@ -29,11 +30,13 @@ impl<P: PageWorld> LineWork<Store<P>, RetainEnd> for RuleWork {
 
     ghost stands = { λ held work store. shown.IsTold store × StandsForBook (shown.image store) held.total held.book };
 
+    ghost lasting = { λ held. ⊤ };
+
     ghost rests = { λ held image. StandsForBook image held.total held.book };
 
     ghost does = { LineDoes };
 
-    ghost stops = { λ held it end store before. LineStopsSo held it (shown.image store) before (P.sent (shown.pages store)) end };
+    ghost stops = { λ held it end work store before. LineStopsSo held it (shown.image store) before (P.sent (shown.pages store)) end };
 
     ghost leaves = { LineLeaves };
 
@@ -53,6 +56,10 @@ impl<P: PageWorld> LineWork<Store<P>, RetainEnd> for RuleWork {
         Err(RetainEnd::BadLine { at })
     }
 
+    fn pause(&mut self, from: &mut Store<P>) -> Result<(), RetainEnd> {
+        Ok(())
+    }
+
     fn finish(&mut self, from: &mut Store<P>) -> Result<(), RetainEnd> {
         Ok(())
     }
@@ -63,13 +70,15 @@ impl<P: PageWorld> LineWork<Store<P>, RetainEnd> for RuleWork {
 
     ghost stands_taken = { λ held work old new takes stands. (P.take_told (shown.pages old) (shown.pages new) takes.pages_are stands.0, stands_kept held (shown.view old) (shown.view new) (P.take_keeps (shown.pages old) (shown.pages new) takes.pages_are) stands.1) };
 
+    ghost lasting_on = { λ held it text behind did lasting. lasting };
+
     ghost take_keeps = { λ old new takes. P.take_keeps (shown.pages old) (shown.pages new) takes.pages_are };
 
     ghost take_passes = { λ old new takes. P.take_passes (shown.pages old) (shown.pages new) takes.pages_are };
 
     ghost take_goes = { λ old new takes sent reads sends pieces. goes_streams _ _ (P.take_keeps (shown.pages old) (shown.pages new) takes.pages_are) (P.take_told (shown.pages old) (shown.pages new) takes.pages_are) (P.take_was_told (shown.pages old) (shown.pages new) takes.pages_are) (P.take_goes_on (shown.pages old) (shown.pages new) takes.pages_are) (same_total takes.superblock) reads (no_less sends) };
 
-    ghost now_rests = { λ held work from at fit stands. now_stands held (shown.view from) (P.rests (shown.pages from) fit) stands.1 };
+    ghost now_rests = { λ held work from at fit stands lasting. now_stands held (shown.view from) (P.rests (shown.pages from) fit) stands.1 };
 
     ghost goes_none = { λ at. goes_nowhere _ };
 

@@ -11,8 +11,8 @@ use Rattle.chart_world.specs.Lines.{is_line_feed, lines, split_lines, text_of}
 use Rattle.chart_world.specs.declared.line_answer.LineFault.TheVariants as fault
 use Rattle.gate_pages.specs.Pages.{Quiet}
 use Rattle.line_runs.specs.Carried.{Carries, Done}
-use Rattle.line_runs.specs.CarriedLaws.{carries_both}
-use Rattle.line_runs.specs.Given.{AreBefore, Given, Line, End, given_from, given_lines}
+use Rattle.line_runs.specs.CarriedLaws.{carries_both, carries_unpaused}
+use Rattle.line_runs.specs.Given.{AreBefore, Given, Line, Pause, End, given_from, given_lines, unpaused}
 use Rattle.line_runs.specs.Given as lines_given
 use Rattle.line_runs.specs.Moments.{Since}
 use Rattle.line_runs.specs.Runs as runs
@@ -42,11 +42,13 @@ use Rattle.series_load.proofs.SetLemmas.{after_then, loads_then}
 abbrev told_of : List Given → List PlacedLine
 told_of [] = []
 told_of (Line at line ∷ later) = if_told at line ++ told_of later
+told_of (Pause ∷ later) = told_of later
 told_of (End ∷ later) = told_of later
 
 abbrev AreLines : List Given → Type 0
 AreLines [] = Unit {0}
 AreLines (Line at line ∷ later) = AreLines later
+AreLines (Pause ∷ later) = ⊥
 AreLines (End ∷ later) = ⊥
 
 told_from : (at : ℕ) (parts : List (List ℕ)) → told_of (given_from at parts) ≡ filter (λ (line : PlacedLine). says line.text)
@@ -118,6 +120,19 @@ reached (Line at (Some line) ∷ later) held text behind follows =
           rest.open_run rest.points in
           subst L (append_assoc before (if_told at (Some line)) (told_of later)) (subst R (append_assoc others did.ends rest.runs)
           (rest.reads only (before ++ if_told at (Some line)) (others ++ did.ends) (did.adds before others read)));
+      behind_is = rest.behind_is;
+    }
+reached (Pause ∷ later) held text behind follows =
+    let P : Held → Type 0 = λ h. Reached h later behind in
+    let rest : Reached held later behind = subst P follows.does.1 (reached later follows.between follows.more behind follows.others) in
+    record {
+      runs = rest.runs;
+      book = rest.book;
+      first = rest.first;
+      open_run = rest.open_run;
+      points = rest.points;
+      loads = rest.loads;
+      reads = λ only. absurd only;
       behind_is = rest.behind_is;
     }
 reached (End ∷ later) held text behind follows =
@@ -280,8 +295,9 @@ module _ (total : ℕ) (name : List ℕ) (book : List Series) (series : Series) 
   }
 
   module _ (done : Done LoadDoes start) where
-    abbrev r : Reached start done.given done.behind
-    r = reached done.given start done.text done.behind done.carries
+    abbrev r : Reached start (unpaused done.given) done.behind
+    r = reached (unpaused done.given) start done.text done.behind
+        (carries_unpaused LoadDoes (λ state none behind is. is) done.given start done.text done.behind done.carries)
 
     abbrev there : Held
     there = moved start r.book r.first r.open_run r.points
@@ -318,6 +334,7 @@ module _ (total : ℕ) (name : List ℕ) (book : List Series) (series : Series) 
         let h = heard input b.first in
         let next = next_of input h.front h.rest (Some text) h.begins b.next_is.1 in
         line_first series.scale series.step input r.runs r.first r.open_run r.points h at text ends b.next_is.0 next so
+    next_first Pause input b ends new none = absurd none
     next_first End input b ends new closes =
         let h = heard input b.first in
         stop_first series.scale series.step input r.runs r.first r.open_run r.points h (inl b.next_is) ends new closes
@@ -379,6 +396,7 @@ module _ (total : ℕ) (name : List ℕ) (book : List Series) (series : Series) 
         let next = next_of input h.front h.rest (Some text) h.begins b.next_is.1 in
         bad_at input place image h (bad.at_is ∙ b.next_is.0)
         (bad_text series.scale series.step input r.runs r.first r.open_run r.points h text next bad.some bad.bad) bad.after
+    next_bad Pause input place image b bad = absurd bad
     next_bad End input place image b bad = absurd bad
 
     bad_some : (it : Given) (o : Option (List ℕ)) (place : ℕ) (image : Image) → IfSome o (λ input. AreBefore input done.given it)
@@ -389,6 +407,7 @@ module _ (total : ℕ) (name : List ℕ) (book : List Series) (series : Series) 
         ended_so o image (closed r.open_run) (next_firsts (Line at (Some text)) o are (closed r.open_run) None
         (ends_bad series.scale series.step at text r.first r.open_run r.points (closed r.open_run) None bad.some bad.bad (refl, refl)))
         bad.after
+    bad_some Pause o place image are bad = absurd bad
     bad_some End o place image are bad = absurd bad
 
     -- where the work stopped
@@ -425,10 +444,10 @@ module _ (total : ℕ) (name : List ℕ) (book : List Series) (series : Series) 
     ends_so it input left image NoMemory are why = tt
 
     -- at a fault of the input
-    taken_so : (input : List ℕ) (left : Option (List ℕ)) (image : Image) → StandsForBook image total r.book
-        → runs.AreTaken left input done.given → EndsLoad total name book series input left image ReadFault
-    taken_so input None image stands t = tt
-    taken_so input (Some l) image stands t =
+    taken_so : (input : List ℕ) (left : Option (List ℕ)) (pieces pieces' : ℕ) (image : Image) → StandsForBook image total r.book
+        → runs.AreTaken pieces pieces' left input done.given → EndsLoad total name book series input left image ReadFault
+    taken_so input None pieces pieces' image stands t = tt
+    taken_so input (Some l) pieces pieces' image stands t =
         let h = heard input t.first in
         let R : List ℕ → Type 0 = λ rest. Rattle.series_load.specs.Rows.ReadsRows series.scale input h.front rest h.read.rows in
         record {
@@ -443,9 +462,9 @@ module _ (total : ℕ) (name : List ℕ) (book : List Series) (series : Series) 
           after = record { new = r.book; loads = r.loads; stands = stands };
         }
 
-    within_so : (input : List ℕ) (left : Option (List ℕ)) (image : Image) → StandsForBook image total r.book
-        → runs.AreWithin input done.given → EndsLoad total name book series input left image InputTooLong
-    within_so input left image stands w =
+    within_so : (input : List ℕ) (left : Option (List ℕ)) (pieces pieces' : ℕ) (image : Image) → StandsForBook image total r.book
+        → runs.AreWithin pieces pieces' input done.given → EndsLoad total name book series input left image InputTooLong
+    within_so input left pieces pieces' image stands w =
         let h = heard input w.first in
         record {
           front = h.front;
@@ -495,24 +514,25 @@ module _ (total : ℕ) (name : List ℕ) (book : List Series) (series : Series) 
   -- the input was read to its end
   module _ (IsNow : Held → Type 0) (image : Image) (points : ℕ)
       (stands : (held : Held) → IsNow held → StandsForBook image held.total held.book × (held.points ≡ points))
-      (before now : Option (List ℕ)) where
+      (before now : Option (List ℕ)) (pieces pieces' : ℕ) where
     abbrev All : Option (List ℕ) → Type 0
-    All o = runs.Runs LoadDoes start runs.AreAll IsNow o before now
+    All o = runs.Runs LoadDoes start (runs.AreAll pieces pieces') IsNow o before now
 
     loaded_both : (input : List ℕ) → length input ≤ 2 ^ 32 → All (Some input) → IsLoaded total name book series input points image ×
         IsAfterSome total name book series (Some input) image
     loaded_both input within all =
         let P : List Given → Type 0 = λ l. Carries LoadDoes start l all.done.text all.done.behind in
-        let both = carries_both LoadDoes (given_lines input) (End ∷ []) start all.done.text all.done.behind
-        (subst P all.are all.done.carries) in
+        let are = all.are in
+        let both = carries_both LoadDoes are.earlier (End ∷ []) start all.done.text all.done.behind
+        (subst P are.given_are all.done.carries) in
         let done : Done LoadDoes start = record
-        { given = given_lines input; text = both.begin; behind = both.between; carries = both.begins } in
-        let f : lines_given.AreFirst input (given_lines input) = record {
+        { given = are.earlier; text = both.begin; behind = both.between; carries = both.begins } in
+        let f : lines_given.AreFirst input are.earlier = record {
           front = input;
           rest = [];
           begins = record { split = sym (append-nil input); whole = inr refl };
           early = within;
-          given_are = refl;
+          given_are = are.lines_are;
         } in
         let h = heard done input f in
         let at = r done in
@@ -544,59 +564,59 @@ module _ (total : ℕ) (name : List ℕ) (book : List Series) (series : Series) 
     )
     loaded_so (Some input) within all = loaded_both input within all
 
-  pub finished_so : (told : Type 0) (loader : Loader) (o before now : Option (List ℕ)) (old new : View) → since ≡ old.clock
-      → count ≡ sent_now old → IfSome o (λ input. length input ≤ 2 ^ 32) → runs.Runs LoadDoes start runs.AreAll
-      (StandsSo told new loader) o before now
+  pub finished_so : (told : Type 0) (loader : Loader) (o before now : Option (List ℕ)) (pieces pieces' : ℕ) (old new : View) → since ≡ old.clock
+      → count ≡ sent_now old → IfSome o (λ input. length input ≤ 2 ^ 32) → runs.Runs LoadDoes start
+      (runs.AreAll pieces pieces') (StandsSo told new loader) o before now
       → Since old new (runs.IsAhead LoadDoes (λ held i. StandsForBook i held.total held.book) LoadLeaves start o before (sent_now old))
       → Finished total name book series o loader.points old new
-  finished_so told loader o before now old new since_is count_is within all lasts =
+  finished_so told loader o before now pieces pieces' old new since_is count_is within all lasts =
       let quiet = transport all.done (λ h. NoneSent h.since h.count new) all.stands.quiet in
       let both = loaded_so (StandsSo told new loader) new.image loader.points
-      (λ held s. (s.stands, ap (λ (h : Held). h.points) s.seen_is)) before now o within all in
+      (λ held s. (s.stands, ap (λ (h : Held). h.points) s.seen_is)) before now pieces pieces' o within all in
       record { done = both.0; some = both.1; moments = moments_so o before old new since_is count_is quiet lasts }
 
   -- not all of it was
-  pub stopped_so : (told : Type 0) (loader : Loader) (o left before now : Option (List ℕ)) (old : View) {S : Type 0} (view : S → View)
-      (new : S) (stop : LinesStop LoadEnd) → since ≡ old.clock → count ≡ sent_now old
-      → runs.StopsSo LoadDoes (λ held it end store was. LoadStops held it (view store) end) (StandsSo told (view new) loader) start o
-      left before now new stop
-      → Since old (view new)
+  pub stopped_so : (told : Type 0) (loader : Loader) (o left before now : Option (List ℕ)) (pieces pieces' : ℕ) (old new : View)
+      (stop : LinesStop LoadEnd) → since ≡ old.clock → count ≡ sent_now old
+      → runs.StopsSo LoadDoes (λ held it end was. LoadStops held it new end) (StandsSo told new loader) start o
+      left before now pieces pieces' stop
+      → Since old new
       (runs.IsAhead LoadDoes (λ held i. StandsForBook i held.total held.book) LoadLeaves start o before (sent_now old))
-      → Stopped total name book series o left (end_of_stop stop) old (view new)
-  stopped_so told loader o left before now old {S} view new (stop.Fault fault.ReadFault) since_is count_is is lasts =
-      let stands = transport is.done (λ h. StandsForBook (view new).image h.total h.book) is.stands.stands in
-      let quiet = transport is.done (λ h. NoneSent h.since h.count (view new)) is.stands.quiet in
+      → Stopped total name book series o left (end_of_stop stop) old new
+  stopped_so told loader o left before now pieces pieces' old new (stop.Fault fault.ReadFault) since_is count_is is lasts =
+      let stands = transport is.done (λ h. StandsForBook new.image h.total h.book) is.stands.stands in
+      let quiet = transport is.done (λ h. NoneSent h.since h.count new) is.stands.quiet in
       record {
-        ends = told_so (λ input. runs.AreTaken left input is.done.given)
-            (λ input. EndsLoad total name book series input left (view new).image ReadFault) o
-            (λ input t. taken_so is.done input left (view new).image stands t) is.are;
-        some = some_so is.done o (view new).image
+        ends = told_so (λ input. runs.AreTaken pieces pieces' left input is.done.given)
+            (λ input. EndsLoad total name book series input left new.image ReadFault) o
+            (λ input t. taken_so is.done input left pieces pieces' new.image stands t) is.are;
+        some = some_so is.done o new.image
             (firsts_of is.done o
-            (told_so (λ input. runs.AreTaken left input is.done.given) (λ input. lines_given.AreFirst input is.done.given) o
+            (told_so (λ input. runs.AreTaken pieces pieces' left input is.done.given) (λ input. lines_given.AreFirst input is.done.given) o
             (λ input t. t.first) is.are)) stands;
-        moments = moments_so o before old (view new) since_is count_is quiet lasts;
+        moments = moments_so o before old new since_is count_is quiet lasts;
       }
-  stopped_so told loader o left before now old {S} view new (stop.Fault fault.InputTooLong) since_is count_is is lasts =
-      let stands = transport is.done (λ h. StandsForBook (view new).image h.total h.book) is.stands.stands in
-      let quiet = transport is.done (λ h. NoneSent h.since h.count (view new)) is.stands.quiet in
+  stopped_so told loader o left before now pieces pieces' old new (stop.Fault fault.InputTooLong) since_is count_is is lasts =
+      let stands = transport is.done (λ h. StandsForBook new.image h.total h.book) is.stands.stands in
+      let quiet = transport is.done (λ h. NoneSent h.since h.count new) is.stands.quiet in
       record {
-        ends = told_so (λ input. runs.AreWithin input is.done.given)
-            (λ input. EndsLoad total name book series input left (view new).image InputTooLong) o
-            (λ input t. within_so is.done input left (view new).image stands t) is.are;
-        some = some_so is.done o (view new).image
+        ends = told_so (λ input. runs.AreWithin pieces pieces' input is.done.given)
+            (λ input. EndsLoad total name book series input left new.image InputTooLong) o
+            (λ input t. within_so is.done input left pieces pieces' new.image stands t) is.are;
+        some = some_so is.done o new.image
             (firsts_of is.done o
-            (told_so (λ input. runs.AreWithin input is.done.given) (λ input. lines_given.AreFirst input is.done.given) o
+            (told_so (λ input. runs.AreWithin pieces pieces' input is.done.given) (λ input. lines_given.AreFirst input is.done.given) o
             (λ input t. t.first) is.are)) stands;
-        moments = moments_so o before old (view new) since_is count_is quiet lasts;
+        moments = moments_so o before old new since_is count_is quiet lasts;
       }
-  stopped_so told loader o left before now old {S} view new (stop.Work end) since_is count_is is lasts =
-      let stops = transport is.done (λ h. LoadStops h is.next (view new) end) is.why in
+  stopped_so told loader o left before now pieces pieces' old new (stop.Work end) since_is count_is is lasts =
+      let stops = transport is.done (λ h. LoadStops h is.next new end) is.why in
       record {
         ends = told_so (λ input. AreBefore input is.done.given is.next)
-            (λ input. EndsLoad total name book series input left (view new).image end) o
-            (λ input b. ends_so is.done is.next input left (view new).image end b stops.why) is.are;
-        some = keeps_so is.done is.next o (view new).image end is.are stops.why;
-        moments = moments_so o before old (view new) since_is count_is stops.quiet lasts;
+            (λ input. EndsLoad total name book series input left new.image end) o
+            (λ input b. ends_so is.done is.next input left new.image end b stops.why) is.are;
+        some = keeps_so is.done is.next o new.image end is.are stops.why;
+        moments = moments_so o before old new since_is count_is stops.quiet lasts;
       }
 
 -- before the first line

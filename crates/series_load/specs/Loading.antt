@@ -1,7 +1,7 @@
 -- What a load holds on its way, and what is done of a line.
 use Rattle.std.specs.Prelude.{◌≡◌, ℕ, ◌≤◌, Bool, List, [], Option, None, Some}
 use Rattle.block_disk.specs.View.{Image, View}
-use Rattle.line_runs.specs.Given.{Given, Line, End}
+use Rattle.line_runs.specs.Given.{Given, Line, Pause, End}
 use Rattle.line_runs.specs.declared.lines_stop.LinesStop.{LinesStop}
 use Rattle.line_runs.specs.declared.lines_stop.LinesStop.TheVariants as stop
 use Rattle.series_book.specs.declared.one_series.Series.{Series}
@@ -91,18 +91,21 @@ pub record EndTaken (held : Held) (text : List ℕ) (behind : Held) : Type 0 whe
 abbrev pub LoadDoes : Held → Given → List ℕ → Held → Type 0
 LoadDoes held (Line at None) text behind = ⊥
 LoadDoes held (Line at (Some line)) text behind = LineTaken held at line text behind
+LoadDoes held Pause text behind = (text ≡ []) × (behind ≡ held)
 LoadDoes held End text behind = EndTaken held text behind
 
 -- the runs that may end, and what is done of a bad line
 abbrev pub EndsBy : Held → Given → List Run → Option Run → Type 0
 EndsBy held (Line at None) ends new = Closes held.open_run ends new
 EndsBy held (Line at (Some line)) ends new = LineEnds held.scale held.step at line held.first held.open_run held.points ends
+EndsBy held Pause ends new = ⊥
 EndsBy held End ends new = Closes held.open_run ends new
 
 abbrev pub BadBy : Held → Given → Image → ℕ → Type 0
 BadBy held (Line at None) image place = TooLongDone at held.total held.name held.book held.open_run image place
 BadBy held (Line at (Some line)) image place =
     BadDone held.scale at held.first line held.total held.name held.book held.open_run image place
+BadBy held Pause image place = ⊥
 BadBy held End image place = NoBad place
 
 -- why it stopped the load, and what a crash leaves meanwhile

@@ -1,5 +1,5 @@
 //! The lines of a load, as a work.
-ghost use Rattle.std.specs.Prelude.{◌≤◌, ◌≢◌};
+ghost use Rattle.std.specs.Prelude.{◌≤◌, ◌≢◌, ⊤};
 ghost use Rattle.series_load.specs.Faults.{load_fault};
 ghost use Rattle.series_load.specs.Loading.{Harms, Held, LoadDoes, LoadLeaves, LoadStops, StandsSo};
 ghost use Rattle.series_load.specs.LoadingLaws.{cause_later, fewer, now_stands, stands_taken};
@@ -25,11 +25,13 @@ impl<P: PageWorld> LineWork<Store<P>, LoadEnd> for Loader {
 
     ghost stands = { λ held loader store. StandsSo (shown.IsTold store) (shown.view store) loader held };
 
+    ghost lasting = { λ held. ⊤ };
+
     ghost rests = { λ held image. StandsForBook image held.total held.book };
 
     ghost does = { LoadDoes };
 
-    ghost stops = { λ held it end store before. LoadStops held it (shown.view store) end };
+    ghost stops = { λ held it end loader store before. LoadStops held it (shown.view store) end };
 
     ghost leaves = { LoadLeaves };
 
@@ -49,6 +51,10 @@ impl<P: PageWorld> LineWork<Store<P>, LoadEnd> for Loader {
         Err(self.stop(from, at))
     }
 
+    fn pause(&mut self, from: &mut Store<P>) -> Result<(), LoadEnd> {
+        Ok(())
+    }
+
     fn finish(&mut self, from: &mut Store<P>) -> Result<(), LoadEnd> {
         self.close(from)
     }
@@ -59,13 +65,15 @@ impl<P: PageWorld> LineWork<Store<P>, LoadEnd> for Loader {
 
     ghost stands_taken = { λ held loader old new takes. stands_taken (shown.IsTold old) (shown.IsTold new) (shown.view old) (shown.view new) loader held (P.take_told (shown.pages old) (shown.pages new) takes.pages_are) (P.take_keeps (shown.pages old) (shown.pages new) takes.pages_are) (P.take_passes (shown.pages old) (shown.pages new) takes.pages_are) };
 
+    ghost lasting_on = { λ held it text behind did lasting. lasting };
+
     ghost take_keeps = { λ old new takes. P.take_keeps (shown.pages old) (shown.pages new) takes.pages_are };
 
     ghost take_passes = { λ old new takes. P.take_passes (shown.pages old) (shown.pages new) takes.pages_are };
 
     ghost take_goes = { λ old new takes sent reads sends pieces. goes_take _ _ (P.take_keeps (shown.pages old) (shown.pages new) takes.pages_are) (P.take_told (shown.pages old) (shown.pages new) takes.pages_are) (P.take_was_told (shown.pages old) (shown.pages new) takes.pages_are) (P.take_goes_on (shown.pages old) (shown.pages new) takes.pages_are) (same_total takes.superblock) (same_count takes.catalog) sent reads sends pieces };
 
-    ghost now_rests = { λ held loader from at fit stands. now_stands held (shown.view from) (P.rests (shown.pages from) fit.0) stands.stands };
+    ghost now_rests = { λ held loader from at fit stands lasting. now_stands held (shown.view from) (P.rests (shown.pages from) fit.0) stands.stands };
 
     ghost goes_none = { λ at. goes_nowhere _ };
 

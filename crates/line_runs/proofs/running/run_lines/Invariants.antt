@@ -1,8 +1,8 @@
 use Rattle.std.proofs.Common.{◌≡◌, ◌+◌, ◌-◌, ◌^◌, ◌≤◌, length, None, IsTrue}
 use Rattle.chart_world.specs.Faults.{CountsFault}
 use Rattle.chart_world.specs.Fronts.{StandsIn}
-use Rattle.chart_world.specs.Reading.{unread, input_length}
-use Rattle.line_runs.proofs.GoingLemmas.{Going, Lasts}
+use Rattle.chart_world.specs.Reading.{input_length}
+use Rattle.line_runs.proofs.GoingLemmas.{Going, Lasts, Stands}
 use Rattle.line_runs.proofs.running.run_lines.Given as goal
 
 -- the lines given so far were done
@@ -21,10 +21,11 @@ invariant-lines g l =
       goes : w.goes l.initial.from l.from;
       quiet : CountsFault None (w.view l.initial.from) (w.view l.from);
       far : (state : w.State) → w.stands state l.initial.work l.initial.from
-          → Going w.does w.rests w.leaves w.stops state (left l.initial.from) (λ s. w.stands s l.work l.from)
-          (unread l.lines (left l.from)) l.lines.given (sent l.initial.from) (sent l.from);
-      lasts : (state : w.State) → w.stands state l.initial.work l.initial.from
-          → Lasts w.does w.rests w.leaves w.stops state (left l.initial.from) (sent l.initial.from) (w.view l.initial.from) (w.view l.from);
+          → Going w.does w.rests w.leaves state (left l.initial.from)
+          (Stands l.lines (left l.from) (g.S.Streams.pieces l.initial.from) (g.S.Streams.pieces l.from))
+          (λ s. w.stands s l.work l.from) (sent l.initial.from) (sent l.from);
+      lasts : (state : w.State) → w.stands state l.initial.work l.initial.from → w.lasting state
+          → Lasts w.does w.rests w.leaves state (left l.initial.from) (sent l.initial.from) (w.view l.initial.from) (w.view l.from);
     }
 
 abbrev pub decreases-lines : goal.decreases-lines

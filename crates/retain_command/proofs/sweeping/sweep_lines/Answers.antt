@@ -26,7 +26,8 @@ returns-in-Ok-run_lines-clause-done g c = λ total book told stands.
     let pages = shown.pages c.args.store.now in
     let new = c.run_lines.new.from in
     all_told total book (shown.IsTold new) (shown.image new) (g.P.Streams.left pages) (g.P.Streams.sent pages)
-    (g.P.Streams.sent (shown.pages new)) (c.in-Ok-run_lines.ensures.done (record { total = total; book = book }) (told, stands))
+    (g.P.Streams.sent (shown.pages new))
+    (g.P.Streams.pieces pages) (g.P.Streams.pieces (shown.pages new)) (c.in-Ok-run_lines.ensures.done (record { total = total; book = book }) (told, stands))
 
 pub returns-clause-stops : goal.returns-clause-stops
 returns-clause-stops g c = λ total book told stands.
@@ -36,20 +37,20 @@ returns-clause-stops g c = λ total book told stands.
     let new = c.run_lines.new.from in
     let E : RetainEnd → Type 0 = λ end. StopSo g.P.Streams total book c.args.store.now new end in
     subst E (sym c.end_of_stop.ensures)
-    (stops_told total book (shown.IsTold new) shown.image (λ s. sent (shown.pages s)) (left pages) (left (shown.pages new))
-    (sent pages) new c.in-Err.stop (c.in-Err.ensures.stops (record { total = total; book = book }) (told, stands)))
+    (stops_told total book (shown.IsTold new) (shown.image new) (left pages) (left (shown.pages new)) (sent pages)
+    (sent (shown.pages new)) (g.P.Streams.pieces pages) (g.P.Streams.pieces (shown.pages new)) c.in-Err.stop (c.in-Err.ensures.stops (record { total = total; book = book }) (told, stands)))
 
 pub returns-in-Ok-run_lines-clause-crash : goal.returns-in-Ok-run_lines-clause-crash
 returns-in-Ok-run_lines-clause-crash g c = λ total book told stands.
     let pages = shown.pages c.args.store.now in
     lasts_told total book (g.P.Streams.left pages) (g.P.Streams.sent pages) (shown.view c.args.store.now)
-    (shown.view c.run_lines.new.from) (c.run_lines.ensures.crash (record { total = total; book = book }) (told, stands))
+    (shown.view c.run_lines.new.from) (c.run_lines.ensures.crash (record { total = total; book = book }) (told, stands) tt)
 
 pub returns-clause-crash : goal.returns-clause-crash
 returns-clause-crash g c = λ total book told stands.
     let pages = shown.pages c.args.store.now in
     lasts_told total book (g.P.Streams.left pages) (g.P.Streams.sent pages) (shown.view c.args.store.now)
-    (shown.view c.run_lines.new.from) (c.run_lines.ensures.crash (record { total = total; book = book }) (told, stands))
+    (shown.view c.run_lines.new.from) (c.run_lines.ensures.crash (record { total = total; book = book }) (told, stands) tt)
 
 -- another end than a fault of the disk does no harm
 harmless : (s : LinesStop RetainEnd) (end : RetainEnd) → end ≡ end_of_stop s → harms_of Harms s → end ≡ DiskFault

@@ -20,8 +20,9 @@ returns-in-Ok-clause-outcome g c = λ total book series told stands step scale.
     step scale in
     finished_so total loader.name book series at.clock (sent_now at) (shown.IsTold new) c.run_lines.new.work
     (g.P.Streams.left (shown.pages old))
-    (g.P.Streams.sent (shown.pages old)) (g.P.Streams.sent (shown.pages new)) at (shown.view new) refl refl c.in-Ok.ensures.within
-    (c.in-Ok.ensures.done begin is) (c.run_lines.ensures.crash begin is)
+    (g.P.Streams.sent (shown.pages old)) (g.P.Streams.sent (shown.pages new)) (g.P.Streams.pieces (shown.pages old))
+    (g.P.Streams.pieces (shown.pages new)) at (shown.view new) refl refl c.in-Ok.ensures.within
+    (c.in-Ok.ensures.done begin is) (c.run_lines.ensures.crash begin is tt)
 
 pub returns-in-Err-clause-outcome : goal.returns-in-Err-clause-outcome
 returns-in-Err-clause-outcome g c = λ total book series told stands step scale.
@@ -38,6 +39,7 @@ returns-in-Err-clause-outcome g c = λ total book series told stands step scale.
     (shown.view new) in
     subst E (sym c.end_of_stop.ensures)
     (stopped_so total loader.name book series at.clock (sent_now at) (shown.IsTold new) c.run_lines.new.work
-    (left (shown.pages old)) (left (shown.pages new)) (sent (shown.pages old)) (sent (shown.pages new)) at shown.view new
+    (left (shown.pages old)) (left (shown.pages new)) (sent (shown.pages old)) (sent (shown.pages new)) (g.P.Streams.pieces (shown.pages old))
+    (g.P.Streams.pieces (shown.pages new)) at (shown.view new)
     c.in-Err.stop refl refl
-    (c.in-Err.ensures.stops begin is) (c.run_lines.ensures.crash begin is))
+    (c.in-Err.ensures.stops begin is) (c.run_lines.ensures.crash begin is tt))

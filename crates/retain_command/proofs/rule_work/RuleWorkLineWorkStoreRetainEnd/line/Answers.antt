@@ -21,4 +21,4 @@ returns-clause-stops g c = λ held stands.
     c.answer_line.result (e.does held.total held.book stands.0 stands.1)
 
 pub returns-clause-leaves : goal.returns-clause-leaves
-returns-clause-leaves g c = λ held stands. (c.answer_line.ensures.does held.total held.book stands.0 stands.1).moments
+returns-clause-leaves g c = λ held stands lasting. (c.answer_line.ensures.does held.total held.book stands.0 stands.1).moments

@@ -40,7 +40,7 @@ returns-clause-stops g c = λ held stands.
     c.take_line.result (e.does held.total held.book held.open_run stands.is_told stands.stands stands.keeps)
 
 pub returns-clause-leaves : goal.returns-clause-leaves
-returns-clause-leaves g c = λ held stands.
+returns-clause-leaves g c = λ held stands lasting.
     let sent = g.P.Streams.sent in
     let w = g.met.P.PageWorld in
     let loader = c.args.self.now in
