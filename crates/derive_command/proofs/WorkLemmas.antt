@@ -1,7 +1,7 @@
 -- What a line of `derive` does, as a work of lines says it.
-use Rattle.std.proofs.Common.{◌≡◌, ℕ, ◌≤◌, List, Option, Result, Ok, Err, refl, sym, subst}
+use Rattle.std.proofs.Common.{ℕ, ◌≤◌, List, Option, Result, Ok, Err, refl, sym, subst}
 use Rattle.std.specs.Prelude.{OnOk, IfErr}
-use Rattle.block_disk.specs.View.{Image, View, Now, sent_now}
+use Rattle.block_disk.specs.View.{Image, Now, sent_now}
 use Rattle.line_runs.specs.Carried.{DoesOne}
 use Rattle.line_runs.specs.Given.{Line}
 use Rattle.line_runs.specs.MomentLaws.{through_by}
