@@ -1,12 +1,11 @@
 -- What lines of `derive` sent, by what a run of lines says.
-use Rattle.std.proofs.Common.{◌≡◌, ◌≢◌, ◌∙◌, ℕ, ◌+◌, ◌≤◌, ◌^◌, ◌⊎◌, Bool, cond, List, [], ◌∷◌, ◌++◌, length, map, Option, Some, None, Result, Ok, Err, IfSome, refl, ap, sym, subst, inl, inr}
+use Rattle.std.proofs.Common.{◌≡◌, ◌≢◌, ◌∙◌, ℕ, ◌+◌, ◌≤◌, ◌^◌, Bool, cond, List, [], ◌∷◌, ◌++◌, length, map, Option, Some, None, Result, Ok, Err, IfSome, refl, ap, sym, subst, inl, inr}
 use Rattle.std.specs.List.{filter}
 use Rattle.std.specs.Prelude.{IfErr, OnOk}
 use Rattle.std.proofs.lemmas.List.{append-nil}
 use Rattle.block_disk.specs.Counts.{HasRisen}
 use Rattle.block_disk.specs.SentLaws.{sent_none}
 use Rattle.block_disk.specs.Streams.{sent_after}
-use Rattle.block_disk.specs.View.{View}
 use Rattle.chart_world.specs.Faults.{CountsFault, OfTake, fault_in}
 use Rattle.chart_world.specs.Fronts.{says}
 use Rattle.chart_world.specs.Lines.{lines, split_lines, text_of}
@@ -24,7 +23,7 @@ use Rattle.series_book.specs.declared.one_series.Series.{Series}
 use Rattle.store_commands.specs.Sides.{Side, AreBeside}
 use Rattle.store_commands.specs.Status.{end_fault}
 use Rattle.derive_command.specs.Doing.{IsCause, IsSaid, LineStops}
-use Rattle.derive_command.specs.Lines.{AreAnswers, DrawsAll, DrawsFirst, EndsSo, FirstLines}
+use Rattle.derive_command.specs.Lines.{AreAnswers, DrawsAll, EndsSo, FirstLines}
 use Rattle.derive_command.specs.Working.{LineDoes, LineStopsSo, end_of}
 use Rattle.derive_command.proofs.LineLemmas.{no_lines, says_true}
 

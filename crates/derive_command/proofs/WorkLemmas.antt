@@ -1,5 +1,5 @@
 -- What a line of `derive` does, as a work of lines says it.
-use Rattle.std.proofs.Common.{◌≡◌, ℕ, List, Option, Result, Ok, Err, refl, sym, subst}
+use Rattle.std.proofs.Common.{ℕ, List, Option, Result, Ok, Err, refl, sym, subst}
 use Rattle.std.specs.Prelude.{OnOk, IfErr}
 use Rattle.block_disk.specs.View.{Image}
 use Rattle.line_runs.specs.Carried.{DoesOne}
