@@ -1,10 +1,10 @@
 -- A request is answered, and a line; and what calls move.
-use Rattle.std.proofs.Common.{◌≡◌, ◌≢◌, ◌∙◌, ℕ, ℤ, ◌≤◌, List, [], ◌∷◌, length, Option, None, Some, Result, Ok, Err, refl, ap, sym, subst, arith, inl, inr}
+use Rattle.std.proofs.Common.{◌≡◌, ◌∙◌, ℕ, ℤ, ◌≤◌, List, [], ◌∷◌, length, Option, None, Some, Result, Ok, Err, refl, ap, sym, subst, arith, inl, inr}
 use Rattle.std.specs.Prelude.{OnOk, IfErr, IsTrue}
 use Rattle.block_disk.specs.SentLaws.{sent_none}
 use Rattle.block_disk.specs.Counts.{HasRisen}
 use Rattle.block_disk.specs.Streams.{sent_after, PartSent}
-use Rattle.block_disk.specs.View.{View, Beside, DiskKept, Now, Passes, sent_now}
+use Rattle.block_disk.specs.View.{Beside, DiskKept, Now, Passes, sent_now}
 use Rattle.chart_world.specs.Fronts.{says}
 use Rattle.gate_pages.specs.Pages.{GoesOn}
 use Rattle.line_raster.specs.Canvas.{Canvas}
@@ -13,7 +13,7 @@ use Rattle.pbm_writer.specs.Picture.{picture}
 use Rattle.plain_chart.specs.declared.value_range.ValueRange.{ValueRange}
 use Rattle.retention.specs.Moving.{Looks}
 use Rattle.run_ends.specs.declared.ending.End.{End}
-use Rattle.run_ends.specs.declared.ending.End.TheVariants.{NoMemory, ReadFault, SendFault, DiskFault, DamagedPage, BadInput, InputTooLong, RefusedLine}
+use Rattle.run_ends.specs.declared.ending.End.TheVariants.{NoMemory, SendFault, DiskFault, BadInput, RefusedLine}
 use Rattle.series_book.specs.declared.one_series.Series.{Series}
 use Rattle.series_catalog.specs.declared.catalog.Catalog.{Catalog}
 use Rattle.series_pair.specs.Derived.{HasLargeSum, IsChartAnswer, IsChartCause, IsDerivedChart, sum_fault}

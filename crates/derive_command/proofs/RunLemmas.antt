@@ -1,20 +1,19 @@
 -- What lines of `derive` sent, by what a run of lines says.
-use Rattle.std.proofs.Common.{◌≡◌, ◌≢◌, ◌∙◌, ℕ, ◌+◌, ◌≤◌, ◌^◌, ◌⊎◌, Bool, cond, List, [], ◌∷◌, ◌++◌, length, map, Option, Some, None, Result, Ok, Err, IfSome, refl, ap, sym, subst, inl, inr}
+use Rattle.std.proofs.Common.{◌≡◌, ◌≢◌, ◌∙◌, ℕ, ◌+◌, ◌≤◌, ◌^◌, Bool, cond, List, [], ◌∷◌, ◌++◌, length, map, Option, Some, None, Result, Ok, Err, IfSome, refl, ap, sym, subst, inl, inr}
 use Rattle.std.specs.List.{filter}
 use Rattle.std.specs.Prelude.{IfErr, OnOk}
 use Rattle.std.proofs.lemmas.List.{append-nil}
 use Rattle.block_disk.specs.Counts.{HasRisen}
 use Rattle.block_disk.specs.SentLaws.{sent_none}
 use Rattle.block_disk.specs.Streams.{sent_after}
-use Rattle.block_disk.specs.View.{View}
 use Rattle.chart_world.specs.Faults.{CountsFault, OfTake, fault_in}
 use Rattle.chart_world.specs.Fronts.{says}
 use Rattle.chart_world.specs.Lines.{lines, split_lines, text_of}
 use Rattle.chart_world.specs.declared.line_answer.LineFault.TheVariants as fault
 use Rattle.line_runs.specs.Carried.{Carries, Done}
-use Rattle.line_runs.specs.CarriedLaws.{carries_both}
+use Rattle.line_runs.specs.CarriedLaws.{carries_both, carries_unpaused}
 use Rattle.line_runs.specs.Given as given
-use Rattle.line_runs.specs.Given.{AreFirst, Given, IsNext, NextLine, given_from, given_lines}
+use Rattle.line_runs.specs.Given.{AreFirst, Given, IsNext, NextLine, given_from, given_lines, unpaused}
 use Rattle.line_runs.specs.Runs as runs
 use Rattle.line_runs.specs.declared.lines_stop.LinesStop.{LinesStop}
 use Rattle.line_runs.specs.declared.lines_stop.LinesStop.TheVariants as stop
@@ -24,7 +23,7 @@ use Rattle.series_book.specs.declared.one_series.Series.{Series}
 use Rattle.store_commands.specs.Sides.{Side, AreBeside}
 use Rattle.store_commands.specs.Status.{end_fault}
 use Rattle.derive_command.specs.Doing.{IsCause, IsSaid, LineStops}
-use Rattle.derive_command.specs.Lines.{AreAnswers, DrawsAll, DrawsFirst, EndsSo, FirstLines}
+use Rattle.derive_command.specs.Lines.{AreAnswers, DrawsAll, EndsSo, FirstLines}
 use Rattle.derive_command.specs.Working.{LineDoes, LineStopsSo, end_of}
 use Rattle.derive_command.proofs.LineLemmas.{no_lines, says_true}
 
@@ -49,30 +48,34 @@ answered_from at (part ∷ parts) book text behind follows =
         let R : Bool → Type 0 = λ v. AreAnswers book (cond v (line ∷ filter says (map text_of parts)) (filter says (map text_of parts))) text in
         record { are = subst R (sym (says_true line is.request is.says_it)) (follows.first, follows.more, is, rest.are, follows.texts); behind_is = rest.behind_is }
 
-answered : (front : List ℕ) (book : List Series) (text : List ℕ) (behind : List Series) → Carries LineDoes book (given_lines front) text behind → Answered book (lines front) text behind
+answered_lines : (front : List ℕ) (book : List Series) (text : List ℕ) (behind : List Series) → Carries LineDoes book (given_lines front) text behind → Answered book (lines front) text behind
 unfolding lines given_lines
-answered front book text behind carries = answered_from 0 (split_lines front) book text behind carries
+answered_lines front book text behind carries = answered_from 0 (split_lines front) book text behind carries
+
+answered : (front : List ℕ) (done : List Given) (book : List Series) (text : List ℕ) (behind : List Series) → unpaused done ≡ given_lines front → Carries LineDoes book done text behind → Answered book (lines front) text behind
+answered front done book text behind are carries =
+    let P : List Given → Type 0 = λ l. Carries LineDoes book l text behind in
+    answered_lines front book text behind (subst P are (carries_unpaused LineDoes (λ state said later did. (did.1, did.0)) done book text behind carries))
 
 -- at the end nothing is sent
 end_none : (book : List Series) (text : List ℕ) (behind : List Series) → Carries LineDoes book (given.End ∷ []) text behind → text ≡ []
 end_none book text behind f = f.texts ∙ ap (λ t. t ++ f.more) f.does.1 ∙ f.others.0
 
 module _ (book : List Series) (input : List ℕ) where
-  all_so : (IsNow : List Series → Type 0) (before now : Option (List ℕ)) → runs.Runs LineDoes book runs.AreAll IsNow (Some input) before now → DrawsAll book input before now
-  all_so IsNow before now all =
+  all_so : (IsNow : List Series → Type 0) (before now : Option (List ℕ)) (pieces pieces' : ℕ) → runs.Runs LineDoes book (runs.AreAll pieces pieces') IsNow (Some input) before now → DrawsAll book input before now
+  all_so IsNow before now pieces pieces' all =
       let done = all.done in
+      let are = all.are in
       let P : List Given → Type 0 = λ l. Carries LineDoes book l done.text done.behind in
-      let both = carries_both LineDoes (given_lines input) (given.End ∷ []) book done.text done.behind (subst P all.are done.carries) in
-      let first = answered input book both.begin both.between both.begins in
+      let both = carries_both LineDoes are.earlier (given.End ∷ []) book done.text done.behind (subst P are.given_are done.carries) in
+      let first = answered input are.earlier book both.begin both.between are.lines_are both.begins in
       let none = end_none both.between both.more done.behind both.others in
       let same = both.texts ∙ ap (λ t. both.begin ++ t) none ∙ append-nil both.begin in
       record { text = both.begin; answers = first.are; sent = all.sent ∙ ap (λ t. sent_after t before) same }
 
   -- some first lines
   firsts_are : (done : Done LineDoes book) (first : AreFirst input done.given) → Answered book (lines first.front) done.text done.behind
-  firsts_are done first =
-      let P : List Given → Type 0 = λ l. Carries LineDoes book l done.text done.behind in
-      answered first.front book done.text done.behind (subst P first.given_are done.carries)
+  firsts_are done first = answered first.front done.given book done.text done.behind first.given_are done.carries
 
   abbrev firsts : (done : Done LineDoes book) → AreFirst input done.given → FirstLines book input
   firsts done first = record {
@@ -122,35 +125,36 @@ module _ (book : List Series) (input : List ℕ) where
 
     next_ends : (next : Given) → IsNext (length first.front) first.rest next → (end : End) → LineStopsSo book next (sent_after first.text before) now end → EndsSo book input left before now end
     next_ends (given.Line at line) (at_is, next) end why = line_ends at line at_is next end why
+    next_ends given.Pause next end why = absurd why
     next_ends given.End none end why = absurd why
 
   -- how the run ended
-  ends_so : {T S : Type 0} (IsNow : List Series → Type 0) (sent : S → Option (List ℕ)) (left before : Option (List ℕ)) (new : S) (answer : Result T (LinesStop End))
-      → OnOk answer (runs.Runs LineDoes book runs.AreAll IsNow (Some input) before (sent new))
-      → IfErr answer (runs.StopsSo LineDoes (λ b it end store was. LineStopsSo b it was (sent store) end) IsNow book (Some input) left before (sent new) new)
-      → EndsSo book input left before (sent new) (end_of answer)
-  ends_so {T} {S} IsNow sent left before new (Ok v) all is = all_so IsNow before (sent new) all
-  ends_so {T} {S} IsNow sent left before new (Err (stop.Fault fault.ReadFault)) all is = record {
+  ends_so : {T : Type 0} (IsNow : List Series → Type 0) (left before now : Option (List ℕ)) (pieces pieces' : ℕ) (answer : Result T (LinesStop End))
+      → OnOk answer (runs.Runs LineDoes book (runs.AreAll pieces pieces') IsNow (Some input) before now)
+      → IfErr answer (runs.StopsSo LineDoes (λ b it end was. LineStopsSo b it was now end) IsNow book (Some input) left before now pieces pieces')
+      → EndsSo book input left before now (end_of answer)
+  ends_so {T} IsNow left before now pieces pieces' (Ok v) all is = all_so IsNow before now pieces pieces' all
+  ends_so {T} IsNow left before now pieces pieces' (Err (stop.Fault fault.ReadFault)) all is = record {
     drawn = record { first = firsts is.done is.are.first; sent = is.sent };
     whole = is.are.whole;
     behind = is.are.behind;
   }
-  ends_so {T} {S} IsNow sent left before new (Err (stop.Fault fault.InputTooLong)) all is = record {
+  ends_so {T} IsNow left before now pieces pieces' (Err (stop.Fault fault.InputTooLong)) all is = record {
     drawn = record { first = firsts is.done is.are.first; sent = is.sent };
     unended = is.are.unended;
     past = is.are.past;
   }
-  ends_so {T} {S} IsNow sent left before new (Err (stop.Work end)) all is =
-      let B : List Series → Type 0 = λ b. LineStopsSo b is.next (sent_after is.done.text before) (sent new) end in
-      next_ends left before (sent new) (firsts is.done is.are.first) is.next is.are.next_is end (subst B (firsts_are is.done is.are.first).behind_is is.why)
+  ends_so {T} IsNow left before now pieces pieces' (Err (stop.Work end)) all is =
+      let B : List Series → Type 0 = λ b. LineStopsSo b is.next (sent_after is.done.text before) now end in
+      next_ends left before now (firsts is.done is.are.first) is.next is.are.next_is end (subst B (firsts_are is.done is.are.first).behind_is is.why)
 
 -- the same of an input that may be told
-pub ends_told : {T S : Type 0} (book : List Series) (IsNow : List Series → Type 0) (sent : S → Option (List ℕ)) (input left before : Option (List ℕ)) (new : S) (answer : Result T (LinesStop End))
-    → OnOk answer (runs.Runs LineDoes book runs.AreAll IsNow input before (sent new))
-    → IfErr answer (runs.StopsSo LineDoes (λ b it end store was. LineStopsSo b it was (sent store) end) IsNow book input left before (sent new) new)
-    → IfSome input (λ bytes. EndsSo book bytes left before (sent new) (end_of answer))
-ends_told {T} {S} book IsNow sent None left before new answer all is = tt
-ends_told {T} {S} book IsNow sent (Some bytes) left before new answer all is = ends_so book bytes IsNow sent left before new answer all is
+pub ends_told : {T : Type 0} (book : List Series) (IsNow : List Series → Type 0) (input left before now : Option (List ℕ)) (pieces pieces' : ℕ) (answer : Result T (LinesStop End))
+    → OnOk answer (runs.Runs LineDoes book (runs.AreAll pieces pieces') IsNow input before now)
+    → IfErr answer (runs.StopsSo LineDoes (λ b it end was. LineStopsSo b it was now end) IsNow book input left before now pieces pieces')
+    → IfSome input (λ bytes. EndsSo book bytes left before now (end_of answer))
+ends_told {T} book IsNow None left before now pieces pieces' answer all is = tt
+ends_told {T} book IsNow (Some bytes) left before now pieces pieces' answer all is = ends_so book bytes IsNow left before now pieces pieces' answer all is
 
 -- where no line was given
 pub none_told : (book : List Series) (input left before : Option (List ℕ)) → IfSome input (λ bytes. EndsSo book bytes left before before ends.NoMemory)

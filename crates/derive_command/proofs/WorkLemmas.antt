@@ -1,11 +1,9 @@
 -- What a line of `derive` does, as a work of lines says it.
-use Rattle.std.proofs.Common.{◌≡◌, ℕ, ◌≤◌, List, Option, Result, Ok, Err, refl, sym, subst}
+use Rattle.std.proofs.Common.{ℕ, List, Option, Result, Ok, Err, refl, sym, subst}
 use Rattle.std.specs.Prelude.{OnOk, IfErr}
-use Rattle.block_disk.specs.View.{Image, View, Now, sent_now}
+use Rattle.block_disk.specs.View.{Image}
 use Rattle.line_runs.specs.Carried.{DoesOne}
 use Rattle.line_runs.specs.Given.{Line}
-use Rattle.line_runs.specs.MomentLaws.{through_by}
-use Rattle.line_runs.specs.Moments.{Through}
 use Rattle.run_ends.specs.declared.ending.End.{End}
 use Rattle.series_book.specs.declared.one_series.Series.{Series}
 use Rattle.stored_book.specs.Standing.{StandsForBook}
@@ -28,6 +26,3 @@ pub work_stops : {T : Type 0} (book : List Series) (line : Option (List ℕ)) (a
     → IfErr result (λ end. LineStopsSo book (Line at line) before now end)
 work_stops {T} book line at before now (Ok v) does = tt
 work_stops {T} book line at before now (Err end) does = does.stops
-
-pub any_leaves : (old new : Side) → Goes old new → Through old.view new.view (λ image sent. Unit {0})
-any_leaves old new goes = through_by old.view new.view (Now old.view) (λ count. (sent_now old.view ≤ count) × (count ≤ sent_now new.view)) (λ image sent. Unit {0}) goes.time (λ image count left sent. tt)

@@ -1,5 +1,5 @@
 -- What is asked, what is done of one line, and what calls move. Private contracts are stated by these words.
-use Rattle.std.specs.Prelude.{◌≡◌, ℕ, ◌<◌, ◌≤◌, ◌⊎◌, List, [], Option, None, Some, Result, Ok, Err, IfErr, IsTrue, OnOk, ⊤}
+use Rattle.std.specs.Prelude.{◌≡◌, ℕ, ◌<◌, ◌≤◌, ◌⊎◌, List, [], Option, Some, Result, Ok, Err, IfErr, IsTrue, OnOk, ⊤}
 use Rattle.block_disk.specs.Counts.{HasRisen}
 use Rattle.block_disk.specs.Streams.{sent_after, PartSent}
 use Rattle.block_disk.specs.View.{Now, Passes, sent_now}

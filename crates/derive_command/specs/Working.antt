@@ -1,5 +1,5 @@
 -- What a line of `derive` sends, and why it stops the run.
-use Rattle.std.specs.Prelude.{◌≡◌, ℕ, List, [], Option, Result, Ok, Err, ⊤}
+use Rattle.std.specs.Prelude.{◌≡◌, ℕ, List, [], Option, Result, Ok, Err}
 use Rattle.block_disk.specs.View.{Image}
 use Rattle.chart_world.specs.declared.line_answer.LineFault.TheVariants as fault
 use Rattle.line_runs.specs.Given as given
@@ -15,14 +15,16 @@ use Rattle.derive_command.specs.Doing.{IsSaid, LineStops}
 abbrev pub StandFor : Type 0 → Image → List Series → Type 0
 StandFor Told image book = Told × ((total : ℕ) × StandsForBook image total book)
 
--- the book stays; at the end nothing is sent
+-- the book stays; at a pause and at the end nothing is sent
 abbrev pub LineDoes : List Series → given.Given → List ℕ → List Series → Type 0
 LineDoes book (given.Line at line) text behind = (behind ≡ book) × IsSaid book line text
+LineDoes book given.Pause text behind = (behind ≡ book) × (text ≡ [])
 LineDoes book given.End text behind = (behind ≡ book) × (text ≡ [])
 
 -- why a line stopped the run
 abbrev pub LineStopsSo : List Series → given.Given → Option (List ℕ) → Option (List ℕ) → End → Type 0
 LineStopsSo book (given.Line at line) before now end = LineStops book line at before now end
+LineStopsSo book given.Pause before now end = ⊥
 LineStopsSo book given.End before now end = ⊥
 
 -- how a run ended by what the loop over its lines answers

@@ -57,6 +57,7 @@ fn send_picture<P: PageWorld>(
     ensures cause { result ≡ Err End.SendFault → HasRisen (P.send_faults (shown.pages store.old)) (P.send_faults (shown.pages store.new)) }
     ensures send_faults { P.send_faults (shown.pages store.old) ≤ P.send_faults (shown.pages store.new) }
     ensures left { P.left (shown.pages store.new) ≡ P.left (shown.pages store.old) }
+    ensures pieces { P.pieces (shown.pages store.new) ≡ P.pieces (shown.pages store.old) }
     ensures read_faults { P.read_faults (shown.pages store.new) ≡ P.read_faults (shown.pages store.old) }
     ensures beside { shown.Keeps (P.sends (length (picture chart.now)) (shown.pages store.old) (shown.pages store.new)) store.old store.new }
     ensures faults { CountsFault (fault_in end_fault result) (shown.view store.old) (shown.view store.new) }
@@ -84,6 +85,7 @@ fn answer_request<P: PageWorld>(
     ensures goes { Goes (side_of P.Streams store.old) (side_of P.Streams store.new) }
     ensures cause { IfErr result (λ e. IsCause e (side_of P.Streams store.old) (side_of P.Streams store.new)) }
     ensures left { P.left (shown.pages store.new) ≡ P.left (shown.pages store.old) }
+    ensures pieces { P.pieces (shown.pages store.new) ≡ P.pieces (shown.pages store.old) }
     ensures faults { CountsFault (fault_in end_fault result) (shown.view store.old) (shown.view store.new) }
 {
     let asked = match asked_of(&*store, request) {
@@ -117,6 +119,7 @@ pub(crate) fn answer_line<P: PageWorld>(
     ensures goes { Goes (side_of P.Streams store.old) (side_of P.Streams store.new) }
     ensures cause { IfErr result (λ e. IsCause e (side_of P.Streams store.old) (side_of P.Streams store.new)) }
     ensures left { P.left (shown.pages store.new) ≡ P.left (shown.pages store.old) }
+    ensures pieces { P.pieces (shown.pages store.new) ≡ P.pieces (shown.pages store.old) }
     ensures faults { CountsFault (fault_in end_fault result) (shown.view store.old) (shown.view store.new) }
 {
     if line.is_empty() {

@@ -31,11 +31,13 @@ impl<P: PageWorld> LineWork<Store<P>, End> for RequestWork {
     ghost stands = { λ book work store. StandFor (shown.IsTold store) (shown.image store) book };
 
     // what a crash leaves is said by `goes`, whatever the pages are
+    ghost lasting = { λ book. ⊥ };
+
     ghost rests = { λ book image. ⊤ };
 
     ghost does = { LineDoes };
 
-    ghost stops = { λ book it end store before. LineStopsSo book it before (P.sent (shown.pages store)) end };
+    ghost stops = { λ book it end work store before. LineStopsSo book it before (P.sent (shown.pages store)) end };
 
     ghost leaves = { λ book it from image sent. ⊤ };
 
@@ -55,6 +57,10 @@ impl<P: PageWorld> LineWork<Store<P>, End> for RequestWork {
         Err(End::BadInput { at: u64::from(at) })
     }
 
+    fn pause(&mut self, from: &mut Store<P>) -> Result<(), End> {
+        Ok(())
+    }
+
     fn finish(&mut self, from: &mut Store<P>) -> Result<(), End> {
         Ok(())
     }
@@ -65,13 +71,15 @@ impl<P: PageWorld> LineWork<Store<P>, End> for RequestWork {
 
     ghost stands_taken = { λ book work old new takes stands. stand_kept (shown.view old) (shown.view new) book (P.take_told (shown.pages old) (shown.pages new) takes.pages_are) (P.take_keeps (shown.pages old) (shown.pages new) takes.pages_are) stands };
 
+    ghost lasting_on = { λ book it text behind did lasting. lasting };
+
     ghost take_keeps = { λ old new takes. P.take_keeps (shown.pages old) (shown.pages new) takes.pages_are };
 
     ghost take_passes = { λ old new takes. P.take_passes (shown.pages old) (shown.pages new) takes.pages_are };
 
     ghost take_goes = { λ old new takes sent reads sends pieces. goes_takes _ _ (P.take_keeps (shown.pages old) (shown.pages new) takes.pages_are) (P.take_passes (shown.pages old) (shown.pages new) takes.pages_are) (P.take_told (shown.pages old) (shown.pages new) takes.pages_are) (P.take_was_told (shown.pages old) (shown.pages new) takes.pages_are) (P.take_goes_on (shown.pages old) (shown.pages new) takes.pages_are) (same_total takes.superblock) reads (no_less sends) };
 
-    ghost now_rests = { λ book work from at fit stands image left. tt };
+    ghost now_rests = { λ book work from at fit stands lasting image left. tt };
 
     ghost goes_none = { λ at. goes_nowhere _ };
 

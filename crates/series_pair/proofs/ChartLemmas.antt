@@ -27,7 +27,7 @@ use Rattle.series_store.specs.declared.store.Store.{Store}
 use Rattle.stored_book.specs.Standing.{StandsForBook}
 use Rattle.series_store.proofs.SelectedLemmas.{book_there}
 use Rattle.series_pair.specs.AskLaws.{causes_later, pair_agrees, still_are_pair}
-use Rattle.series_pair.specs.Asking.{ArePair, Causes, GoesPair, IsPair, IsReady}
+use Rattle.series_pair.specs.Asking.{ArePair, Causes, GoesPair, IsReady}
 use Rattle.series_pair.specs.Derived.{AreRowsAnswer, AreSamplesOf, AreShifted, AreUnlike, IsChartCause, IsSumError, axis_of, sum_fault}
 use Rattle.series_pair.specs.Drawing.{error_of}
 use Rattle.series_pair.specs.declared.store_pair.StorePair.{StorePair}

@@ -96,6 +96,13 @@ returns-in-Ok-chart-clause-left g c =
     let mid = shown.pages c.chart_of_sum-chart.new.store in
     c.send_picture.ensures.left ∙ sym (w.beside_left mid) ∙ ap (λ (b : Beside). b.left) c.chart_of_sum-chart.ensures.looks.beside ∙ w.beside_left first
 
+pub returns-in-Ok-chart-clause-pieces : goal.returns-in-Ok-chart-clause-pieces
+returns-in-Ok-chart-clause-pieces g c =
+    let w = g.met.P.PageWorld in
+    let first = shown.pages c.args.store.now in
+    let mid = shown.pages c.chart_of_sum-chart.new.store in
+    c.send_picture.ensures.pieces ∙ sym (w.beside_pieces mid) ∙ ap (λ (b : Beside). b.pieces) c.chart_of_sum-chart.ensures.looks.beside ∙ w.beside_pieces first
+
 pub returns-in-Err-chart-clause-goes : goal.returns-in-Err-chart-clause-goes
 returns-in-Err-chart-clause-goes g c =
     let w = g.met.P.PageWorld in
@@ -122,6 +129,13 @@ returns-in-Err-chart-clause-left g c =
     let first = shown.pages c.args.store.now in
     let mid = shown.pages c.chart_of_sum-chart.new.store in
     sym (w.beside_left mid) ∙ ap (λ (b : Beside). b.left) c.chart_of_sum-chart.ensures.looks.beside ∙ w.beside_left first
+
+pub returns-in-Err-chart-clause-pieces : goal.returns-in-Err-chart-clause-pieces
+returns-in-Err-chart-clause-pieces g c =
+    let w = g.met.P.PageWorld in
+    let first = shown.pages c.args.store.now in
+    let mid = shown.pages c.chart_of_sum-chart.new.store in
+    sym (w.beside_pieces mid) ∙ ap (λ (b : Beside). b.pieces) c.chart_of_sum-chart.ensures.looks.beside ∙ w.beside_pieces first
 
 pub returns-in-Ok-chart-clause-faults : goal.returns-in-Ok-chart-clause-faults
 returns-in-Ok-chart-clause-faults g c =

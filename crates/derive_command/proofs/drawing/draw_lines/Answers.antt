@@ -25,7 +25,8 @@ returns-clause-ends g c = λ total book told stands.
     let e = c.run_lines-answer.ensures in
     let E : End → Type 0 = λ end. EndsOn g.P.Streams book c.args.store.now new end in
     subst E (sym c.end_of.ensures)
-    (ends_told book (λ b. StandFor (shown.IsTold new) (shown.image new) b) (λ s. sent (shown.pages s)) (left pages) (left (shown.pages new)) (sent pages) new c.run_lines-answer.result
+    (ends_told book (λ b. StandFor (shown.IsTold new) (shown.image new) b) (left pages) (left (shown.pages new)) (sent pages) (sent (shown.pages new))
+    (g.P.Streams.pieces pages) (g.P.Streams.pieces (shown.pages new)) c.run_lines-answer.result
     (e.done book (told, (total, stands))) (e.stops book (told, (total, stands))))
 
 pub returns-clause-within : goal.returns-clause-within

@@ -1,7 +1,6 @@
 use Rattle.std.proofs.Common.{◌∙◌}
 use Rattle.series_store.proofs.AskLemmas.{start_same}
 use Rattle.series_pair.proofs.ChartLemmas.{axis_same, first_slots}
-use Rattle.series_pair.specs.Asking.{GoesPair}
 use Rattle.series_pair.proofs.drawing.first_axis.Goals as goal
 
 pub returns-clause-axis : goal.returns-clause-axis
