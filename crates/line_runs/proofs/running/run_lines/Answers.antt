@@ -154,7 +154,7 @@ returns-in-Err-next-clause-crash g c = λ state stands lasting.
     (pausing.leaves (inv.far state stands).done.behind (inv.far state stands).stands lasting_far) (inv.lasts state stands lasting) in
     let so_far = lasts_take w.does w.rests w.leaves state (left first) (Waiting r (left paused) (pieces first) (pieces paused))
     (λ s. w.stands s work paused) (sent first) (sent paused) ready (λ input is. is.first) (w.view first) (w.view paused) (w.view taken)
-    (laws.counts_sent first) (laws.counts_sent paused) 
+    (laws.counts_sent first) (laws.counts_sent paused)
     (laws.now_rests ready.done.behind work paused r.given pauses.fit ready.stands
     (carries_on w.does w.lasting laws.lasting_on ready.done.given state ready.done.text ready.done.behind ready.done.carries lasting))
     (laws.take_passes paused taken takes) lasts_paused in
@@ -252,7 +252,7 @@ returns-in-Ok-finish-clause-crash g c = λ state stands lasting.
     (pausing.leaves (inv.far state stands).done.behind (inv.far state stands).stands lasting_far) (inv.lasts state stands lasting) in
     let so_far = lasts_take w.does w.rests w.leaves state (left first) (Waiting r (left paused) (pieces first) (pieces paused))
     (λ s. w.stands s work paused) (sent first) (sent paused) ready (λ input is. is.first) (w.view first) (w.view paused) (w.view taken)
-    (laws.counts_sent first) (laws.counts_sent paused) 
+    (laws.counts_sent first) (laws.counts_sent paused)
     (laws.now_rests ready.done.behind work paused r.given pauses.fit ready.stands
     (carries_on w.does w.lasting laws.lasting_on ready.done.given state ready.done.text ready.done.behind ready.done.carries lasting))
     (laws.take_passes paused taken takes) lasts_paused in
@@ -298,7 +298,7 @@ returns-in-Err-finish-clause-crash g c = λ state stands lasting.
     (pausing.leaves (inv.far state stands).done.behind (inv.far state stands).stands lasting_far) (inv.lasts state stands lasting) in
     let so_far = lasts_take w.does w.rests w.leaves state (left first) (Waiting r (left paused) (pieces first) (pieces paused))
     (λ s. w.stands s work paused) (sent first) (sent paused) ready (λ input is. is.first) (w.view first) (w.view paused) (w.view taken)
-    (laws.counts_sent first) (laws.counts_sent paused) 
+    (laws.counts_sent first) (laws.counts_sent paused)
     (laws.now_rests ready.done.behind work paused r.given pauses.fit ready.stands
     (carries_on w.does w.lasting laws.lasting_on ready.done.given state ready.done.text ready.done.behind ready.done.carries lasting))
     (laws.take_passes paused taken takes) lasts_paused in
@@ -419,43 +419,43 @@ lines-preserved-in-Ok-long_line g c =
       quiet = counts_then None (w.view first) (w.view taken) (w.view c.long_line.new.from) calm c.in-Ok-long_line.ensures.faults;
       far = λ state stands.
           let here = waiting w.does w.rests w.leaves state (left first) (λ s. w.stands s c.lines.work mid) (λ s. w.stands s work paused)
-    (λ s. w.stands s work taken) r (left mid) (left paused) (pieces first) (pieces mid) (pieces paused) (sent first) (sent mid)
-    (sent paused) (sent taken) pausing.left pausing.pieces (λ s. laws.stands_taken s work paused taken takes) next.sent
-    (inv.far state stands) (pauses.does (inv.far state stands).done.behind (inv.far state stands).stands) in
+          (λ s. w.stands s work taken) r (left mid) (left paused) (pieces first) (pieces mid) (pieces paused) (sent first) (sent mid)
+          (sent paused) (sent taken) pausing.left pausing.pieces (λ s. laws.stands_taken s work paused taken takes) next.sent
+          (inv.far state stands) (pauses.does (inv.far state stands).done.behind (inv.far state stands).stands) in
           let G : Option (List ℕ) → Type 0 = λ l. Going w.does w.rests w.leaves state (left first)
           (Stands r' l (pieces first) (pieces c.long_line.new.from)) (λ s. w.stands s c.long_line.new.self c.long_line.new.from) (sent first) (sent c.long_line.new.from) in
           subst G (sym c.long_line.ensures.left)
           (going_one w.does w.rests w.leaves state (left first) (Waiting r (left paused) (pieces first) (pieces paused)) (λ s. w.stands s work taken) (sent first) (sent taken) here
           (Stands r' (left taken) (pieces first) (pieces c.long_line.new.from)) (λ s. w.stands s c.long_line.new.self c.long_line.new.from) (Line at_long None) (sent c.long_line.new.from)
           (line_at here.done.given r r' (left paused) (left taken) None gives_long e.within at_long at_long_is (pieces first) (pieces paused)
-    (pieces taken) (pieces c.long_line.new.from) (λ has. ap pieces (next.waits has)) e.took next.pieces c.long_line.ensures.pieces)
+          (pieces taken) (pieces c.long_line.new.from) (λ has. ap pieces (next.waits has)) e.took next.pieces c.long_line.ensures.pieces)
           (c.in-Ok-long_line.ensures.does here.done.behind here.stands));
       lasts = λ state stands lasting.
           let here = waiting w.does w.rests w.leaves state (left first) (λ s. w.stands s c.lines.work mid) (λ s. w.stands s work paused)
-    (λ s. w.stands s work taken) r (left mid) (left paused) (pieces first) (pieces mid) (pieces paused) (sent first) (sent mid)
-    (sent paused) (sent taken) pausing.left pausing.pieces (λ s. laws.stands_taken s work paused taken takes) next.sent
-    (inv.far state stands) (pauses.does (inv.far state stands).done.behind (inv.far state stands).stands) in
+          (λ s. w.stands s work taken) r (left mid) (left paused) (pieces first) (pieces mid) (pieces paused) (sent first) (sent mid)
+          (sent paused) (sent taken) pausing.left pausing.pieces (λ s. laws.stands_taken s work paused taken takes) next.sent
+          (inv.far state stands) (pauses.does (inv.far state stands).done.behind (inv.far state stands).stands) in
           let ready = waiting w.does w.rests w.leaves state (left first) (λ s. w.stands s c.lines.work mid) (λ s. w.stands s work paused)
-    (λ s. w.stands s work paused) r (left mid) (left paused) (pieces first) (pieces mid) (pieces paused) (sent first) (sent mid)
-    (sent paused) (sent paused) pausing.left pausing.pieces (λ s is. is) refl (inv.far state stands)
-    (pauses.does (inv.far state stands).done.behind (inv.far state stands).stands) in
+          (λ s. w.stands s work paused) r (left mid) (left paused) (pieces first) (pieces mid) (pieces paused) (sent first) (sent mid)
+          (sent paused) (sent paused) pausing.left pausing.pieces (λ s is. is) refl (inv.far state stands)
+          (pauses.does (inv.far state stands).done.behind (inv.far state stands).stands) in
           let lasting_far = carries_on w.does w.lasting laws.lasting_on (inv.far state stands).done.given state (inv.far state stands).done.text
-    (inv.far state stands).done.behind (inv.far state stands).done.carries lasting in
+          (inv.far state stands).done.behind (inv.far state stands).done.carries lasting in
           let lasting_here = carries_on w.does w.lasting laws.lasting_on here.done.given state here.done.text here.done.behind here.done.carries lasting in
           let lasts_paused = lasts_one w.does w.rests w.leaves state (left first) (Stands r (left mid) (pieces first) (pieces mid))
-    (λ s. w.stands s c.lines.work mid) (sent first) (sent mid) (inv.far state stands) Pause (w.view first) (w.view mid) (w.view paused)
-    (laws.counts_sent first) (laws.counts_sent mid)
-    (pause_next (inv.far state stands).done.given r (left mid) (pieces first) (pieces mid) (pieces paused) pausing.pieces)
-    (pausing.leaves (inv.far state stands).done.behind (inv.far state stands).stands lasting_far) (inv.lasts state stands lasting) in
+          (λ s. w.stands s c.lines.work mid) (sent first) (sent mid) (inv.far state stands) Pause (w.view first) (w.view mid) (w.view paused)
+          (laws.counts_sent first) (laws.counts_sent mid)
+          (pause_next (inv.far state stands).done.given r (left mid) (pieces first) (pieces mid) (pieces paused) pausing.pieces)
+          (pausing.leaves (inv.far state stands).done.behind (inv.far state stands).stands lasting_far) (inv.lasts state stands lasting) in
           let so_far = lasts_take w.does w.rests w.leaves state (left first) (Waiting r (left paused) (pieces first) (pieces paused))
-    (λ s. w.stands s work paused) (sent first) (sent paused) ready (λ input is. is.first) (w.view first) (w.view paused) (w.view taken)
-    (laws.counts_sent first) (laws.counts_sent paused) 
-    (laws.now_rests ready.done.behind work paused r.given pauses.fit ready.stands
-    (carries_on w.does w.lasting laws.lasting_on ready.done.given state ready.done.text ready.done.behind ready.done.carries lasting))
-    (laws.take_passes paused taken takes) lasts_paused in
+          (λ s. w.stands s work paused) (sent first) (sent paused) ready (λ input is. is.first) (w.view first) (w.view paused) (w.view taken)
+          (laws.counts_sent first) (laws.counts_sent paused)
+          (laws.now_rests ready.done.behind work paused r.given pauses.fit ready.stands
+          (carries_on w.does w.lasting laws.lasting_on ready.done.given state ready.done.text ready.done.behind ready.done.carries lasting))
+          (laws.take_passes paused taken takes) lasts_paused in
           lasts_one w.does w.rests w.leaves state (left first) (Waiting r (left paused) (pieces first) (pieces paused)) (λ s. w.stands s work taken) (sent first) (sent taken) here (Line at_long None) (w.view first) (w.view taken)
           (w.view c.long_line.new.from) (laws.counts_sent first) (laws.counts_sent taken) (line_next here.done.given r r' (left paused) (left taken) None gives_long e.within at_long at_long_is (pieces first) (pieces paused)
-    (pieces taken) (pieces c.long_line.new.from) (λ has. ap pieces (next.waits has)) e.took next.pieces c.long_line.ensures.pieces)
+          (pieces taken) (pieces c.long_line.new.from) (λ has. ap pieces (next.waits has)) e.took next.pieces c.long_line.ensures.pieces)
           (c.long_line.ensures.leaves here.done.behind here.stands lasting_here) so_far;
     }
 
@@ -537,7 +537,7 @@ returns-in-Err-long_line-clause-crash g c = λ state stands lasting.
     (pausing.leaves (inv.far state stands).done.behind (inv.far state stands).stands lasting_far) (inv.lasts state stands lasting) in
     let so_far = lasts_take w.does w.rests w.leaves state (left first) (Waiting r (left paused) (pieces first) (pieces paused))
     (λ s. w.stands s work paused) (sent first) (sent paused) ready (λ input is. is.first) (w.view first) (w.view paused) (w.view taken)
-    (laws.counts_sent first) (laws.counts_sent paused) 
+    (laws.counts_sent first) (laws.counts_sent paused)
     (laws.now_rests ready.done.behind work paused r.given pauses.fit ready.stands
     (carries_on w.does w.lasting laws.lasting_on ready.done.given state ready.done.text ready.done.behind ready.done.carries lasting))
     (laws.take_passes paused taken takes) lasts_paused in
@@ -643,43 +643,43 @@ lines-preserved g c =
       quiet = counts_then None (w.view first) (w.view taken) (w.view c.line-in-Line.new.from) calm c.in-Ok-line.ensures.faults;
       far = λ state stands.
           let here = waiting w.does w.rests w.leaves state (left first) (λ s. w.stands s c.lines.work mid) (λ s. w.stands s work paused)
-    (λ s. w.stands s work taken) r (left mid) (left paused) (pieces first) (pieces mid) (pieces paused) (sent first) (sent mid)
-    (sent paused) (sent taken) pausing.left pausing.pieces (λ s. laws.stands_taken s work paused taken takes) next.sent
-    (inv.far state stands) (pauses.does (inv.far state stands).done.behind (inv.far state stands).stands) in
+          (λ s. w.stands s work taken) r (left mid) (left paused) (pieces first) (pieces mid) (pieces paused) (sent first) (sent mid)
+          (sent paused) (sent taken) pausing.left pausing.pieces (λ s. laws.stands_taken s work paused taken takes) next.sent
+          (inv.far state stands) (pauses.does (inv.far state stands).done.behind (inv.far state stands).stands) in
           let G : Option (List ℕ) → Type 0 = λ l. Going w.does w.rests w.leaves state (left first)
           (Stands r' l (pieces first) (pieces c.line-in-Line.new.from)) (λ s. w.stands s c.line-in-Line.new.self c.line-in-Line.new.from) (sent first) (sent c.line-in-Line.new.from) in
           subst G (sym c.line-in-Line.ensures.left)
           (going_one w.does w.rests w.leaves state (left first) (Waiting r (left paused) (pieces first) (pieces paused)) (λ s. w.stands s work taken) (sent first) (sent taken) here
           (Stands r' (left taken) (pieces first) (pieces c.line-in-Line.new.from)) (λ s. w.stands s c.line-in-Line.new.self c.line-in-Line.new.from) (Line at_line (Some text)) (sent c.line-in-Line.new.from)
           (line_at here.done.given r r' (left paused) (left taken) (Some text) gives_line e.within at_line at_line_is (pieces first) (pieces paused)
-    (pieces taken) (pieces c.line-in-Line.new.from) (λ has. ap pieces (next.waits has)) e.took next.pieces c.line-in-Line.ensures.pieces)
+          (pieces taken) (pieces c.line-in-Line.new.from) (λ has. ap pieces (next.waits has)) e.took next.pieces c.line-in-Line.ensures.pieces)
           (c.in-Ok-line.ensures.does here.done.behind here.stands));
       lasts = λ state stands lasting.
           let here = waiting w.does w.rests w.leaves state (left first) (λ s. w.stands s c.lines.work mid) (λ s. w.stands s work paused)
-    (λ s. w.stands s work taken) r (left mid) (left paused) (pieces first) (pieces mid) (pieces paused) (sent first) (sent mid)
-    (sent paused) (sent taken) pausing.left pausing.pieces (λ s. laws.stands_taken s work paused taken takes) next.sent
-    (inv.far state stands) (pauses.does (inv.far state stands).done.behind (inv.far state stands).stands) in
+          (λ s. w.stands s work taken) r (left mid) (left paused) (pieces first) (pieces mid) (pieces paused) (sent first) (sent mid)
+          (sent paused) (sent taken) pausing.left pausing.pieces (λ s. laws.stands_taken s work paused taken takes) next.sent
+          (inv.far state stands) (pauses.does (inv.far state stands).done.behind (inv.far state stands).stands) in
           let ready = waiting w.does w.rests w.leaves state (left first) (λ s. w.stands s c.lines.work mid) (λ s. w.stands s work paused)
-    (λ s. w.stands s work paused) r (left mid) (left paused) (pieces first) (pieces mid) (pieces paused) (sent first) (sent mid)
-    (sent paused) (sent paused) pausing.left pausing.pieces (λ s is. is) refl (inv.far state stands)
-    (pauses.does (inv.far state stands).done.behind (inv.far state stands).stands) in
+          (λ s. w.stands s work paused) r (left mid) (left paused) (pieces first) (pieces mid) (pieces paused) (sent first) (sent mid)
+          (sent paused) (sent paused) pausing.left pausing.pieces (λ s is. is) refl (inv.far state stands)
+          (pauses.does (inv.far state stands).done.behind (inv.far state stands).stands) in
           let lasting_far = carries_on w.does w.lasting laws.lasting_on (inv.far state stands).done.given state (inv.far state stands).done.text
-    (inv.far state stands).done.behind (inv.far state stands).done.carries lasting in
+          (inv.far state stands).done.behind (inv.far state stands).done.carries lasting in
           let lasting_here = carries_on w.does w.lasting laws.lasting_on here.done.given state here.done.text here.done.behind here.done.carries lasting in
           let lasts_paused = lasts_one w.does w.rests w.leaves state (left first) (Stands r (left mid) (pieces first) (pieces mid))
-    (λ s. w.stands s c.lines.work mid) (sent first) (sent mid) (inv.far state stands) Pause (w.view first) (w.view mid) (w.view paused)
-    (laws.counts_sent first) (laws.counts_sent mid)
-    (pause_next (inv.far state stands).done.given r (left mid) (pieces first) (pieces mid) (pieces paused) pausing.pieces)
-    (pausing.leaves (inv.far state stands).done.behind (inv.far state stands).stands lasting_far) (inv.lasts state stands lasting) in
+          (λ s. w.stands s c.lines.work mid) (sent first) (sent mid) (inv.far state stands) Pause (w.view first) (w.view mid) (w.view paused)
+          (laws.counts_sent first) (laws.counts_sent mid)
+          (pause_next (inv.far state stands).done.given r (left mid) (pieces first) (pieces mid) (pieces paused) pausing.pieces)
+          (pausing.leaves (inv.far state stands).done.behind (inv.far state stands).stands lasting_far) (inv.lasts state stands lasting) in
           let so_far = lasts_take w.does w.rests w.leaves state (left first) (Waiting r (left paused) (pieces first) (pieces paused))
-    (λ s. w.stands s work paused) (sent first) (sent paused) ready (λ input is. is.first) (w.view first) (w.view paused) (w.view taken)
-    (laws.counts_sent first) (laws.counts_sent paused) 
-    (laws.now_rests ready.done.behind work paused r.given pauses.fit ready.stands
-    (carries_on w.does w.lasting laws.lasting_on ready.done.given state ready.done.text ready.done.behind ready.done.carries lasting))
-    (laws.take_passes paused taken takes) lasts_paused in
+          (λ s. w.stands s work paused) (sent first) (sent paused) ready (λ input is. is.first) (w.view first) (w.view paused) (w.view taken)
+          (laws.counts_sent first) (laws.counts_sent paused)
+          (laws.now_rests ready.done.behind work paused r.given pauses.fit ready.stands
+          (carries_on w.does w.lasting laws.lasting_on ready.done.given state ready.done.text ready.done.behind ready.done.carries lasting))
+          (laws.take_passes paused taken takes) lasts_paused in
           lasts_one w.does w.rests w.leaves state (left first) (Waiting r (left paused) (pieces first) (pieces paused)) (λ s. w.stands s work taken) (sent first) (sent taken) here (Line at_line (Some text)) (w.view first) (w.view taken)
           (w.view c.line-in-Line.new.from) (laws.counts_sent first) (laws.counts_sent taken) (line_next here.done.given r r' (left paused) (left taken) (Some text) gives_line e.within at_line at_line_is (pieces first) (pieces paused)
-    (pieces taken) (pieces c.line-in-Line.new.from) (λ has. ap pieces (next.waits has)) e.took next.pieces c.line-in-Line.ensures.pieces)
+          (pieces taken) (pieces c.line-in-Line.new.from) (λ has. ap pieces (next.waits has)) e.took next.pieces c.line-in-Line.ensures.pieces)
           (c.line-in-Line.ensures.leaves here.done.behind here.stands lasting_here) so_far;
     }
 
@@ -765,7 +765,7 @@ returns-in-Err-line-clause-crash g c = λ state stands lasting.
     (pausing.leaves (inv.far state stands).done.behind (inv.far state stands).stands lasting_far) (inv.lasts state stands lasting) in
     let so_far = lasts_take w.does w.rests w.leaves state (left first) (Waiting r (left paused) (pieces first) (pieces paused))
     (λ s. w.stands s work paused) (sent first) (sent paused) ready (λ input is. is.first) (w.view first) (w.view paused) (w.view taken)
-    (laws.counts_sent first) (laws.counts_sent paused) 
+    (laws.counts_sent first) (laws.counts_sent paused)
     (laws.now_rests ready.done.behind work paused r.given pauses.fit ready.stands
     (carries_on w.does w.lasting laws.lasting_on ready.done.given state ready.done.text ready.done.behind ready.done.carries lasting))
     (laws.take_passes paused taken takes) lasts_paused in
