@@ -42,10 +42,10 @@ def write_wheel(path, info, files):
 def build_wheel(wheel_directory, config_settings=None, metadata_directory=None):
     """The hook that pip calls; gives the name of the wheel."""
     files = {}
-    for name in sorted(os.listdir(os.path.join(HERE, PACKAGE))):
-        if name.endswith(".py"):
-            with open(os.path.join(HERE, PACKAGE, name), "rb") as file:
-                files[f"{PACKAGE}/{name}"] = file.read()
+    for folder, _, names in sorted(os.walk(os.path.join(HERE, PACKAGE))):
+        for path in (os.path.join(folder, name) for name in sorted(names) if name.endswith(".py")):
+            with open(path, "rb") as file:
+                files[os.path.relpath(path, HERE)] = file.read()
     with open(WORDS, "rb") as file:
         files[f"{PACKAGE}/statuses.txt"] = file.read()
     tag, is_pure = "py3-none-any", "true"

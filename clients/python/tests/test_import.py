@@ -2,14 +2,19 @@
 import contextlib
 import gzip
 import io
+import json
 import os
+import pty
 import shutil
 import signal
 import subprocess
 import sys
 import tempfile
 import time
+import types
 import unittest
+from datetime import datetime, timedelta, timezone
+from unittest import mock
 
 ROOT = os.path.dirname(os.path.dirname(os.path.dirname(os.path.dirname(os.path.realpath(__file__)))))
 PROGRAM = os.path.join(ROOT, "crates/chart_program/out/chart_program")
@@ -26,6 +31,23 @@ LOGGER = (
     "2026-11-01T00:00:03.301Z,21.75,1.035,bad\n"
 )
 START = 1793491200  # 2026-11-01T00:00:00Z
+
+
+class ParquetFile:
+    """A stand-in for that of pyarrow, which Debian doesn't have: the few calls that are used of it, over a file in JSON behind the
+    letters by which Parquet is known. It shows how they are used, and not that pyarrow's own do the same."""
+
+    def __init__(self, file):
+        assert file.read(4) == b"PAR1"
+        self.table = json.load(file)
+        self.schema_arrow = types.SimpleNamespace(names=list(self.table))
+        self.metadata = types.SimpleNamespace(num_rows=len(self.table["at"]))
+
+    def iter_batches(self, batch_size):
+        self.table["at"] = [datetime.fromisoformat(date) for date in self.table["at"]]
+        for begin in range(0, self.metadata.num_rows, batch_size):
+            parts = (values[begin : begin + batch_size] for values in self.table.values())
+            yield types.SimpleNamespace(columns=[types.SimpleNamespace(to_pylist=lambda part=part: part) for part in parts])
 
 
 class Imports(unittest.TestCase):
@@ -163,6 +185,22 @@ class Imports(unittest.TestCase):
         for name in "dfh":
             self.assertEqual(self.stored(name), [(0, 2), (1, 4)])
 
+    def test_parquet_by_a_stand_in(self):
+        count = 30_000
+        dates = [(datetime.fromtimestamp(START, timezone.utc) + timedelta(minutes=at)).isoformat() for at in range(count)]
+        table = {"at": dates, "2m": [at / 4 if at % 3 else None for at in range(count)], "words": ["ok"] * count}
+        file = b"PAR1" + json.dumps(table).encode()
+        self.assertEqual(self.taken(file)[0], 2)
+        parquet = types.ModuleType("pyarrow.parquet")
+        parquet.ParquetFile = ParquetFile
+        pyarrow = types.ModuleType("pyarrow")
+        pyarrow.parquet = parquet
+        with mock.patch.dict(sys.modules, {"pyarrow": pyarrow, "pyarrow.parquet": parquet}):
+            status, told = self.taken(file)
+        self.assertEqual(status, 0, told)
+        self.assertIn("2m: 20,000 taken, 10,000 without a value", told)
+        self.assertEqual(self.stored("2m"), [(START + 60 * at, 25 * at) for at in range(count) if at % 3])
+
     def test_standard_input(self):
         words = [sys.executable, "-m", "zurtkvani_client", "import", "-", "--store", self.path, "--program", PROGRAM]
         done = subprocess.run(words, input=LOGGER.encode(), cwd=os.path.join(ROOT, "clients/python"), stdout=subprocess.PIPE, check=True)
@@ -178,6 +216,10 @@ class Imports(unittest.TestCase):
     def test_a_bar_on_a_terminal(self):
         self.assertEqual(bar(1500, 0.5, 3), f"[{'#' * 15}{'.' * 15}]  50%  1,500 rows, 500 a second, 0:03 left")
         self.assertEqual(bar(1500, None, 3), "1,500 rows, 500 a second")
+        path = self.file("t,v\n" + "".join(f"{at},{at}\n" for at in range(200_000)))
+        words = ["zurtkvani_client.readings", "--step", "1", path], ["zurtkvani_client", "import", path, "--store", self.path, "--dry-run"]
+        for command_words in words:
+            self.assertRegex(shown_on_a_terminal(command_words), r"\[#+\.+\] +\d+%  [\d,]+ rows, [\d,]+ a second, \d+:\d\d left")
 
     def test_no_rows(self):
         for text in ("", "\n\n", "t,v\n"):
@@ -239,6 +281,21 @@ class Imports(unittest.TestCase):
         self.assertEqual(self.taken(exported)[0], 0)
         self.assertEqual(self.stored("level"), [(START, 150), (START + 60, 225)])
         self.assertEqual(self.stored("flow"), [(START + 60, 70)])
+
+
+def shown_on_a_terminal(words):
+    """What a module of the package tells where standard error is a terminal."""
+    ours, theirs = pty.openpty()
+    how = {"cwd": os.path.join(ROOT, "clients/python"), "stdout": subprocess.DEVNULL, "stderr": theirs}
+    child = subprocess.Popen([sys.executable, "-m", *words], **how)
+    os.close(theirs)
+    told = b""
+    # Behind the last of whoever has a terminal open a read of its other end fails.
+    with contextlib.suppress(OSError), open(ours, "rb", buffering=0) as terminal:
+        while part := terminal.read(4096):
+            told += part
+    child.wait()
+    return told.decode()
 
 
 if __name__ == "__main__":

@@ -25,6 +25,12 @@ def whole_number(text, scale):
 
     Raises Unfit where the text is no value, or the number is more than 10^18 in size.
     """
+    # Most texts are digits, and a point between them.
+    unsigned = text[1:] if text[:1] == "-" else text
+    whole, _, decimals = unsigned.partition(".")
+    if len(decimals) <= scale and len(whole) + scale <= 18 and (whole + decimals).isdecimal():
+        number = int(whole + decimals) * 10 ** (scale - len(decimals))
+        return (number if unsigned is text else -number), False
     try:
         shifted = Decimal(text).scaleb(scale, EXACT)
         rounded = shifted.to_integral_value(context=EXACT)

@@ -3,18 +3,15 @@
 Each row is done as it comes, so memory doesn't grow with the file. A reading goes to its slot whatever was stored before, so an import
 that was cut short is run again and ends as if it had run once.
 """
-from itertools import chain, islice
-
 from .decimals import MISSING, whole_number
 from .planning import Plan
 from .report import Report
+from .set_lines import TAKEN
 from .sources import Source
 from .store import Store
 from .timestamps import date_text
 from .unfit import Unfit
 
-BATCH = 4096  # lines between two looks at how much the program has read
-MOST_SENT = 2**31  # bytes to one run of the program, which takes 2^32
 # What can come of a row or a value, besides that it is stored as it stands.
 ROUNDED, SNAPPED = "rounded, half to even", "moved to a slot"
 NO_COLUMN, NO_TIME, NO_VALUE, NO_SLOT = "left out, no such column", "left out, no time", "left out, no value", "left out, no slot"
@@ -35,25 +32,16 @@ class Import:
         sources = [Source(path, self.given.delimiter, self.given.encoding) for path in self.given.files]
         try:
             self.plan.begin(sources)
-            if not self.given.dry_run:
-                self.send(self.lines(sources))
-            else:
+            if self.given.dry_run:
                 for _ in self.lines(sources):
                     pass
+            else:
+                with self.store as store:
+                    store.send_edits(self.lines(sources))
         finally:
             self.progress.end()
             for source in sources:
                 source.close()
-
-    def send(self, lines):
-        """Stores what `set` lines say."""
-        is_over = False
-        while not is_over:
-            with self.store as store:
-                while not is_over and store.sent < MOST_SENT:
-                    batch = list(islice(lines, 1))
-                    is_over = not batch
-                    store.send_edits(chain(batch, islice(lines, BATCH)))
 
     def lines(self, sources):
         """The `set` lines of all rows."""
@@ -106,12 +94,12 @@ class Import:
 
     def take(self, target, fields, time, place):
         """Takes what a row has for a series; gives the `set` line that it ends, or None."""
-        if target.index >= len(fields):
+        try:
+            text = fields[target.index]
+            number, is_rounded = whole_number(text.replace(",", ".") if self.plan.has_commas else text, target.scale)
+        except IndexError:
             self.report.leave_out(NO_COLUMN, place, f"it has {len(fields)} fields")
             return None
-        text = fields[target.index]
-        try:
-            number, is_rounded = whole_number(text.replace(",", ".") if self.plan.has_commas else text, target.scale)
         except Unfit as why:
             if text.strip().lower() in MISSING:
                 target.missing += 1
@@ -125,8 +113,8 @@ class Import:
             self.report.note(ROUNDED, place, text)
         target.taken += 1
         line = target.lines.add(time, number)
-        if target.lines.replaced > target.replaced:
-            target.replaced += 1
+        if line is TAKEN:
             note = self.report.note if self.given.replace else self.report.leave_out
             note(REPLACED, place, f"{target.series}, {text}")
+            return None
         return line

@@ -4,6 +4,7 @@ import struct
 import zlib
 
 from . import axes
+from .timestamps import UNITS, date_text
 
 
 def height(value, lo, hi, h):
@@ -70,7 +71,7 @@ class Picture:
         white = bytes(255 - byte for byte in range(256))
         lines = b"".join(b"\0" + row.translate(white) for row in self.packed_rows())
         head = struct.pack(">IIBBBBB", self.w, self.h, 1, 0, 0, 0, 0)
-        return b"\x89PNG\r\n\x1a\n" + chunk(b"IHDR", head) + chunk(b"IDAT", zlib.compress(lines, 9)) + chunk(b"IEND", b"")
+        return b"\x89PNG\r\n\x1a\n" + chunk(b"IHDR", head) + chunk(b"IDAT", zlib.compress(lines)) + chunk(b"IEND", b"")
 
     @property
     def low(self):
@@ -81,6 +82,13 @@ class Picture:
     def high(self):
         """The real value at the top."""
         return self.hi / 10 ** (self.series.scale if self.series else 0)
+
+    def __repr__(self):
+        told = f"{self.w} by {self.h} pixels, {self.low} to {self.high}"
+        if self.window:
+            ends = (date_text(time * UNITS[self.unit]) for time in self.window)
+            told = f"{self.series.name}, {' to '.join(ends)}, {told}"
+        return f"<Picture: {told}>"
 
     def to_svg(self):
         """The picture with axes, as the text of an SVG in which each of its pixels is one; only of one that a session drew."""

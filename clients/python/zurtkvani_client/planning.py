@@ -22,7 +22,7 @@ class Target:
     def __init__(self, column, scale):
         self.index, self.series, self.scale = column.index, column.series, scale
         self.lines = None
-        self.taken = self.missing = self.replaced = 0
+        self.taken = self.missing = 0
 
 
 class Plan:
@@ -40,7 +40,7 @@ class Plan:
         if first is None:
             raise Unfit("it has no rows")
         self.line_of_first = first[0]
-        self.names = columns.header_of(first[1], self.is_named())
+        self.names = columns.header_of(first[1], source.has_names or self.is_named())
         sample = list(islice(source.rows, SAMPLE))
         if self.names is None:
             sample.insert(0, first)

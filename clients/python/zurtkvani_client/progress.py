@@ -7,11 +7,11 @@ EVERY = 0.2  # seconds between two looks
 
 
 class Progress:
-    """Shows a bar on standard error where that is a terminal, and nothing elsewhere."""
+    """Shows a bar on standard error where that is a terminal and nothing is shown there already, and nothing elsewhere."""
 
-    def __init__(self, stream=None):
-        self.stream = stream or sys.stderr
-        self.is_shown = bool(self.stream) and self.stream.isatty()
+    def __init__(self, is_free=True):
+        self.stream = sys.stderr
+        self.is_shown = is_free and bool(self.stream) and self.stream.isatty()
         self.begun = self.shown = time.monotonic()
 
     def show(self, rows, part):
@@ -24,6 +24,7 @@ class Progress:
         self.stream.flush()
 
     def end(self):
+        """Takes the bar away, until the next look."""
         if self.is_shown:
             self.stream.write("\r\x1b[K")
             self.stream.flush()

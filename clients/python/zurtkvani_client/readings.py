@@ -15,6 +15,8 @@ import os
 import sys
 
 from .decimals import MISSING, MOST, decimal_text, whole_number
+from .progress import Progress
+from .sources import Source, Unreadable
 from .timestamps import UNITS, TimeReader
 from .unfit import Unfit
 
@@ -63,16 +65,19 @@ class Grid:
         return time, number
 
 
-def convert(rows, columns, grid, out):
+def convert(source, columns, grid, out, progress):
     """Sends what fits, and tells of the rest; gives how many rows fit, have no reading, and don't fit."""
     counts = {"fit": 0, "missing": 0, "unfit": 0}
-    is_first = True
-    for fields in rows:
-        if not any(field.strip() for field in fields):
-            continue
-        was_first, is_first = is_first, False
-        if was_first and is_header(fields, columns, grid):
-            print(f"line {rows.line_num}: taken as the names of the columns", file=sys.stderr)
+
+    def tell(line, what):
+        progress.end()
+        print(f"line {line}: {what}", file=sys.stderr)
+
+    for count, (line, fields) in enumerate(row for row in source.rows if any(map(str.strip, row[1]))):
+        if not count & 1023:
+            progress.show(count, source.done())
+        if not count and is_header(fields, columns, grid):
+            tell(line, "taken as the names of the columns")
             continue
         try:
             if len(fields) < max(columns):
@@ -80,7 +85,7 @@ def convert(rows, columns, grid, out):
             time, number = grid.row([fields[column - 1] for column in columns])
         except Unfit as why:
             counts["unfit"] += 1
-            print(f"line {rows.line_num}: {why}", file=sys.stderr)
+            tell(line, why)
             continue
         counts["missing" if number is None else "fit"] += 1
         if number is not None and out:
@@ -129,23 +134,25 @@ def main(arguments=None):
     words, given = words_of(arguments)
     if sys.stdout is None or sys.stderr is None:
         words.error("standard output or standard error is closed")
+    progress = Progress(given.dry_run or not sys.stdout.isatty())
     try:
         grid = Grid(given)
         # A byte order mark is dropped.
-        source = open(0 if given.file == "-" else given.file, encoding="utf-8-sig", errors="replace", newline="")
+        source = Source(given.file, given.delimiter, "utf-8-sig")
     except (Unfit, OSError) as why:
         words.error(str(why))
     try:
-        with source:
-            rows = csv.reader(source, delimiter=given.delimiter)
-            counts = convert(rows, given.columns, grid, None if given.dry_run else sys.stdout)
+        counts = convert(source, given.columns, grid, None if given.dry_run else sys.stdout, progress)
         sys.stdout.flush()
     except BrokenPipeError:
         # Whoever took the lines has gone. Python would write what is left when it ends, and fail once more.
         os.dup2(os.open(os.devnull, os.O_WRONLY), sys.stdout.fileno())
         return 1
-    except (OSError, csv.Error) as why:
+    except (OSError, EOFError, Unreadable, csv.Error) as why:
         words.error(str(why))
+    finally:
+        progress.end()
+        source.close()
     series = "" if grid.start is None else f"; the series: create NAME {grid.start} {grid.step} {grid.scale}"
     told = f"{counts['fit']} readings, {counts['missing']} times without one, {counts['unfit']} lines that don't fit"
     print(f"readings: {told}{series}", file=sys.stderr)

@@ -1,6 +1,7 @@
 """Readings of a series, gathered into the `set` lines that store them."""
 
 MOST_VALUES = 256  # of one line
+TAKEN = object()  # where a reading took the slot of the one before
 
 
 class SetLines:
@@ -9,10 +10,9 @@ class SetLines:
     def __init__(self, name, step):
         self.head, self.step = f"set {name} ", step
         self.first, self.next, self.values = None, None, []
-        self.replaced = 0  # readings whose slot the next one had too
 
     def add(self, time, value):
-        """Takes a reading; gives the line that it ends, or None."""
+        """Takes a reading; gives the line that it ends, or None; TAKEN where the one before had its slot, and is replaced."""
         values = self.values
         if time == self.next and len(values) < MOST_VALUES:
             values.append(value)
@@ -20,8 +20,7 @@ class SetLines:
             return None
         if values and time + self.step == self.next:
             values[-1] = value
-            self.replaced += 1
-            return None
+            return TAKEN
         line = self.line()
         self.first, self.next, self.values = time, time + self.step, [value]
         return line

@@ -13,15 +13,18 @@ class Unreadable(Exception):
 
 
 class Source:
-    """The rows of one file, "-" for standard input: `rows` are pairs of a number, of the line or the Parquet row, and a list of texts."""
+    """The rows of one file, "-" for standard input: `rows` are pairs of a number, of the line or the Parquet row, and a list of texts.
+    Where it `has_names` the first row surely has those of the columns."""
 
     def __init__(self, path, delimiter=None, encoding=None):
         self.name = "standard input" if path == "-" else path
         self.raw = io.BufferedReader(io.FileIO(0 if path == "-" else path), HEAD)
         self.size = os.fstat(self.raw.fileno()).st_size if self.raw.seekable() else None
         self.delimiter, self.text = delimiter, None
+        self.count, self.given = None, 0  # rows of a Parquet file, which isn't read from its front to its end
         front = self.raw.peek(4)[:4]
-        if front == b"PAR1":
+        self.has_names = front == b"PAR1"
+        if self.has_names:
             self.rows = self._parquet_rows()
         else:
             is_packed = front[:2] == b"\x1f\x8b"
@@ -30,6 +33,8 @@ class Source:
 
     def done(self):
         """The part of the file that was read, from 0 to 1; None where its size isn't known."""
+        if self.count:
+            return self.given / self.count
         return min(1.0, self.raw.tell() / self.size) if self.size else None
 
     def close(self):
@@ -54,12 +59,13 @@ class Source:
             from pyarrow import parquet
         except ImportError:
             raise Unreadable("it is a Parquet file, and pyarrow, which reads those, isn't installed") from None
-        file, number = parquet.ParquetFile(self.raw), 1
+        file = parquet.ParquetFile(self.raw)
+        self.count = file.metadata.num_rows
         yield 0, file.schema_arrow.names
         for batch in file.iter_batches(batch_size=4096):
             for row in zip(*(column.to_pylist() for column in batch.columns)):
-                yield number, ["" if value is None else str(value) for value in row]
-                number += 1
+                self.given += 1
+                yield self.given, ["" if value is None else str(value) for value in row]
 
 
 def delimiter_of(head):

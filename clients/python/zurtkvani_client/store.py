@@ -1,16 +1,22 @@
-"""A store: one run of the program's `serve`, its edits and its sessions; and what it holds, by runs of other commands."""
+"""A store: one run of the program's `serve`, its edits and its sessions; and runs of other commands while that one rests."""
 import collections
+import contextlib
 import operator
-import subprocess
+import threading
+from itertools import chain, islice
 
 from . import timestamps
+from .commands import Output
 from .decimals import MOST
-from .run import Ended, Listener, Refused, Run
-from .session import WIDTH, Session
+from .run import Ended, Refused, Run
+from .session import HEIGHT, WIDTH, Session
 from .set_lines import MOST_VALUES, SetLines
-from .store_file import make_store, run_once
+from .store_file import make_store
 from .times import whole_time
 from .values import whole_numbers
+
+MOST_SENT = 2**31  # bytes to one run of the program, which takes 2^32
+BATCH = 4096  # lines between two looks at how many they were
 
 Series = collections.namedtuple("Series", "name start step scale slots")
 Checked = collections.namedtuple("Checked", "series values used pages")
@@ -19,8 +25,11 @@ Swept = collections.namedtuple("Swept", "clears used")
 
 
 class Store:
-    """The store in a file. From entering a `with` to leaving it there is one `PROGRAM PATH serve`, which edits and draws; outside of it
-    `values`, `check` and `retain` run commands of their own, since a store has one run at a time.
+    """The store in a file. Within a `with` a `PROGRAM PATH serve` edits and draws. A store has one run at a time: so where `values`,
+    `to_series`, `check`, `retain` or `sum` has to run a command of its own, that one is ended, and the next request begins another.
+    Sessions go on then, with an empty cache. All but `sum` work outside of a `with`, too.
+
+    Several threads may use one object: their requests go one after the other.
 
     `unit` is what the series' times count since 1970: "seconds", "milliseconds" or "microseconds"; where none is named it is told
     by the size of a series' start.
@@ -28,7 +37,9 @@ class Store:
 
     def __init__(self, path, program="chart", unit=None):
         self.program, self.path, self.unit = str(program), str(path), unit
-        self.run, self.records = None, {}
+        self.run, self.records, self.is_entered = None, {}, False
+        self.sessions, self.left, self.numbers = [], [], 0  # those that are open, and the numbers of those to be closed
+        self.turn, self.edits = threading.Condition(), collections.Counter()  # of each series how many edits were sent
 
     @classmethod
     def make(cls, path, size=4 * 2**20, program="chart", unit=None, series=()):
@@ -38,28 +49,28 @@ class Store:
         return cls(path, program, unit)
 
     def __enter__(self):
-        self.records = {series.name: series for series in self._listed()}
-        self.run, self.numbers = Run(self.program, self.path), 0
+        with self.turn:
+            self._begin()
+            self.is_entered = True
         return self
 
     def __exit__(self, kind, *_):
-        was_told = self.run.end
-        self.run.stop()
-        if kind is None and not was_told and self.run.end.status:
-            raise self.run.end
+        with self.turn:
+            was_told = self.end
+            self.is_entered, self.sessions = False, []
+            if self.run:
+                self.run.stop()
+            self.turn.notify_all()
+        if kind is None and not was_told and self.end and self.end.status:
+            raise self.end
 
     @property
     def end(self):
-        """How the run ended, as an exception; None while it works, or where there was none."""
+        """How the run ended, as an exception; None while it works or rests, or where there was none."""
         return self.run.end if self.run else None
 
-    @property
-    def sent(self):
-        """How many bytes the run was sent."""
-        return self.run.sent
-
     def is_running(self):
-        return self.run is not None and self.run.end is None
+        return self.is_entered and self.end is None
 
     def series(self):
         """The series, in the order of their creation."""
@@ -69,14 +80,14 @@ class Store:
         """The stored values of a series in rising time, one after the other: pairs of a time and a whole number. With two times
         those from t0 on and before t1."""
         window = () if t0 is None and t1 is None else (str(operator.index(t0)), str(operator.index(t1)))
-        return self._values(self._shown("export", str(name), *window))
+        return self._values(self.shown("export", str(name), *window).lines())
 
     def to_series(self, name, t0=None, t1=None):
         """The stored values as a Series of pandas: floats, by dates in UTC. With two times, whole numbers or dates, those from t0
         on and before t1."""
         import pandas
 
-        series = next((series for series in self.series() if series.name == name), None)
+        series = self.record(name, fresh=True) if self.is_running() else next((one for one in self._listed() if one.name == name), None)
         unit = self.unit_of(series)
         window = (None, None) if t0 is None and t1 is None else self.window(series, t0, t1)
         times, numbers = [], []
@@ -89,21 +100,46 @@ class Store:
     def check(self):
         """Reads the whole store, and counts its series, its values, the pages in use and all pages. Raises Ended, with the status
         7, over a damaged one."""
-        told = dict(line.split(None, 1) for line in self._shown("check"))
+        told = dict(line.split(None, 1) for line in self.shown("check").lines())
         used, _, pages = told["pages"].split()
         return Checked(int(told["series"]), int(told["values"]), int(used), int(pages))
 
     def retain(self, *rules):
         """Drops old slots by rules, in turn: "before NAME T", "last NAME COUNT" and "free PAGES", as of the command `retain`.
         Gives for each how many clears it made, and how many pages are in use behind them."""
-        self._require_rest()
-        told = run_once(self.program, self.path, "retain", "".join(f"{rule}\n" for rule in rules).encode())
-        return [Swept(*map(int, line.split()[1:])) for line in told.decode().splitlines()]
+        with self.turn:
+            told = self.shown("retain", given="".join(f"{rule}\n" for rule in rules).encode())
+            self.edits.update(name.encode() for name in self.records)
+            self.turn.notify_all()
+        return [Swept(*map(int, line.split()[1:])) for line in told.lines()]
+
+    def sum(self, one, other, a=1, b=1, w=WIDTH, h=HEIGHT, t0=None, t1=None, range="auto"):
+        """The chart of a * one + b * other, real values of two series at the times at which both have one, with whole numbers a
+        and b. The series have one step, and starts that are a multiple of it apart. Window and range are those of a session's
+        `view`; where a time isn't named the window is that in which both have slots."""
+        from .sums import draw_sum
+
+        return draw_sum(self, (one, other), (a, b), (w, h), (t0, t1), range)
+
+    def follow(self, name, *words, wait=None, **named):
+        """Pictures of a series, by the words of a session's `view`: the first at once, and each further one once this object has
+        edited the series again, with all that was edited until then. Where nothing was it waits for an edit of another thread,
+        for ever or for so many seconds. It ends behind these, where the store is left, and where it is closed."""
+        key = str(name).encode()
+        with self.session() as session:
+            while True:
+                with self.turn:
+                    seen, picture = self.edits[key], session.view(name, *words, **named)
+                yield picture
+                with self.turn:
+                    came = self.turn.wait_for(lambda: self.edits[key] != seen or not self.is_running(), wait)
+                    if not (came and self.is_entered):
+                        return
 
     def create(self, name, start, step, scale=0):
         """Makes a series without slots. The start may be a date."""
         start = whole_time(start, self.unit or "seconds")
-        self.answer("create", name, start, step, scale)
+        self.edit("create", name, start, step, scale)
         self.records[name] = Series(name, start, operator.index(step), operator.index(scale), 0)
 
     def create_from(self, name, values, scale=None, step=None):
@@ -137,7 +173,7 @@ class Store:
         record = self.record(name)
         numbers = whole_numbers(values, record.scale if record else 0)
         if record is None or len(numbers) <= MOST_VALUES:
-            self.answer("append", name, *("-" if number is None else number for number in numbers))
+            self.edit("append", name, *("-" if number is None else number for number in numbers))
             return
         record = self.record(name, fresh=True)
         self._put_numbers(record, record.start + record.slots * record.step, numbers)
@@ -151,19 +187,29 @@ class Store:
         numbers = whole_numbers(values, record.scale if record else 0)
         time = whole_time(time, self.unit_of(record))
         if record is None or len(numbers) <= MOST_VALUES and None not in numbers:
-            self.answer("set", name, time, *numbers)
+            self.edit("set", name, time, *numbers)
         else:
             self._put_numbers(record, time, numbers)
 
     def clear(self, name, time, count):
         """Makes up to 4,096 slots missing, from a time, a whole number or a date, on."""
-        self.answer("clear", name, whole_time(time, self.unit_of(self.records.get(name))), count)
+        self.edit("clear", name, whole_time(time, self.unit_of(self.records.get(name))), count)
 
     def session(self, cache=65536):
         """Opens a session, whose client keeps so many coefficients."""
-        self.numbers += 1
-        self.answer("open", self.numbers, cache)
-        return Session(self, self.numbers)
+        with self.turn:
+            session = Session(self, self.numbers + 1, cache)
+            self.answer("open", session.number, cache)
+            self.numbers += 1
+            self.sessions.append(session)
+        return session
+
+    def forget(self, session):
+        """Closes a session, with the next request: it asks nothing, so it may come at any moment, as from a finalizer."""
+        with self.turn:
+            if session in self.sessions:
+                self.sessions.remove(session)
+                self.left.append(session.number)
 
     def draw(self, name, *words, **named):
         """The chart of a series, drawn in a session of its own, by the words of a session's `view`."""
@@ -179,18 +225,19 @@ class Store:
         with self.session() as session:
             # Each value meets the condition, and a view that has one is answered by the values of its columns.
             line = line_of("view", session.number, name, columns, 1, t0, t1, "auto", "where", f"v >= {-MOST}")
-            rows = self.run.answer_rows(line, session.number)
+            with self._asking() as run:
+                rows = run.answer_rows(line, session.number)
         scale = 10**record.scale if record else 1
         return [Point(t0 + column * (t1 - t0) / columns, *(value / scale for value in values)) for column, *values in rows]
 
     def record(self, name, fresh=False):
         """The record of a series, None where it isn't known; a fresh one has as many slots as there are now."""
-        self._require_run()
-        record = self.records.get(name)
-        if record and fresh:
-            # To clear no slot changes nothing, and tells how many there are.
-            frame, _ = self.answer("clear", name, record.start, 0)
-            self.records[name] = record = record._replace(slots=frame.slots)
+        with self._asking():
+            record = self.records.get(name)
+            if record and fresh:
+                # To clear no slot changes nothing, and tells how many there are.
+                frame, _ = self.answer("clear", name, record.start, 0)
+                self.records[name] = record = record._replace(slots=frame.slots)
         return record
 
     def window(self, series, t0, t1):
@@ -206,21 +253,33 @@ class Store:
     def answer(self, *words):
         """Sends a request of words and whole numbers, and gives its frame and its picture, None where it has none."""
         line = line_of(*words)
-        self._require_run()
-        return self.run.answer(line)
+        with self._asking() as run:
+            return run.answer(line)
+
+    def edit(self, *words):
+        """Sends an edit of words and whole numbers, and gives its frame."""
+        return self.send_edits([line_of(*words)])
 
     def send_edits(self, lines):
         """Sends lines of edits, 64 of them ahead of their answers, and gives the last answer. Raises Refused for the first that
         is refused."""
-        self._require_run()
-        return self.run.answer_edits(lines)
+        lines, last = iter(lines), None
+        for line in lines:
+            with self._asking() as run:
+                last = run.answer_edits(self._counted(chain([line], islice(lines, BATCH - 1))))
+        return last
+
+    def _counted(self, lines):
+        for line in lines:
+            self.edits[line.split(b" ", 2)[1]] += 1
+            yield line
 
     def _put_numbers(self, record, time, numbers):
         times = range(time, time + len(numbers) * record.step, record.step)
         self.send_edits(lines_of(SetLines(record.name, record.step), zip(times, numbers)))
 
     def _listed(self):
-        lines = map(str.split, self._shown("list"))
+        lines = map(str.split, self.shown("list").lines())
         return [Series(name, *map(int, numbers)) for name, *numbers in lines]
 
     def _values(self, lines):
@@ -235,29 +294,43 @@ class Store:
                 raise Refused(8, 0, 0) from None
             raise
 
-    def _require_run(self):
-        if not self.run or self.run.end:
-            raise self.end or ValueError("the store isn't open: use it within a `with`")
+    @contextlib.contextmanager
+    def _asking(self):
+        """The run, for requests of one thread. Whoever waits for an edit looks again behind them."""
+        with self.turn:
+            if not self.is_running():
+                raise self.end or ValueError("the store isn't open: use it within a `with`")
+            if self.run and self.run.sent > MOST_SENT:
+                self._rest()
+            if self.run is None:
+                self._begin()
+            while self.left:
+                self.run.answer(line_of("close", self.left.pop()))
+            try:
+                yield self.run
+            finally:
+                self.turn.notify_all()
 
-    def _require_rest(self):
-        if self.is_running():
-            raise ValueError("one run at a time works on a store: ask outside of the `with`")
+    def _begin(self):
+        """Begins a run, in which the sessions that are open go on."""
+        self.records = {series.name: series for series in self._listed()}
+        self.run, self.left = Run(self.program, self.path), []
+        for session in self.sessions:
+            self.run.answer(line_of("open", session.number, session.cache))
 
-    def _shown(self, *words):
-        """The lines that a command sends, as they come."""
-        self._require_rest()
-        return self._lines(*words)
+    def _rest(self):
+        """Ends the run, so that another one may work on the store. One that has ended by itself stays."""
+        if self.is_running() and self.run:
+            self.run.stop()
+            if self.run.end.status:
+                raise self.run.end
+            self.run = None
 
-    def _lines(self, *words):
-        # Behind two hyphens a time below 0 is no option.
-        pipes = {"stdin": subprocess.DEVNULL, "stdout": subprocess.PIPE, "stderr": subprocess.PIPE}
-        with subprocess.Popen([self.program, self.path, "--", *words], **pipes) as child:
-            listener = Listener(child, words[0], self.path)
-            for line in child.stdout:
-                yield line.decode()
-            end = listener.end()
-        if end.status:
-            raise end
+    def shown(self, *words, given=b""):
+        """What a command of its own sends, while the run rests."""
+        with self.turn:
+            self._rest()
+            return Output(self.program, self.path, *words, given=given)
 
 
 def line_of(*words):

@@ -1,9 +1,8 @@
 """The file of a store: how large it has to be, and how one is made at once or not at all."""
 import os
-import subprocess
 import tempfile
 
-from .run import Listener
+from .commands import Output
 
 BLOCK = 4096  # bytes
 LEAST_BLOCKS, MOST_BLOCKS = 128, 2**32 - 1
@@ -36,22 +35,8 @@ def make_store(path, size, program, series=()):
         with open(made, "wb") as file:
             file.truncate(size)
         lines = "".join(f"create {name} {start} {step} {scale}\n" for name, start, step, scale in series)
-        run_once(program, made, "init", b"")
-        if run_once(program, made, "run", lines.encode()) != b"done 0\n" * len(series):
+        Output(program, made, "init").read()
+        if Output(program, made, "run", given=lines.encode()).read() != b"done 0\n" * len(series):
             raise ValueError("a series has a name, a start, a step or a scale that none may have")
         os.link(made, path)
 
-
-def run_once(program, path, command, text):
-    """Runs a command of the program over some input, and gives its output. Raises Ended."""
-    with tempfile.TemporaryFile() as given:
-        given.write(text)
-        given.seek(0)
-        pipes = {"stdin": given, "stdout": subprocess.PIPE, "stderr": subprocess.PIPE}
-        with subprocess.Popen([program, path, command], **pipes) as child:
-            listener = Listener(child, command, path)
-            sent = child.stdout.read()
-            end = listener.end()
-    if end.status:
-        raise end
-    return sent

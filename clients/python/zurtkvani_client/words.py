@@ -1,18 +1,11 @@
 """What statuses and refusals mean, in words: those of docs/statuses.txt of the repository, of which a wheel has a copy."""
 import os
+import re
 import stat
 
 HERE = os.path.dirname(os.path.realpath(__file__))
 # In the package, or where the repository keeps it.
 PLACES = (os.path.join(HERE, "statuses.txt"), os.path.join(HERE, "../../../docs/statuses.txt"))
-# The name of each refusal, from number 1 on.
-NAMES = (
-    "LineTooLong", "BadLine", "BadFilter", "UnknownSession", "SessionOpen", "TooManySessions", "BadCache", "UnknownSeries",
-    "SeriesExists", "TooManySeries", "OffGrid", "BeforeStart", "ValueTooLarge", "RangeTooLong", "SeriesFull", "NoView",
-    "BadWindow", "BadCanvas", "BadRange", "ViewTooLarge", "Full", "LiveTooLarge", "OtherGrid", "SumTooLarge",
-)
-# Which numbers a refusal tells.
-TOLD = {2: "at byte {a}", 3: "at byte {a}", 20: "{a} of {b}", 21: "{a} of {b}", 22: "{a} of {b}"}
 
 
 def read_entries():
@@ -23,6 +16,7 @@ def read_entries():
 
 
 ENTRIES = read_entries()
+NAMES = tuple(entry["name"] for entry in ENTRIES if "refusal" in entry)  # of the refusals, from number 1 on
 
 
 def entry_of(status, place, command):
@@ -36,11 +30,11 @@ def entry_of(status, place, command):
 
 def refusal(number, a=0, b=0):
     """A refusal of a request, in words."""
-    means = next((entry["means"] for entry in ENTRIES if entry.get("refusal") == str(number)), "")
-    # What the numbers stand for needs no words where they are told.
-    means = means.partition("; A is")[0].partition(": A is")[0]
-    told = f": {TOLD[number].format(a=a, b=b)}" if number in TOLD else ""
-    return f"refusal {number}, {NAMES[number - 1]}: {means[:1].lower()}{means[1:]}{told}"
+    entry = next((entry for entry in ENTRIES if entry.get("refusal") == str(number)), {"name": "Unknown", "means": ""})
+    # What the numbers stand for needs no words where they are told, nor when the refusal comes once it has.
+    means = re.split("; |: A is", entry["means"])[0]
+    told = f": {entry['tells'].replace('A', str(a)).replace('B', str(b))}" if "tells" in entry else ""
+    return f"refusal {number}, {entry['name']}: {means[:1].lower()}{means[1:]}{told}"
 
 
 def end(status, place, command="serve", path=None):
