@@ -1,6 +1,8 @@
-"""The command `zurtkvani`: takes files of readings into a store.
+"""The command `zurtkvani`: takes files of readings into a store, and serves stores by HTTP.
 
 usage: zurtkvani import FILE .. --store STORE
+       zurtkvani gateway CONFIG.toml
+       zurtkvani backup CONFIG.toml
 
 A FILE is a CSV, with whatever stands between two fields, gzip of one, `-` for standard input, or Parquet where pyarrow is installed.
 Where the store or a series isn't there it is made: a series for each column of values, under the column's name.
@@ -60,7 +62,7 @@ def default_program():
 
 def words():
     parser = argparse.ArgumentParser(prog="zurtkvani", description=__doc__, formatter_class=argparse.RawDescriptionHelpFormatter)
-    commands = parser.add_subparsers(dest="command", required=True, metavar="import")
+    commands = parser.add_subparsers(dest="command", required=True, metavar="COMMAND")
     add = commands.add_parser("import", help="take files of readings into a store").add_argument
     add("files", nargs="+", metavar="FILE", help="a file of readings; - is standard input")
     add("--store", required=True, help="the store's file; made where it isn't there")
@@ -85,6 +87,11 @@ def words():
     add("--replace", action="store_true", help="that a row replaces the one before where both have one slot is no fault")
     add("--size", type=size, help="of a new store, as 64M; else reckoned from the rows")
     add("--dry-run", action="store_true", help="store nothing, and tell all the same")
+    gateway = commands.add_parser("gateway", help="serve stores by HTTP: docs/GATEWAY.md")
+    gateway.add_argument("configuration", metavar="CONFIG.toml", help="the file of configuration")
+    backup = commands.add_parser("backup", help="have a running gateway copy its stores into the folder of its configuration")
+    backup.add_argument("configuration", metavar="CONFIG.toml", help="the gateway's file of configuration")
+    backup.add_argument("--token", default=os.environ.get("ZURTKVANI_TOKEN", ""), help="its token for writing; else that of ZURTKVANI_TOKEN")
     return parser
 
 
@@ -129,8 +136,20 @@ def stopped(done, why, status):
     return status
 
 
+def serve(given):
+    """Runs a gateway, or asks one for a backup; aiohttp and Python 3.11 are wanted for these alone."""
+    try:
+        from .gateway import backup, server
+    except ImportError as why:
+        print(f"zurtkvani: a gateway needs Python 3.11 and aiohttp, as of Debian's python3-aiohttp: {why}", file=sys.stderr)
+        return 1
+    return server.main(given.configuration) if given.command == "gateway" else backup.main(given.configuration, given.token)
+
+
 def main(arguments=None):
     given = words().parse_args(arguments)
+    if given.command != "import":
+        return serve(given)
     if given.exact:
         given.snap = "none"
     return run(given)

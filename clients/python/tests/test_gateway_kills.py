@@ -1,0 +1,107 @@
+"""Kills of a gateway and of its runs under load: what was answered as written is in the store, and nothing that was never sent."""
+import http.client
+import os
+import random
+import signal
+import tempfile
+import threading
+import time
+import unittest
+from decimal import Decimal
+
+from gateway_server import Gateway, T, require_all
+
+require_all()
+
+SERIES = '[[series]]\nstep = "1s"\nscale = 0\nstart = "2023-01-01"\n'
+WRITERS, KILLS, SECONDS = 3, 6, 60
+
+
+class Writer(threading.Thread):
+    """Writes points, each at a time of its own, and keeps which were answered. A request that fails is sent again, as collectors do."""
+
+    def __init__(self, port, number):
+        super().__init__(daemon=True)
+        self.port, self.number, self.draw = port, number, random.Random(number)
+        self.sent, self.answered, self.ends = {}, {}, threading.Event()
+        self.ends_at = time.monotonic() + SECONDS
+
+    def run(self):
+        at = 0
+        while not self.ends.is_set() and time.monotonic() < self.ends_at:
+            times = range(T + at, T + at + self.draw.choice((1, 50, 400)))
+            part = {(f"m_w{self.number}_{self.draw.randrange(5)}", time_of): self.draw.randrange(1000) for time_of in times}
+            at += 400
+            self.sent.update(part)
+            lines = "\n".join(f"m {name[2:]}={value}i {time_of}" for (name, time_of), value in part.items())
+            while not self.ends.is_set() and time.monotonic() < self.ends_at:
+                if self.post(lines) == 204:
+                    self.answered.update(part)
+                    break
+                time.sleep(0.02)
+
+    def post(self, lines):
+        client = http.client.HTTPConnection("127.0.0.1", self.port, timeout=30)
+        try:
+            client.request("POST", "/write?precision=s", lines)
+            return client.getresponse().status
+        except (OSError, http.client.HTTPException):
+            return None
+        finally:
+            client.close()
+
+
+class Kills(unittest.TestCase):
+    def setUp(self):
+        folder = tempfile.TemporaryDirectory()
+        self.addCleanup(folder.cleanup)
+        self.gateway = Gateway(folder.name, {}, SERIES, size="16M").start()
+        self.addCleanup(self.gateway.close)
+        self.writers = [Writer(self.gateway.port, number) for number in range(WRITERS)]
+
+    def under_load(self, kill):
+        for writer in self.writers:
+            writer.start()
+        draw, seen = random.Random(7), 0
+        for _ in range(KILLS):
+            time.sleep(0.1 + 0.4 * draw.random())
+            kill()
+            before, ends = sum(len(writer.answered) for writer in self.writers), time.monotonic() + 20
+            while time.monotonic() < ends and sum(len(writer.answered) for writer in self.writers) == before:
+                time.sleep(0.02)
+            seen += sum(len(writer.answered) for writer in self.writers) > before
+        for writer in self.writers:
+            writer.ends.set()
+        for writer in self.writers:
+            writer.join(SECONDS)
+        self.assertEqual(seen, KILLS, "writes go on behind each kill")
+
+    def require_equal(self):
+        self.assertEqual(self.gateway.stop(), 0)
+        sent, answered = ({key: value for writer in self.writers for key, value in getattr(writer, of).items()} for of in ("sent", "answered"))
+        exported = [(name, *pair) for name in self.gateway.listed() for pair in self.gateway.exported(name).items()]
+        stored = {(name, time_of): int(Decimal(value)) for name, time_of, value in exported}
+        self.assertGreater(len(answered), 1000)
+        self.assertEqual({key: value for key, value in answered.items() if stored.get(key) != value}, {}, "answered, and not stored")
+        self.assertEqual({key: value for key, value in stored.items() if sent.get(key) != value}, {}, "stored, and never sent")
+
+    def test_kills_of_a_run(self):
+        def kill():
+            for child in self.gateway.children():
+                os.kill(child, signal.SIGKILL)
+
+        self.under_load(kill)
+        self.assertGreaterEqual(sum(event["event"] == "a run ended" for event in self.gateway.events()), KILLS)
+        self.require_equal()
+
+    def test_kills_of_the_gateway(self):
+        def kill():
+            self.gateway.kill()
+            self.gateway.start()
+
+        self.under_load(kill)
+        self.require_equal()
+
+
+if __name__ == "__main__":
+    unittest.main()

@@ -1,0 +1,195 @@
+"""The stores of a gateway: retention, backups, further ones, and those that can't be worked on."""
+import contextlib
+import io
+import json
+import os
+import tempfile
+import threading
+import time
+import unittest
+
+from gateway_server import PROGRAM, SECOND, Gateway, OverAGateway, T, require_all
+
+require_all()
+
+from zurtkvani_client import Store  # noqa: E402
+from zurtkvani_client.gateway import backup  # noqa: E402
+
+
+class Kept(OverAGateway):
+    SECTIONS = {"retain": 'every = "1s"\nquiet = "0.2s"'}
+    SERIES = '[[series]]\nmatch = "old*"\nstep = "1s"\nscale = 0\nkeep = "1h"\nbefore = "400d"\n' + SECOND
+
+    def test_old_values_are_dropped(self):
+        now = int(time.time())
+        times = [now - 90 * 86_400, now - 9000, now - 5000, now - 100, now]
+        self.require_written("\n".join(f"{name} v=1 {at}" for name in ("old", "new") for at in times))
+        ends = time.monotonic() + 30
+        while time.monotonic() < ends and len(self.values("old_v[400d]", now + 1).get('{"__name__": "old_v"}', ())) > 2:
+            time.sleep(0.3)
+        self.require_written(f"old v=2 {now + 1}")
+        self.assertEqual(self.gateway.stop(), 0)
+        self.assertEqual(sorted(self.gateway.exported("old_v")), [now - 100, now, now + 1])
+        self.assertEqual(sorted(self.gateway.exported("new_v")), times)
+
+
+class Backups(OverAGateway):
+    def made(self, folder):
+        self.backups = os.path.join(folder, "backups")
+        self.SECTIONS = {"backup": f"folder = {json.dumps(self.backups)}"}
+        return super().made(folder)
+
+    def test_a_backup_opens_checks_and_equals(self):
+        self.require_written("\n".join(f"w,n={at % 3} v={at} {T + at}" for at in range(3000)))
+        with contextlib.redirect_stdout(io.StringIO()) as told:
+            self.assertEqual(backup.main(self.gateway.path, ""), 0)
+        self.assertIn("gateway.store", told.getvalue())
+        self.require_written(f"w,n=0 v=1 {T + 5000}")
+        (name,) = os.listdir(self.backups)
+        copy = os.path.join(self.backups, name)
+        self.assertEqual(sorted(os.listdir(copy)), ["gateway.store", "names.json"])
+        self.assertEqual(Store(os.path.join(copy, "gateway.store"), program=PROGRAM).check().values, 3000)
+        self.assertEqual(self.gateway.stop(), 0)
+        self.assertEqual(Store(os.path.join(self.gateway.stores, "gateway.store"), program=PROGRAM).check().values, 3001)
+
+
+    def test_a_backup_under_load_has_what_was_answered_before(self):
+        answered, sent, ends = [], [], threading.Event()
+
+        def write():
+            while not ends.is_set() and len(sent) < 20_000:
+                part = list(range(len(sent), len(sent) + 50))
+                sent.extend(part)
+                if self.gateway.write("\n".join(f"w,n={at % 7} v={at} {T + at}" for at in part))[0] == 204:
+                    answered.extend(part)
+
+        writer = threading.Thread(target=write)
+        writer.start()
+        time.sleep(0.5)
+        bounds = []
+        for _ in range(3):
+            before = list(answered)
+            self.assertEqual(self.gateway.ask("/backup", b"")[0], 200)
+            bounds.append((before, len(sent)))
+            time.sleep(1.1)  # a backup is called by its second
+        ends.set()
+        writer.join()
+        for name, (before, behind) in zip(sorted(os.listdir(self.backups)), bounds):
+            path = os.path.join(self.backups, name)
+            copied = Store(os.path.join(path, "gateway.store"), program=PROGRAM)
+            values = {int(number) // 100 for series in copied.series() for _, number in copied.values(series.name)}
+            self.assertEqual(copied.check().values, len(values))
+            self.assertGreaterEqual(values, set(before))
+            self.assertLessEqual(values, set(range(behind + 50)))
+
+
+class Growing(unittest.TestCase):
+    def test_further_stores_are_made_up_to_a_limit(self):
+        with tempfile.TemporaryDirectory() as folder:
+            gateway = Gateway(folder, {"stores": "most = 2"}, SECOND).start()
+            try:
+                self.assertEqual(gateway.write("\n".join(f"w,n={at} v={at} {T}" for at in range(700)))[0], 204)
+                self.assertEqual(gateway.write("\n".join(f"w,n={at} v={at} {T}" for at in range(700, 1200)))[0], 503)
+                self.assertEqual(gateway.write(f"w,n=0 v=5 {T}")[0], 204)
+                self.assertEqual(gateway.metrics()['zurtkvani_gateway_series{store="gateway-2.store"}'], 512)
+                self.assertEqual(gateway.stop(), 0)
+                gateway.start()
+                self.assertEqual(gateway.told_of("query", query='w_v{n="699"}', time=T)["result"][0]["value"], [T, "699"])
+            finally:
+                gateway.close()
+
+    def test_a_full_store_is_told_and_takes_no_series(self):
+        with tempfile.TemporaryDirectory() as folder:
+            gateway = Gateway(folder, {"stores": "most = 1"}, SECOND, size="512K").start()
+            try:
+                lines = "\n".join(f"w v={at % 10} {T + at * 200}" for at in range(200))
+                self.assertEqual(gateway.write(lines)[0], 503)
+                self.assertEqual(gateway.ask("/healthz")[0], 503)
+                self.assertIn(b"full", gateway.ask("/healthz")[1])
+            finally:
+                gateway.close()
+
+
+def script(folder, lines):
+    """A program that does these lines of a shell, in which PROGRAM is the chart program."""
+    path = os.path.join(folder, "program")
+    with open(path, "w") as file:
+        file.write("#!/bin/sh\n" + lines.replace("PROGRAM", PROGRAM) + "\n")
+    os.chmod(path, 0o755)
+    return path
+
+
+class Broken(unittest.TestCase):
+    def test_a_damaged_store_is_told_and_not_tried_again(self):
+        with tempfile.TemporaryDirectory() as folder:
+            gateway = Gateway(folder, {}, SECOND).start()
+            try:
+                self.assertEqual(gateway.write(f"w v=1 {T}")[0], 204)
+                self.assertEqual(gateway.stop(), 0)
+                path = os.path.join(gateway.stores, "gateway.store")
+                with open(path, "r+b") as file:
+                    file.seek(66 * 4096)
+                    file.write(b"x" * 8)
+                gateway.start()
+                status, text, _ = gateway.ask("/healthz")
+                self.assertEqual(status, 503)
+                self.assertIn(b"status 7 at 66", text)
+                self.assertEqual(gateway.write(f"w v=1 {T}")[0], 503)
+                self.assertEqual(sum(event["event"] == "a run ended" for event in gateway.events()), 1)
+                self.assertEqual(gateway.stop(), 0)
+            finally:
+                gateway.close()
+
+    def test_a_write_that_the_system_refuses_loses_nothing_that_was_answered(self):
+        with tempfile.TemporaryDirectory() as folder:
+            # as ./chart does, so that it is a write that fails, and no signal
+            gateway = Gateway(folder, {}, SECOND, program=script(folder, "trap '' XFSZ\nexec PROGRAM \"$@\"")).start()
+            try:
+                self.assertEqual(gateway.stop(), 0)
+                gateway.start(most_bytes=2**20)
+                answered, status = {}, 204
+                for at in range(100):
+                    times = range(T + 2000 * at, T + 2000 * at + 2000)
+                    status, text = gateway.write("\n".join(f"w v=1 {time_of}" for time_of in times))
+                    if status != 204:
+                        break
+                    answered.update(dict.fromkeys(times, "1.00"))
+                self.assertEqual(status, 503, text)
+                self.assertIn(b"status 6", gateway.ask("/healthz")[1])
+                self.assertEqual(sum(event["event"] == "a run ended" for event in gateway.events()), 1)
+                gateway.stop()
+                gateway.start()
+                self.assertEqual(gateway.write(f"w v=1 {T + 10**6}")[0], 204)
+                self.assertEqual(gateway.stop(), 0)
+                self.assertGreater(len(answered), 2000)
+                self.assertLessEqual(answered.items(), gateway.exported("w_v").items())
+            finally:
+                gateway.close()
+
+    def test_a_run_that_ends_at_once_isnt_started_for_ever(self):
+        with tempfile.TemporaryDirectory() as folder:
+            gateway = Gateway(folder, {}, SECOND, program=script(folder, '[ "$2" != serve ] || exit 3\nexec PROGRAM "$@"')).start()
+            try:
+                self.assertIn(b"ended at once", gateway.ask("/healthz")[1])
+                self.assertEqual(gateway.write(f"w v=1 {T}")[0], 503)
+                self.assertEqual(sum(event["event"] == "a run ended" for event in gateway.events()), 6)
+                self.assertEqual(gateway.stop(), 0)
+            finally:
+                gateway.close()
+
+    def test_a_wrong_start_says_why(self):
+        with tempfile.TemporaryDirectory() as folder:
+            gateway = Gateway(folder, {}, "[[series]]\nsteps = 1\n")
+            with self.assertRaisesRegex(AssertionError, "line .*no key 'steps'"):
+                gateway.start()
+            self.assertEqual(gateway.process.wait(), 2)
+            gateway.close()
+            gateway = Gateway(folder, {}, SECOND, program="/nonexistent/chart")
+            with self.assertRaisesRegex(AssertionError, "nonexistent"):
+                gateway.start()
+            self.assertEqual(gateway.process.wait(), 1)
+            gateway.close()
+
+
+if __name__ == "__main__":
+    unittest.main()

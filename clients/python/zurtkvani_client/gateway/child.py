@@ -1,0 +1,293 @@
+"""All that the gateway knows of the program: one run of `serve` over a store, its lines and frames, and when it is started again.
+
+A run takes lines by turns. A turn is up to 64 lines that stand ready at once, so edits among them share commits, and it ends when each
+line is answered by its frame. Frames come in the order of the lines.
+"""
+import asyncio
+import contextlib
+import fcntl
+import io
+import os
+import struct
+import time
+
+from .. import client, frames
+from ..run import IN_FLIGHT, Ended, Refused, end_of
+from ..store import Store
+from .log import tell
+
+MOST_FRAME = 4_194_304  # bytes behind a frame's length
+SESSION = 1  # the one session of a run; its views have a filter, so its client keeps nothing
+OPEN = b"open %d 1" % SESSION
+MOST_SECONDS = 120  # of a turn
+FIRST_DELAY, MOST_DELAY = 0.1, 10.0  # seconds until a run that ended is started again
+PAUSE = 0.05  # seconds between two looks whether a store is released
+SOON = 10.0  # seconds; a run that ends before, and has answered nothing, has ended at once
+MOST_SOON = 6  # runs in a row that end at once, before the store is given up
+DAMAGED = (7, 12)  # statuses that another run would end with too
+
+
+class Down(Exception):
+    """The store has no run, and gets none: why."""
+
+
+class Lost(Exception):
+    """The run ended before all lines of a turn were answered. Lines of edits may be sent again: done twice, they do what they do once."""
+
+
+class Run:
+    """One `PROGRAM PATH serve`."""
+
+    def __init__(self, child, path):
+        self.child, self.path, self.said = child, path, None
+        self.answered = 0  # lines
+        self.listening = asyncio.create_task(self._listen())
+
+    @classmethod
+    async def start(cls, program, path):
+        pipe = asyncio.subprocess.PIPE
+        # A session of its own, so that Control-C reaches the gateway alone.
+        child = await asyncio.create_subprocess_exec(
+            program, path, "serve", stdin=pipe, stdout=pipe, stderr=pipe, start_new_session=True, limit=2**20
+        )
+        run = cls(child, path)
+        try:
+            (run.opened,) = await run.turn([OPEN])
+        except Lost:
+            raise await run.stop() from None
+        return run
+
+    async def _listen(self):
+        async for line in self.child.stderr:
+            said = end_of(line, "serve", self.path)
+            if said:
+                self.said = said
+            else:
+                tell("the program says", path=self.path, text=line.decode(errors="replace").rstrip())
+
+    async def turn(self, lines):
+        """Sends lines, at most 64, and gives the bytes of their frames. Raises Lost; the run is ended then."""
+        try:
+            answers = await asyncio.wait_for(self._answers(lines), MOST_SECONDS)
+            self.answered += len(lines)
+            return answers
+        except (asyncio.IncompleteReadError, asyncio.TimeoutError, ConnectionError) as why:
+            with contextlib.suppress(ProcessLookupError):
+                self.child.kill()
+            raise Lost(str(why) or f"no answer within {MOST_SECONDS} s") from None
+
+    async def _answers(self, lines):
+        self.child.stdin.write(b"\n".join(lines) + b"\n")
+        await self.child.stdin.drain()
+        return [await self._frame() for _ in lines]
+
+    async def _frame(self):
+        head = await self.child.stdout.readexactly(4)
+        (length,) = struct.unpack(">I", head)
+        if length > MOST_FRAME:
+            raise ConnectionError("the program sends no frames")
+        return head + await self.child.stdout.readexactly(length)
+
+    async def end(self):
+        """How it ended, once it has."""
+        status = await self.child.wait()
+        await self.listening
+        return self.said or Ended(status, None, "serve", self.path)
+
+    async def stop(self, seconds=30):
+        """Ends it as the end of its input does, and where that takes too long by a kill. Gives how it ended."""
+        self.child.stdin.close()
+        try:
+            return await asyncio.wait_for(asyncio.shield(asyncio.ensure_future(self.end())), seconds)
+        except asyncio.TimeoutError:
+            self.child.kill()
+            return await self.end()
+
+
+class Keeper:
+    """Keeps a run over a store: starts it, hands it turns in the order of those who ask, and starts it again when it ends."""
+
+    def __init__(self, program, path):
+        self.program, self.path = program, path
+        self.run, self.down, self.restarts = None, None, 0
+        self.series, self.on_listed = None, None  # what the store had when its last run began, and who is told
+        self.opened = None  # the frame that opened the session
+        self.has_worked = False  # whether the last run answered what it was asked
+        self.free, self.is_up, self.is_stopping = asyncio.Lock(), asyncio.Event(), False
+        self.task, self.turns = None, set()
+
+    async def start(self):
+        """Starts the first run, and waits until it stands, or is given up."""
+        self.task = asyncio.create_task(self._keep())
+        await self.is_up.wait()
+
+    async def ask(self, lines, seconds=30):
+        """The frames of lines, of which each 64 are one turn. Raises Down, Lost, and TimeoutError where no run stands in time."""
+        answers = []
+        for at in range(0, len(lines), IN_FLIGHT):
+            await asyncio.wait_for(self.is_up.wait(), seconds)
+            answers += await self._asked(lines[at : at + IN_FLIGHT])
+        return answers
+
+    async def _asked(self, lines):
+        """The answers of a turn. Whoever waits for them may be broken off, and the turn goes on, since its answers belong to no later one."""
+        waits = [True]
+        turn = asyncio.create_task(self._turn(lines, waits))
+        self.turns.add(turn)
+        turn.add_done_callback(self._done)
+        try:
+            return await asyncio.shield(turn)
+        finally:
+            waits.clear()
+
+    def _done(self, turn):
+        self.turns.discard(turn)
+        if not turn.cancelled():
+            turn.exception()
+
+    async def _turn(self, lines, waits):
+        async with self.free:
+            if not waits:
+                return []
+            if self.down:
+                raise Down(self.down)
+            if self.run is None:
+                raise Lost("the run has ended")
+            run = self.run
+            try:
+                return await run.turn(lines)
+            except Lost:
+                if self.run is run:
+                    self.is_up.clear()
+                raise
+
+    def state(self):
+        """Two that are equal, the second one taken between two turns, tell that no turn was done meanwhile. Without a run none equals another."""
+        return (self.run, self.run.answered) if self.run else object()
+
+    async def stop(self):
+        self.is_stopping = True
+        async with self.free:
+            if self.run:
+                await self.run.stop()
+        if self.task:
+            await asyncio.wait({self.task}, timeout=40)
+
+    async def between_runs(self, work):
+        """Ends the run between two turns, awaits `work()`, and starts another run."""
+        async with self.free:
+            if self.down or self.run is None:
+                raise Lost("the run has ended")
+            run, self.run = self.run, None
+            self.is_up.clear()
+            end = await run.stop()
+            try:
+                if end.status == 0:
+                    await work()
+            finally:
+                self.task = asyncio.create_task(self._keep())
+
+    async def _keep(self):
+        """Starts runs, one after the other, until one isn't to be started again."""
+        soon, delay = 0, FIRST_DELAY
+        while not self.is_stopping:
+            begun, self.has_worked = time.monotonic(), False
+            end = await self._live()
+            if self.is_stopping or end is None:
+                return
+            soon = 0 if self.has_worked or time.monotonic() - begun > SOON else soon + 1
+            delay = min(2 * delay, MOST_DELAY) if soon else FIRST_DELAY
+            why = self._reason_to_give_up(end, soon)
+            tell("a run ended", "error" if why else "warning", path=self.path, status=end.status, place=end.place, means=str(end))
+            if why:
+                self.down = f"{os.path.basename(self.path)}: {why}"
+                tell("a store is given up", "error", path=self.path, why=why)
+                self.is_up.set()
+                return
+            self.restarts += 1
+            await asyncio.sleep(delay)
+
+    async def _live(self):
+        """One run from its start to its end; gives how it ended, None where another hand ended it."""
+        try:
+            await until_released(self.path)
+            self.series = await asyncio.to_thread(Store(self.path, self.program).series)
+            run = await Run.start(self.program, self.path)
+        except Ended as end:
+            return end
+        except OSError as why:
+            return not_started(why, self.path)
+        self.run, self.opened = run, run.opened
+        self.on_listed(self)
+        self.is_up.set()
+        tell("a run stands", path=self.path, process=run.child.pid, series=len(self.series))
+        end = await run.end()
+        if self.run is not run:
+            return None
+        self.is_up.clear()
+        self.run, self.has_worked = None, run.answered > 1
+        return end
+
+    def _reason_to_give_up(self, end, soon):
+        if end.status in DAMAGED:
+            return str(end)
+        # A sync may have failed, and a run behind it would take for stored what never reached the medium: docs/FORMATS.md tells why.
+        if end.status == 6 and not is_held(self.path):
+            return str(end)
+        return f"{MOST_SOON} runs in a row ended at once: {end}" if soon >= MOST_SOON else None
+
+
+def not_started(why, path):
+    """What stands for the end of a run that the system didn't start."""
+    end = Ended(127, None, "serve", path)
+    end.args = (f"the program can't be started: {why}",)
+    return end
+
+
+def is_held(path):
+    """Whether another run holds the store. To wait for its end is the one way in which status 6 passes by itself."""
+    try:
+        with open(path, "rb") as file:
+            fcntl.flock(file, fcntl.LOCK_EX | fcntl.LOCK_NB)
+            return False
+    except BlockingIOError:
+        return True
+    except OSError:
+        return False
+
+
+async def until_released(path, seconds=10):
+    """Waits until no other run holds the store, as one that ends by itself now that its gateway was killed."""
+    for _ in range(int(seconds / PAUSE)):
+        if not is_held(path):
+            return
+        await asyncio.sleep(PAUSE)
+
+
+def done_or_refused(frame):
+    """What an edit was answered: Done or Refused of frames.py."""
+    return frames.accept(frames.Fields(io.BytesIO(frame)), {})[0]
+
+
+def refusal_of(frame):
+    """The refusal that a frame is, or None."""
+    return done_or_refused(frame) if frame[4] == frames.REFUSED else None
+
+
+def view_line(name, columns, height, t0, t1, bounds="auto"):
+    """The line of a view whose columns are told by their values. Each value meets its condition."""
+    return f"view {SESSION} {name} {columns} {height} {t0} {t1} {bounds} where v >= {-frames.MOST}".encode()
+
+
+def rows_of(frame):
+    """The rows of a view: column, first, least, greatest and last value of each column that has one. Raises Refused."""
+    if frame[4] != frames.ROWS:
+        raise Refused(*done_or_refused(frame))
+    return struct.iter_unpack(">Hqqqq", memoryview(frame)[31:])
+
+
+def picture_of(opened, frame):
+    """The picture of a view, by the proved client where its library is there."""
+    drawn = client.over(io.BytesIO(opened + frame))
+    drawn.accept()
+    return drawn.accept()[1]

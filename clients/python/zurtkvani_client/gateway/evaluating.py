@@ -1,0 +1,157 @@
+"""What a query comes to at each of some times. Values are decimals, so sums and differences of stored ones are exact."""
+import collections
+import decimal
+from decimal import Decimal
+
+from .labels import NAME
+from .matching import matches
+from .promql import Aggregate, Call, Number, Selector, Wrong
+from .reading import Windows
+
+# Sums, differences and products of a few stored values have no more digits; a quotient is rounded to so many.
+EXACT = decimal.Context(prec=60, traps=[])
+MOST_SERIES = 5_000
+
+
+class Line(collections.namedtuple("Line", "labels values")):
+    """What a query comes to for some labels: a value, or None, for each time."""
+
+    def has_values(self):
+        return any(value is not None for value in self.values)
+
+
+class Evaluation:
+    """One query at some times: the first one, and from one to the next, in nanoseconds."""
+
+    def __init__(self, stores, reads, lookback, first, step, count):
+        self.stores, self.reads, self.lookback = stores, reads, lookback
+        self.first, self.step, self.count = first, step, count
+
+    async def lines(self, tree):
+        """The lines of a tree; a number is a list of values instead."""
+        if isinstance(tree, Number):
+            return [tree.value] * self.count
+        if isinstance(tree, Selector):
+            if tree.range is not None:
+                raise Wrong("a selector with a range stands within a function, as avg_over_time, or alone in a query of one time")
+            return [line for known in self.found(tree) if (line := await self.selected(known)).has_values()]
+        if isinstance(tree, Call):
+            return [line for known in self.found(tree.selector) if (line := await self.called(tree, known)).has_values()]
+        if isinstance(tree, Aggregate):
+            return self.aggregated(tree, await self.lines(tree.inner))
+        return self.joined(tree, await self.lines(tree.left), await self.lines(tree.right))
+
+    def found(self, selector):
+        known = select(self.stores, selector.matchers)
+        self.reads.spend(len(known) * self.count)
+        return known
+
+    def windows(self, length):
+        return Windows(self.first, self.step, self.count, length)
+
+    async def selected(self, known):
+        """A series as it is at each time: its last value of those that lie no longer back than the lookback, or than two steps of the series."""
+        rows = await self.reads.rows(known, self.windows(max(self.lookback, 2 * known.gap)))
+        return Line(known.labels, [row and real(row.last, known) for row in rows])
+
+    async def called(self, tree, known):
+        labels = {label: value for label, value in known.labels.items() if label != NAME}
+        if tree.name in ("avg_over_time", "sum_over_time", "count_over_time"):
+            sums = await self.reads.sums(known, self.windows(tree.selector.range))
+            return Line(labels, [over(tree.name, total, count, known) for total, count in sums])
+        rows = await self.reads.rows(known, self.windows(tree.selector.range))
+        field = {"min_over_time": "least", "max_over_time": "greatest", "last_over_time": "last"}[tree.name]
+        labels = known.labels if field == "last" else labels
+        return Line(labels, [row and real(getattr(row, field), known) for row in rows])
+
+    def aggregated(self, tree, lines):
+        if isinstance(lines, list) and lines and not isinstance(lines[0], Line):
+            raise Wrong(f"{tree.name} is of series, not of a number")
+        groups = {}
+        for line in lines:
+            labels = {label: value for label, value in line.labels.items() if (label in tree.labels) == tree.is_by and label != NAME}
+            groups.setdefault(tuple(sorted(labels.items())), []).append(line.values)
+        return [Line(dict(labels), [gathered(tree.name, values) for values in zip(*columns)]) for labels, columns in groups.items()]
+
+    def joined(self, tree, left, right):
+        """The two sides of a sign, time by time; of series those are joined that have the same labels but for the name."""
+        is_left, is_right = (bool(side) and not isinstance(side[0], Line) for side in (left, right))
+        if is_left and is_right:
+            return pairwise(tree.sign, left, right)
+        if is_left or is_right:
+            lines, number = (right, left) if is_left else (left, right)
+            sides = ((number, line.values) if is_left else (line.values, number) for line in lines)
+            return [Line(nameless(line.labels), pairwise(tree.sign, *pair)) for line, pair in zip(lines, sides)]
+        others = by_labels(right)
+        return [
+            Line(dict(labels), pairwise(tree.sign, values, others[labels])) for labels, values in by_labels(left).items() if labels in others
+        ]
+
+
+def nameless(labels):
+    return {label: value for label, value in labels.items() if label != NAME}
+
+
+def by_labels(lines):
+    found = {}
+    for line in lines:
+        labels = tuple(sorted(nameless(line.labels).items()))
+        if labels in found:
+            raise Wrong(f"two series of one side have the same labels but for the name: {dict(labels)}; name more of them, or sum them first")
+        found[labels] = line.values
+    return found
+
+
+def select(stores, matchers):
+    """The series that fit, in the order of their labels."""
+    named = next((matcher.value for matcher in matchers if matcher.label == NAME and matcher.names_one()), None)
+    among = stores.by_key.values() if named is None else stores.by_name.get(named, ())
+    found = sorted((known for known in among if matches(matchers, known.labels)), key=lambda known: known.key)
+    if len(found) > MOST_SERIES:
+        raise Wrong(f"{len(found):,} series fit, and a query reads at most {MOST_SERIES:,}")
+    return found
+
+
+def real(number, known):
+    return Decimal(number).scaleb(-known.record.scale, EXACT)
+
+
+def over(name, total, count, known):
+    if not count:
+        return None
+    if name == "count_over_time":
+        return Decimal(count)
+    return real(total, known) if name == "sum_over_time" else EXACT.divide(real(total, known), Decimal(count))
+
+
+def gathered(name, values):
+    values = [value for value in values if value is not None]
+    if not values:
+        return None
+    if name in ("min", "max"):
+        return min(values) if name == "min" else max(values)
+    if name == "count":
+        return Decimal(len(values))
+    total = Decimal(0)
+    for value in values:
+        total = EXACT.add(total, value)
+    return total if name == "sum" else EXACT.divide(total, Decimal(len(values)))
+
+
+OPERATIONS = {"+": EXACT.add, "-": EXACT.subtract, "*": EXACT.multiply, "/": EXACT.divide}
+
+
+def pairwise(sign, left, right):
+    operation = OPERATIONS[sign]
+    return [None if one is None or other is None else operation(one, other) for one, other in zip(left, right)]
+
+
+def text_of(value):
+    """A value as Prometheus spells it: all its digits where it is exact, else those of a double."""
+    if not value.is_finite():
+        return "NaN" if value.is_nan() else "+Inf" if value > 0 else "-Inf"
+    if len(value.as_tuple().digits) > 40 or abs(value.adjusted()) > 40 and value:
+        text = repr(float(value))
+        return text.replace("inf", "Inf") if text[0] == "-" else text.replace("inf", "+Inf")
+    text = format(value, "f")
+    return text.rstrip("0").rstrip(".") if "." in text else text

@@ -1,0 +1,184 @@
+"""From points to the slots of series: which series a point is of, which slot its time lies in, and what became of each."""
+import asyncio
+import collections
+import time
+
+from ..decimals import MOST, whole_number
+from ..grids import LAST_SLOT
+from ..unfit import Unfit
+from .labels import text_of
+from .stores import FULL, NoRoom
+
+PAUSE = 0.03  # seconds between two looks whether there is room
+PART = 2000  # points that are taken in before others have their turn
+SHOWN = 5  # bad lines, and reasons, that an answer tells
+MOST_WORDS = 400  # signs of one of them
+
+Point = collections.namedtuple("Point", "key measurement time value")  # the time in nanoseconds, the value a text or an int
+
+
+class Busy(Exception):
+    """There is too much at once; it may be sent again."""
+
+
+class Outcome:
+    """What became of the points of a request. Of what is wrong the first few are told, however many there are."""
+
+    def __init__(self):
+        self.taken = self.dropped = self.left_out = self.bad = 0
+        self.reasons, self.errors = {}, []  # why points were dropped, with how many; and what was no point
+
+    def drop(self, why, count=1):
+        self.dropped += count
+        if why in self.reasons or len(self.reasons) < SHOWN:
+            self.reasons[why] = self.reasons.get(why, 0) + count
+
+    def fail(self, why):
+        self.bad += 1
+        if len(self.errors) < SHOWN:
+            self.errors.append(shortened(why))
+
+    def words(self):
+        told = [shortened(why) + (f" ({count})" if count > 1 else "") for why, count in self.reasons.items()]
+        return "; ".join(told) + ("; .." if sum(self.reasons.values()) < self.dropped else "")
+
+
+def shortened(words):
+    return words if len(words) <= MOST_WORDS else words[:MOST_WORDS] + ".."
+
+
+class Intake:
+    """Takes in the points of requests."""
+
+    def __init__(self, configuration, stores, writer_of, waiting, counts):
+        self.given, self.stores, self.writer_of = configuration.write, stores, writer_of
+        self.waiting, self.counts = waiting, counts
+        self.works = set()  # what goes on though nobody may wait for it
+
+    def require_room(self):
+        if self.waiting() >= self.given.waiting_points:
+            raise Busy("too many points wait for the disk")
+
+    async def take(self, points, outcome):
+        """Stores the points of an iterator, and comes back once all are acknowledged. What can't be stored is told by the outcome. The iterator
+        gives None for what is no point, so that others have their turn however many of these there are.
+
+        Raises Busy, NoRoom, child.Down, child.Lost and TimeoutError, behind which some of them are stored and some aren't.
+        """
+        waiting, part = [], []
+        for at, point in enumerate(points, 1):
+            if point is not None:
+                part.append(point)
+            if at % PART == 0:
+                waiting += await self._part(part, outcome)
+                part = []
+        waiting += await self._part(part, outcome)
+        for batch, counts in waiting:
+            refused = await batch.stored(self.given.seconds / 10**9)
+            for known, count in counts.items():
+                self._settle(refused.get(known), known, count, outcome)
+        self.counts.add("points_total", outcome.taken)
+        self.counts.add("dropped_points_total", outcome.dropped)
+        self.counts.add("left_out_total", outcome.left_out)
+
+    def _settle(self, refusal, known, count, outcome):
+        if refusal is None:
+            outcome.taken += count
+        elif refusal.number == FULL:
+            raise NoRoom(f"{known.keeper.path} is full")
+        else:
+            outcome.drop(f"{text_of(known.key)}: refusal {refusal.number}", count)
+
+    async def _part(self, points, outcome):
+        """Hands some points to the writers, and gives the batches that they are of, each with how many of each series."""
+        groups = grouped(points)
+        await self._make_missing(groups, outcome)
+        batches = {}
+        for key, group in groups.items():
+            known = self.stores.by_key.get(key)
+            values, count = self._placed(known, group, outcome) if known else ({}, 0)
+            if values:
+                batch = self.writer_of(known.keeper).add(known, values)
+                batches.setdefault(batch, {})[known] = count
+        await self._until_room(batches)
+        return list(batches.items())
+
+    async def _until_room(self, batches):
+        """Others have their turn here; and a request of more points than may wait goes on as the disk takes them."""
+        await asyncio.sleep(0)
+        while self.waiting() >= 2 * self.given.waiting_points:
+            if all(time.monotonic() - batch.writer.progress > self.given.seconds / 10**9 for batch in batches):
+                raise Busy("the disk is too slow for so many points")
+            await asyncio.sleep(PAUSE)
+
+    async def _make_missing(self, groups, outcome):
+        """Makes the series that aren't there; each by the earliest of its points."""
+        missing, claims = [], []
+        for key, group in groups.items():
+            measurement = group[0].measurement
+            if key not in self.stores.by_key:
+                missing.append((key, measurement, min(point.time for point in group)))
+            elif measurement is not None and key not in self.stores.names.measurements:
+                claims.append((key, measurement))
+        if claims:
+            await self._whole(self.stores.claim(claims))
+        if missing:
+            for key, why in (await self._whole(self.stores.make(missing))).items():
+                outcome.drop(f"{text_of(key)}: {why}", len(groups[key]))
+
+    async def _whole(self, work):
+        """Awaits what isn't to be broken off in the middle, and no longer than a write may take; it goes on all the same."""
+        task = asyncio.ensure_future(work)
+        self.works.add(task)
+        task.add_done_callback(self._done)
+        return await asyncio.wait_for(asyncio.shield(task), self.given.seconds / 10**9)
+
+    def _done(self, task):
+        self.works.discard(task)
+        if not task.cancelled():
+            task.exception()
+
+    def _placed(self, known, points, outcome):
+        """The slots of a series' points, those that their times lie in, each with its last value; and how many points these are."""
+        owner, first, gap, scale = self.stores.names.measurements.get(known.key), known.first, known.gap, known.record.scale
+        values, count = {}, 0
+        for _, measurement, time_of, value in points:
+            slot = (time_of - first) // gap
+            if measurement != owner and owner is not None and measurement is not None:
+                outcome.drop(f"{text_of(known.key)} is of the measurement {owner!r}, not of {measurement!r}")
+            elif not 0 <= slot <= LAST_SLOT:
+                outcome.drop(f"{text_of(known.key)}: a time lies " + ("before the series' start" if slot < 0 else "too far behind its start"))
+            else:
+                try:
+                    values[slot] = number_of(value, scale)
+                    count += 1
+                except Unfit as why:
+                    outcome.drop(f"{text_of(known.key)}: {why}")
+        return values, count
+
+
+def grouped(points):
+    """The points of each series, in their order. Most come with the very same key, so that few of them are compared."""
+    groups, same = {}, {}
+    for point in points:
+        group = same.get(id(point.key))
+        if group is None:
+            group = same[id(point.key)] = groups.setdefault(point.key, [])
+        group.append(point)
+    return groups
+
+
+def number_of(value, scale):
+    """The whole number that a series keeps of a value, a text or an int: times 10^scale, rounded half to even. Raises Unfit."""
+    if isinstance(value, int):
+        number = value * 10**scale
+        if not -MOST <= number <= MOST:
+            raise Unfit(f"{value} is too large for the scale {scale}")
+        return number
+    whole, _, rest = value.partition(".")
+    if len(rest) <= scale and len(whole) < 9 and "_" not in value:
+        try:
+            return int(whole + rest.ljust(scale, "0"))  # so few digits need no rounding, and can't be too many
+        except ValueError:
+            pass  # an exponent, or no number
+    return whole_number(value, scale)[0]

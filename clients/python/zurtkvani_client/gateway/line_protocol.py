@@ -1,0 +1,172 @@
+"""InfluxDB's line protocol, as points: `measurement,tag=value field=1.5,other=2i 1700000000000000000`.
+
+A point is of the series whose name is the measurement and the field, and whose labels are the tags.
+"""
+import re
+
+from .intake import Point
+from .labels import NAME, key_of
+
+PRECISIONS = {
+    "": 1, "n": 1, "ns": 1, "u": 10**3, "us": 10**3, "µ": 10**3, "ms": 10**6, "s": 10**9, "m": 60 * 10**9, "h": 3600 * 10**9,
+}
+LINE = re.compile(r'((?:[^\\ ]|\\.)+) +((?:"(?:[^"\\]|\\.)*"|[^\\ "]|\\.)+)(?: +(\S+))? *', re.DOTALL)
+FIELD = re.compile(r'((?:[^\\,= "]|\\.)+)=("(?:[^"\\]|\\.)*"|[^\\,= "]+)(?:,|\Z)', re.DOTALL)
+PART = re.compile(r"(?:[^\\,]|\\.)+", re.DOTALL)
+TAG = re.compile(r"((?:[^\\=]|\\.)+)=((?:[^\\=]|\\.)+)", re.DOTALL)
+ESCAPED = re.compile(r"\\([,= ])")
+QUOTE = re.compile(r'(?<!\\)(?:\\\\)*"')
+NUMBER = re.compile(r"-?(?:\d+\.?\d*|\.\d+)(?:[eE][+-]?\d+)?", re.ASCII)
+INTEGER = re.compile(r"(-?\d+)[iu]", re.ASCII)
+TIME = re.compile(r"-?\d{1,19}", re.ASCII)
+TRUTHS = {**dict.fromkeys(("t", "T", "true", "True", "TRUE"), 1), **dict.fromkeys(("f", "F", "false", "False", "FALSE"), 0)}
+NO_NUMBER = {"nan", "inf", "+inf", "-inf", "infinity"}
+MOST_JOINED = 2**16  # bytes of a line with line feeds within its texts
+MOST_KEPT, MOST_HEAD = 50_000, 500  # heads that are remembered, and signs of one
+SHOWN = 200  # bytes of a bad line that an answer shows
+
+
+class Bad(Exception):
+    """Why a line is no point."""
+
+
+class Reader:
+    """Reads bodies. Heads are remembered, since the same series come again and again."""
+
+    def __init__(self, database_label, separator):
+        self.database_label, self.separator = database_label, separator
+        self.keys = {}
+
+    def points(self, body, database, precision, now, outcome):
+        """The points of a body, one by one, and None for a line or a field that is none. What is no point, and what is left out, is told by the
+        outcome."""
+        size = PRECISIONS[precision]
+        for line in whole_lines(body.decode("utf-8", "surrogateescape")):
+            if not line or line[0] == "#":
+                yield None
+                continue
+            try:
+                yield from self.line(line, database, size, now, outcome)
+            except Bad as why:
+                outcome.fail(f"unable to parse '{shown(line)}': {why}")
+                yield None
+
+    def line(self, line, database, size, now, outcome):
+        head, fields, time = pieces(line)
+        if time is None:
+            time = now
+        elif TIME.fullmatch(time):
+            time = int(time) * size
+        else:
+            raise Bad("bad timestamp")
+        # Where one field of a line is bad none of it is taken.
+        found = [(name, value_of(text)) for name, text in fields_of(fields)]
+        for name, value in found:
+            if value is None:
+                outcome.left_out += 1
+                yield None
+            else:
+                yield Point(*self.key(head, name, database), time, value)
+
+    def key(self, head, field, database):
+        """The labels of a field's series, and its measurement."""
+        found = self.keys.get((head, field, database))
+        if found is None:
+            measurement, tags = self.head(head, database)
+            found = key_of({**tags, NAME: measurement + self.separator + unescaped(field)}), measurement
+            if len(self.keys) >= MOST_KEPT:
+                self.keys.clear()
+            if len(head) < MOST_HEAD:
+                self.keys[head, field, database] = found
+        return found
+
+    def head(self, head, database):
+        measurement, *parts = PART.findall(head)
+        tags = {}
+        for part in parts:
+            match = TAG.fullmatch(part)
+            if not match:
+                raise Bad("missing tag value")
+            name, value = unescaped(match[1]), unescaped(match[2])
+            if name in tags:
+                raise Bad("duplicate tags")
+            if name == NAME or name == self.database_label and database:
+                raise Bad(f"the tag {name} is the gateway's own; database_label of its configuration names another one")
+            tags[name] = value
+        if self.database_label and database:
+            tags[self.database_label] = database
+        if head[-1:] == "," or head[:1] == ",":
+            raise Bad("missing tag key" if head[-1:] == "," else "missing measurement")
+        return unescaped(measurement), tags
+
+
+def whole_lines(text):
+    """The lines of a body. A line feed within a quoted text ends no line."""
+    joined, at = "", 0
+    while at <= len(text):
+        end = text.find("\n", at)
+        end = len(text) if end < 0 else end
+        line, at = joined + text[at:end], end + 1
+        if '"' in line and line[0] != "#" and len(QUOTE.findall(line)) % 2 and len(line) < MOST_JOINED:
+            joined = line + "\n"
+            continue
+        joined = ""
+        yield line.strip(" \r\t")
+    if joined:
+        yield joined.strip()
+
+
+def pieces(line):
+    """The measurement with its tags, the fields, and the time or None."""
+    if not line.isascii() and any("\ud800" <= sign <= "\udfff" for sign in line):
+        raise Bad("invalid UTF-8")
+    if "\\" not in line and '"' not in line:
+        parts = [part for part in line.split(" ") if part]
+        if len(parts) == 3:
+            return parts
+        if len(parts) == 2:
+            return *parts, None
+    match = LINE.fullmatch(line)
+    if not match:
+        raise Bad("missing fields" if " " not in line else "invalid field format")
+    return match.groups()
+
+
+def fields_of(text):
+    """The names of fields and the texts of their values."""
+    if "\\" not in text and '"' not in text:
+        pairs = [part.partition("=")[::2] for part in text.split(",")]
+        if all(name and value and "=" not in value for name, value in pairs):
+            return pairs
+    at, pairs = 0, []
+    while at < len(text):
+        match = FIELD.match(text, at)
+        if not match:
+            raise Bad("invalid field format")
+        pairs.append(match.groups())
+        at = match.end()
+    if not pairs or text[-1] == ",":
+        raise Bad("missing fields")
+    return pairs
+
+
+def value_of(text):
+    """The value of a field: a text of a number, or a whole number; None for what a series can't keep, as words."""
+    if NUMBER.fullmatch(text):
+        return text
+    if match := INTEGER.fullmatch(text):
+        return int(match[1])
+    if text in TRUTHS:
+        return TRUTHS[text]
+    if text[0] == '"' or text.lower() in NO_NUMBER:
+        return None
+    raise Bad("invalid number")
+
+
+def unescaped(text):
+    return ESCAPED.sub(r"\1", text) if "\\" in text else text
+
+
+def shown(line):
+    line = "".join(sign if sign.isprintable() else "?" for sign in line[: SHOWN + 1])
+    return line if len(line) <= SHOWN else line[:SHOWN] + ".."

@@ -1,0 +1,166 @@
+"""What a series has within windows of time: by views whose columns are the windows, or parts of them, or by its values.
+
+A window ends with a time and holds what lies so long before it: later than its end less its length, and no later than its end. All that is read
+here is exact: a view tells the first, the least, the greatest and the last value of each column.
+"""
+import asyncio
+import collections
+import math
+from itertools import accumulate
+
+from . import child
+
+COLUMNS = 4096  # of a view
+MOST_PARTS = 64 * COLUMNS
+MOST_LOST = 3
+TURN = 16  # views that are asked for at once
+LEAST_COST = 16  # of a view, as many rows cost
+
+Windows = collections.namedtuple("Windows", "end step count length")  # the first end, and from one to the next, in nanoseconds
+Row = collections.namedtuple("Row", "first least greatest last")
+
+
+class TooMuch(Exception):
+    """A query would read more than it may."""
+
+
+class Reads:
+    """What one query reads, its limits, and the ways that it took."""
+
+    def __init__(self, counts, most_values, seconds):
+        self.counts, self.left, self.seconds, self.ways = counts, most_values, seconds, set()
+
+    def spend(self, count):
+        self.left -= count
+        if self.left < 0:
+            raise TooMuch("the query reads too much: ask for fewer series, a shorter time, or larger steps")
+
+    async def ask(self, keeper, lines):
+        """The rows of views."""
+        self.counts.add("views_total", len(lines))
+        for at in range(MOST_LOST):
+            try:
+                return [child.rows_of(frame) for frame in await keeper.ask(lines, self.seconds)]
+            except child.Lost:
+                await asyncio.sleep(0.1 * at)
+        raise child.Down("the store's run ends before it answers")
+
+    async def columns(self, known, t0, width, count):
+        """The columns from t0 on, each so wide in the series' unit, that have a value: pairs of their number and their row."""
+        if not known.slots:
+            return []
+        last = known.record.start + (known.slots - 1) * known.record.step
+        first, behind = max(0, (known.record.start - t0) // width), min(count, (last - t0) // width + 1)
+        parts = [(at, min(COLUMNS, behind - at)) for at in range(first, behind, COLUMNS)]
+        lines = [child.view_line(known.name, part, 1, t0 + at * width, t0 + (at + part) * width) for at, part in parts]
+        found = await self.lines(known.keeper, lines)
+        return [(at + column, Row(*row)) for (at, _), rows in zip(parts, found) for column, *row in rows]
+
+    async def lines(self, keeper, lines):
+        """The rows of each of some views, a few of them at a time, so that others have their turn."""
+        found = []
+        for at in range(0, len(lines), TURN):
+            self.spend(LEAST_COST * len(lines[at : at + TURN]))
+            for rows in await self.ask(keeper, lines[at : at + TURN]):
+                found.append(list(rows))
+                self.spend(len(found[-1]))
+        return found
+
+    async def rows(self, known, windows):
+        """The row of each window, None where it has no value."""
+        unit, count = known.unit, windows.count
+        if windows.step % unit or windows.length % unit:
+            return await self._by_steps(known, windows)
+        step, length = windows.step // unit, windows.length // unit
+        t0 = (windows.end - windows.length) // unit + 1
+        if step == length or count == 1:
+            self.ways.add("columns")
+            found = dict(await self.columns(known, t0, length, count))
+            return [found.get(at) for at in range(count)]
+        part = math.gcd(step, length)
+        parts = ((count - 1) * step + length) // part
+        if parts > MOST_PARTS:
+            return await self._by_steps(known, windows)
+        self.ways.add("parts")
+        return joined(await self.columns(known, t0, part, parts), count, step // part, length // part)
+
+    async def _by_steps(self, known, windows):
+        """A view of one column for each window."""
+        self.ways.add("steps")
+        ends = [windows.end + at * windows.step for at in range(windows.count)]
+        spans = [((end - windows.length) // known.unit + 1, end // known.unit + 1) for end in ends]
+        last = known.record.start + (known.slots - 1) * known.record.step
+        asked = [at for at, (low, high) in enumerate(spans) if low < high and low <= last and high > known.record.start]
+        answers = await self.lines(known.keeper, [child.view_line(known.name, 1, 1, *spans[at]) for at in asked])
+        found = {at: Row(*row) for at, rows in zip(asked, answers) for _, *row in rows}
+        return [found.get(at) for at in range(windows.count)]
+
+    async def values(self, known, low, high):
+        """The values from a time to before another one, in the series' unit: triples of a slot, a time and a number. Ranges without any are
+        passed over by views that are coarser."""
+        start, step = known.record.start, known.record.step
+        first, behind = max(0, -((start - low) // step)), min(known.slots, -((start - high) // step))
+        if first >= behind:
+            return []
+        self.ways.add("values")
+        width, spans = 1, [(first, behind)]
+        while width * COLUMNS < behind - first:
+            width *= COLUMNS
+        while width > 1:
+            found = [(at, end, await self.columns(known, start + at * step, width * step, -((at - end) // width))) for at, end in spans]
+            spans = [(at + column * width, min(at + (column + 1) * width, end)) for at, end, rows in found for column, _ in rows]
+            width //= COLUMNS
+        found = await self._slots(known, spans)
+        return [(slot, start + slot * step, number) for slot, number in found]
+
+    async def _slots(self, known, spans):
+        """The slots of some ranges of at most 4,096 that have a value: pairs of a slot and its number."""
+        start, step = known.record.start, known.record.step
+        lines = [child.view_line(known.name, end - at, 1, start + at * step, start + end * step) for at, end in spans]
+        return [(at + row[0], row[4]) for (at, _), rows in zip(spans, await self.lines(known.keeper, lines)) for row in rows]
+
+    async def sums(self, known, windows):
+        """The sum and the count of the values of each window."""
+        unit, start, step = known.unit, known.record.start, known.record.step
+        spans = [((end - windows.length) // unit + 1, end // unit + 1) for end in range(
+            windows.end, windows.end + windows.count * windows.step, windows.step
+        )]
+        found = await self.values(known, spans[0][0], spans[-1][1])
+        if not found:
+            return [(0, 0)] * windows.count
+        base, behind = found[0][0], found[-1][0] + 1
+        numbers, ones = [0] * (behind - base), [0] * (behind - base)
+        for slot, _, number in found:
+            numbers[slot - base], ones[slot - base] = number, 1
+        totals, counts = list(accumulate(numbers, initial=0)), list(accumulate(ones, initial=0))
+
+        def place(time):
+            return min(max(-((start - time) // step) - base, 0), behind - base)
+
+        places = [(place(low), place(high)) for low, high in spans]
+        return [(totals[to] - totals[at], counts[to] - counts[at]) for at, to in places]
+
+
+def joined(columns, count, step, length):
+    """The rows of windows, each of so many columns, and so many columns behind the one before; None where no column has a row.
+
+    The queues have the columns that may yet be the least or the greatest of a window: none of them has a later one that is as low, or as high.
+    """
+    rows, lows, highs, first, behind = [], collections.deque(), collections.deque(), 0, 0
+    for begin in range(0, count * step, step):
+        while behind < len(columns) and columns[behind][0] < begin + length:
+            _, row = column = columns[behind]
+            while lows and lows[-1][1].least >= row.least:
+                lows.pop()
+            while highs and highs[-1][1].greatest <= row.greatest:
+                highs.pop()
+            lows.append(column)
+            highs.append(column)
+            behind += 1
+        while first < behind and columns[first][0] < begin:
+            first += 1
+        for queue in (lows, highs):
+            while queue and queue[0][0] < begin:
+                queue.popleft()
+        rows.append(Row(columns[first][1].first, lows[0][1].least, highs[0][1].greatest, columns[behind - 1][1].last) if first < behind else None)
+    return rows

@@ -1,0 +1,116 @@
+"""The queue of a store's edits: points gather while those before are stored, and are answered once the frames of all their lines came."""
+import asyncio
+import time
+
+from .. import frames
+from ..run import IN_FLIGHT
+from ..set_lines import SetLines
+from . import child
+from .log import tell
+from .stores import FULL
+
+MOST_TRIES = 8  # of a turn whose run ended
+PAUSE = 0.05
+LOOK = 0.5  # seconds between two looks whether a store goes on
+
+
+class Batch:
+    """Points of one store that are stored together: of each series its slots, each with what it was given last."""
+
+    def __init__(self, writer):
+        self.writer, self.values, self.count = writer, {}, 0
+        self.done = asyncio.get_running_loop().create_future()
+        self.done.add_done_callback(lambda done: done.cancelled() or done.exception())
+
+    def add(self, known, slots):
+        self.values.setdefault(known, {}).update(slots)
+        self.count += len(slots)
+
+    async def stored(self, seconds):
+        """Waits until the batch is stored, as long as its store takes no more than so many seconds for a turn, and gives what was refused."""
+        while not self.done.done():
+            await asyncio.wait({self.done}, timeout=LOOK)
+            if not self.done.done() and time.monotonic() - self.writer.progress > seconds:
+                raise TimeoutError
+        return self.done.result()
+
+    def lines(self):
+        """Pairs of a series and a line that stores up to 256 slots of it which follow each other."""
+        for known, values in self.values.items():
+            lines, record = SetLines(known.name, known.record.step), known.record
+            for slot in sorted(values):
+                if line := lines.add(record.start + slot * record.step, values[slot]):
+                    yield known, line
+            if line := lines.line():
+                yield known, line
+
+
+class Writer:
+    """Stores the batches of one store, one after the other."""
+
+    def __init__(self, keeper, counts, full):
+        self.keeper, self.counts, self.full = keeper, counts, full
+        self.batch, self.working, self.task = None, None, None
+        self.progress = time.monotonic()  # when the last turn was answered, or began where none waited
+
+    @property
+    def waiting(self):
+        """How many points aren't answered."""
+        return sum(batch.count for batch in (self.batch, self.working) if batch)
+
+    def add(self, known, slots):
+        """Takes in points, and gives the batch that they are of."""
+        if self.batch is None:
+            self.batch = Batch(self)
+        self.batch.add(known, slots)
+        if self.task is None or self.task.done():
+            self.progress = time.monotonic()
+            self.task = asyncio.create_task(self._work())
+        return self.batch
+
+    async def _work(self):
+        while self.batch:
+            self.working, self.batch = self.batch, None
+            try:
+                self.working.done.set_result(await self._store(self.working))
+            except Exception as why:  # whoever waits is told, and the next batch is begun all the same
+                self.working.done.set_exception(why)
+            self.working = None
+
+    async def _store(self, batch):
+        """Stores a batch; gives the refusal of each series of which something was refused."""
+        refused, turn = {}, []
+        for pair in batch.lines():
+            turn.append(pair)
+            if len(turn) == IN_FLIGHT:
+                await self._turn(turn, refused)
+                turn = []
+        if turn:
+            await self._turn(turn, refused)
+        return refused
+
+    async def _turn(self, pairs, refused):
+        begun = time.monotonic()
+        answers = await self._ask([line for _, line in pairs])
+        self.progress = time.monotonic()
+        self.counts.add("edits_total", len(pairs))
+        self.counts.add("turns_total")
+        self.counts.add("turn_seconds_total", time.monotonic() - begun)
+        for answer, (known, _) in zip(answers, pairs):
+            told = child.done_or_refused(answer)
+            if isinstance(told, frames.Refused):
+                refused[known] = told
+                if told.number == FULL:
+                    self.full.add(self.keeper)
+            else:
+                known.slots = told.slots
+
+    async def _ask(self, lines):
+        """A `set` that is sent again stores what it stored before, so a turn that got lost is asked anew of the next run."""
+        for at in range(MOST_TRIES):
+            try:
+                return await self.keeper.ask(lines)
+            except child.Lost as why:
+                tell("a turn of edits is sent again", "warning", path=self.keeper.path, lines=len(lines), why=str(why))
+                await asyncio.sleep(PAUSE * at)
+        raise child.Down(f"{self.keeper.path}: its runs end before they answer")
