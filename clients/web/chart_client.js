@@ -151,8 +151,10 @@ export class Picture {
   constructor(w, h, lo, hi, rows, of) {
     Object.assign(this, { w, h, lo: of(lo), hi: of(hi), of });
     this.pixels = new Uint8Array(w * h);
+    this.rows = new Map();
     let before = null;
     for (const row of rows) {
+      this.rows.set(row.column, row);
       this.fill(row.column, this.height(row.least), this.height(row.greatest));
       if (before) {
         this.join(before.column, this.height(before.last), row.column, this.height(row.first));
@@ -163,6 +165,12 @@ export class Picture {
 
   isBlank() {
     return !this.pixels.includes(1);
+  }
+
+  /** The least and the greatest value that a column shows, of the kind of lo and hi; null where it shows none. */
+  column(x) {
+    const row = this.rows.get(x);
+    return row ? { least: row.least, greatest: row.greatest } : null;
   }
 
   /** Puts one of two colours in the place of each pixel. */

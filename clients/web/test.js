@@ -123,6 +123,14 @@ test("a picture is the same in numbers and in BigInts", () => {
   assert.ok(pictures[0].some((byte, at) => at > 9 && byte !== 0));
 });
 
+test("a picture tells the least and the greatest value of each column", () => {
+  const client = new Client();
+  const [, , , { picture }] = client.push(STREAM);
+  assert.deepStrictEqual([0, 1, 2, 3, 4].map((x) => picture.column(x)), [
+    { least: 4, greatest: 4 }, { least: 7, greatest: 7 }, { least: 2, greatest: 2 }, null, null,
+  ]); // prettier-ignore
+});
+
 const LATEST = 2n * 10n ** 18n;
 const number = (size, value) => Array.from({ length: size }, (_, at) => Number((BigInt.asUintN(64, BigInt(value)) >> BigInt(8 * (size - 1 - at))) & 255n));
 

@@ -1,0 +1,51 @@
+/** Ticks and grid lines. Lines are elements behind the canvases, so none of them touches a pixel of a chart. */
+import { make } from "./dom.js";
+import { floorOf } from "./numbers.js";
+import { rowOf, valueTicks } from "./values.js";
+import { timeTicks } from "./times.js";
+
+const [VALUE_ROOM, TIME_ROOM] = [22, 80]; // pixels that a tick with its text wants
+const MOST_VALUES = 9;
+
+/** The places of a pixel's edge and of its middle, in the screen's lengths. */
+const edge = (pixel) => `${pixel / devicePixelRatio}px`;
+const middle = (pixel) => edge(pixel + 0.5);
+
+/** The column of a time of the window, as pictures of w columns have it. */
+export const columnOf = (time, { t0, t1 }, w) => Number(floorOf((time - t0) * BigInt(w), t1 - t0));
+
+/** The round values of a panel's range, as texts beside the chart, and as lines where a grid is wanted. */
+export function drawValues({ labels, lines }, range, h, hasGrid) {
+  const ticks = range ? valueTicks(range, Math.max(2, Math.min(MOST_VALUES, Math.floor(h / devicePixelRatio / VALUE_ROOM)))) : [];
+  const placed = ticks.map(({ value, text }) => ({ pixel: h - 1 - rowOf(value, range, h), text }));
+  put(labels, placed, ({ pixel, text }) => place(make("span", {}, text), "top", middle(pixel)));
+  put(lines, hasGrid ? placed : [], ({ pixel }) => place(make("i", { class: "across" }), "top", edge(pixel)));
+}
+
+/** The round times of a window, with their places on w columns. */
+export function placedTimes(window, w, how) {
+  const most = Math.max(2, Math.floor(w / devicePixelRatio / TIME_ROOM));
+  return timeTicks(window.t0, window.t1, most, how).map(({ time, text }) => ({ pixel: columnOf(time, window, w), text }));
+}
+
+export function drawTimeLines(lines, placed) {
+  put(lines, placed, ({ pixel }) => place(make("i", { class: "down" }), "left", edge(pixel)));
+}
+
+export function drawTimes(labels, placed) {
+  put(labels, placed, ({ pixel, text }) => place(make("span", {}, text), "left", middle(pixel)));
+}
+
+/** Puts an element for each tick into a parent, where they aren't there already. */
+function put(parent, placed, elementOf) {
+  const key = `${devicePixelRatio} ${placed.map(({ pixel, text }) => `${pixel} ${text}`)}`;
+  if (parent.dataset.ticks !== key) {
+    parent.dataset.ticks = key;
+    parent.replaceChildren(...placed.map(elementOf));
+  }
+}
+
+function place(element, side, where) {
+  element.style[side] = where;
+  return element;
+}

@@ -1,0 +1,191 @@
+/** One session of the program, and the client that draws its frames. Requests go one behind the other. */
+import { coverOf, newClient } from "./clients.js";
+
+const CACHE = 131072;
+const PATIENCE = 150; // milliseconds until an answer that comes in is shown by its cover
+const BETWEEN_COVERS = 100; // and from one cover to the next
+const [UNKNOWN_SESSION, SESSION_OPEN, VIEW_TOO_LARGE] = [4, 5, 20];
+export const TOO_MANY_SESSIONS = 6;
+export const BAD_FILTER = 3;
+
+const token = new URLSearchParams(location.hash.slice(1)).get("token") ?? "";
+
+/** Sends a body to the server by its token. */
+export async function post(path, body, more = {}) {
+  const response = await fetch(path, { method: "POST", headers: { "X-Chart-Token": token }, body, ...more });
+  if (!response.ok) {
+    const told = await response.json().catch(() => ({ error: `the server answers ${response.status}` }));
+    throw new Denied(told.error, response.status);
+  }
+  return response;
+}
+
+/** What the server doesn't do, and its status over HTTP. */
+export class Denied extends Error {
+  constructor(why, status) {
+    super(why);
+    this.status = status;
+  }
+}
+
+/** A request that the program refused: `frame` has its number, its name and its numbers. */
+export class Refused extends Error {
+  constructor(frame) {
+    super(frame.number === VIEW_TOO_LARGE ? `${frame.meaning}: ${frame.a} of ${frame.b}` : frame.meaning);
+    this.frame = frame;
+  }
+}
+
+/** The frames of a stream, of which the last one may not be whole yet. */
+class Frames {
+  constructor() {
+    [this.bytes, this.taken, this.since, this.looked] = [new Uint8Array(0), 0, null, 0];
+  }
+
+  add(piece) {
+    const rest = this.rest();
+    this.since ??= performance.now();
+    this.bytes = piece;
+    this.taken = 0;
+    if (rest.length > 0) {
+      this.bytes = new Uint8Array(rest.length + piece.length);
+      this.bytes.set(rest);
+      this.bytes.set(piece, rest.length);
+    }
+  }
+
+  /** The bytes of the next whole frame, or null. */
+  next() {
+    const rest = this.rest();
+    const size = rest.length < 4 ? Infinity : 4 + new DataView(rest.buffer, rest.byteOffset).getUint32(0);
+    if (rest.length < size) {
+      return null;
+    }
+    this.taken += size;
+    this.since = this.taken < this.bytes.length ? performance.now() : null;
+    return rest.subarray(0, size);
+  }
+
+  /** What came of the frame that isn't whole. */
+  rest() {
+    return this.bytes.subarray(this.taken);
+  }
+
+  /** Whether a frame has been coming in for so long that its cover is worth a look, which counts then. */
+  isSlow() {
+    const now = performance.now();
+    const is = this.since !== null && now - this.since > PATIENCE && now - this.looked > BETWEEN_COVERS;
+    this.looked = is ? now : this.looked;
+    return is;
+  }
+}
+
+export class Connection {
+  constructor(said) {
+    this.said = said; // is told in words which client draws
+    this.turn = Promise.resolve();
+    this.cut = new AbortController(); // of what is under way
+    this.number = 0; // of the session; 0 while none is open
+    this.bytes = 0; // of all frames so far
+    this.last = 0; // of the last answer
+  }
+
+  /** Begins a session of a number that no other page uses, with a new client. */
+  async begin() {
+    this.close();
+    this.cut.abort();
+    [this.cut, this.turn] = [new AbortController(), Promise.resolve()];
+    this.drawn = await newClient();
+    this.said(this.drawn);
+    while (this.number === 0) {
+      const number = 1 + Math.floor(Math.random() * (2 ** 32 - 1));
+      const [answer] = await this.ask([`open ${number} ${CACHE}`]);
+      if (!answer.refused) {
+        this.number = number;
+      } else if (answer.refused.frame.number !== SESSION_OPEN) {
+        throw answer.refused;
+      }
+    }
+  }
+
+  /**
+   * Sends lines, and gives an answer for each: its bytes, its frame and picture, or why it was refused. Each is handed to `took` as it
+   * comes, with its place in the list; and while one comes slowly, `covered` gets its covers.
+   */
+  ask(lines, took = () => {}, covered = null) {
+    const answers = this.turn.then(() => this.answers(lines, took, covered));
+    this.turn = answers.catch(() => {});
+    return answers;
+  }
+
+  /** Sends the words of views behind the session's number. */
+  view(words, took, covered) {
+    return this.ask(
+      words.map((word) => `view ${this.number} ${word}`),
+      took,
+      covered,
+    );
+  }
+
+  async answers(lines, took, covered) {
+    const { drawn } = this;
+    try {
+      const answers = await this.read(lines, took, covered);
+      if (answers.length < lines.length) {
+        throw new Denied("the answer was broken off", 0);
+      }
+      return answers;
+    } catch (error) {
+      // Unless it was refused as it stands, a frame was lost, and with it what the next ones stand on.
+      if (drawn === this.drawn && !(error instanceof Denied && [400, 403].includes(error.status))) {
+        this.close();
+      }
+      throw error;
+    }
+  }
+
+  /** Sends lines, and reads what comes of them. */
+  async read(lines, took, covered) {
+    const [asked, answers, frames, { drawn }] = [performance.now(), [], new Frames(), this];
+    const response = await post("request", lines.join("\n"), { signal: this.cut.signal });
+    const reader = response.body.getReader();
+    this.last = 0;
+    for (let piece = await reader.read(); !piece.done; piece = await reader.read()) {
+      this.last += piece.value.length;
+      this.bytes += piece.value.length;
+      frames.add(piece.value);
+      for (let bytes = frames.next(); bytes; bytes = frames.next()) {
+        performance.measure("chart: answer", { start: asked });
+        answers.push(this.take(bytes, drawn.client));
+        took(answers.length - 1, answers.at(-1));
+      }
+      if (covered && frames.isSlow()) {
+        covered(answers.length, coverOf(drawn, frames.rest()));
+      }
+    }
+    return answers;
+  }
+
+  /** What one frame tells. */
+  take(bytes, client) {
+    const start = performance.now();
+    const [{ frame, picture }] = client.push(bytes);
+    performance.measure("chart: picture", { start });
+    if (frame.kind !== "refused") {
+      return { bytes, frame, picture };
+    }
+    if (frame.number === UNKNOWN_SESSION) {
+      this.number = 0;
+    }
+    return { bytes, frame, picture, refused: new Refused(frame) };
+  }
+
+  /** Lets the session go. */
+  close() {
+    if (this.number) {
+      post("request", `close ${this.number}`, { keepalive: true }).catch(() => {});
+    }
+    this.number = 0;
+    this.drawn = null;
+  }
+}

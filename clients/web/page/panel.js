@@ -1,0 +1,158 @@
+/** One panel: its series' names and values, its canvases one above the other, the values beside it, and its settings. */
+import { drawTimeLines, drawValues } from "./axes.js";
+import { make, signButton, tell } from "./dom.js";
+import { makeGrip } from "./grip.js";
+import { clear, paint, pixelsOf } from "./paint.js";
+import { decimal, sharedRange } from "./values.js";
+
+/** A series of a panel: what stands of it on the page, and what was drawn of it last. */
+class Trace {
+  constructor(name, place, isTop, remove) {
+    this.name = name;
+    this.place = place;
+    this.canvas = make("canvas", { "data-name": name });
+    this.value = make("span", { class: "value" });
+    const drop = signButton("×", `Take ${name} away`, remove, { class: "drop" });
+    const top = isTop ? [make("small", { title: "Where charts overlap, this one is seen" }, "on top")] : [];
+    this.entry = make("li", { class: `series-${place + 1}` }, make("b", {}, name), ...top, this.value, drop);
+  }
+
+  /** Puts a picture on the canvas, where it isn't there already. */
+  show(picture, paintedFor) {
+    if (this.picture !== picture || this.paintedFor !== paintedFor) {
+      paint(this.canvas, picture, this.place);
+      Object.assign(this, { picture, paintedFor });
+    }
+    delete this.canvas.dataset.cover;
+  }
+
+  /** Puts a cover on the canvas, after so many coefficients. */
+  cover(picture, count) {
+    paint(this.canvas, picture, this.place);
+    this.picture = null;
+    this.canvas.dataset.cover = count;
+  }
+}
+
+export class Panel {
+  /** `does` has what the panel's buttons do: remove(), drop(place), up(), down(), change(words). */
+  constructor(spec, number, does) {
+    Object.assign(this, { spec, number, does, range: null, window: null });
+    const { names } = spec;
+    this.traces = names.map((name, place) => new Trace(name, place, names.length > 1 && place === names.length - 1, () => does.drop(place)));
+    this.labels = make("div", { class: "values", "aria-hidden": "true" });
+    this.lines = { values: make("div", { class: "grid" }), times: make("div", { class: "grid" }) };
+    this.selection = make("div", { class: "selection", hidden: true });
+    this.cross = make("div", { class: "cross", hidden: true });
+    this.covered = make("p", { class: "covered", hidden: true }, "coming in: what is white stays white");
+    this.fault = make("pre", { class: "fault", role: "alert" });
+    this.plot = this.makePlot();
+    this.settings = this.makeSettings();
+    this.grip = makeGrip(this, (height) => does.change({ height }));
+    const body = make("div", { class: "body" }, this.labels, this.plot);
+    const label = `Panel ${number + 1}: ${names.join(", ")}`;
+    this.element = make("section", { class: "panel", "aria-label": label }, this.makeHead(), this.settings, this.fault, body, this.grip);
+  }
+
+  makePlot() {
+    const canvases = this.traces.map(({ canvas }) => canvas);
+    const chart = make("div", { class: "plot", tabindex: 0, role: "img", "aria-roledescription": "chart", "aria-describedby": "keys" });
+    chart.append(this.lines.values, this.lines.times, ...canvases, this.selection, this.cross, this.covered);
+    return chart;
+  }
+
+  makeHead() {
+    const { does, spec, number } = this;
+    const named = (what) => `${what} panel ${number + 1}`;
+    const open = () => this.openSettings(this.settings.hidden);
+    this.opener = signButton("⚙", named("Settings of"), open, { "aria-expanded": "false" });
+    const moves = [["↑", "Move up", does.up], ["↓", "Move down", does.down], ["✕", "Remove", does.remove]]; // prettier-ignore
+    const tools = [this.opener, ...moves.map(([sign, what, press]) => signButton(sign, named(what), press))];
+    const notes = [spec.filter && `where ${spec.filter}`, spec.range && `range ${spec.range}`].filter(Boolean);
+    const legend = make("ul", { class: "legend" }, ...this.traces.map(({ entry }) => entry));
+    return make("header", {}, legend, make("span", { class: "note" }, notes.join("; ")), make("span", { class: "tools" }, ...tools));
+  }
+
+  makeSettings() {
+    const field = (name, label, placeholder) => {
+      const input = make("input", { name, value: this.spec[name], placeholder, autocomplete: "off", spellcheck: "false" });
+      return make("label", {}, label, input);
+    };
+    const submit = (event) => {
+      event.preventDefault();
+      const { filter, range } = event.target.elements;
+      this.does.change({ filter: filter.value.trim(), range: range.value.trim() === "auto" ? "" : range.value.trim() });
+    };
+    const fields = [field("filter", "Filter", "v > 10 and not t = 5"), field("range", "Range of values", "auto, or -5..15.5")];
+    return make("form", { class: "settings", hidden: true, on: { submit } }, ...fields, make("button", {}, "Apply"));
+  }
+
+  openSettings(isOpen) {
+    this.settings.hidden = !isOpen;
+    this.opener.setAttribute("aria-expanded", String(isOpen));
+    if (isOpen) {
+      this.settings.elements.filter.focus();
+    }
+  }
+
+  setHeight(height) {
+    if (this.height !== height) {
+      this.height = height;
+      this.plot.style.height = `${height}px`;
+      this.grip.setAttribute("aria-valuenow", String(Math.round(height)));
+    }
+  }
+
+  /** The size of its pictures. */
+  size() {
+    return { w: pixelsOf(this.plot.clientWidth), h: pixelsOf(this.plot.clientHeight) };
+  }
+
+  /** Shows the pictures of its series, of one window and one range. */
+  show(answers, window, range, look) {
+    Object.assign(this, { window, range, h: answers[0].picture.h, w: answers[0].picture.w });
+    this.traces.forEach((trace, place) => trace.show(answers[place].picture, look.painted));
+    this.covered.hidden = true;
+    tell(this.fault, "");
+    drawValues({ labels: this.labels, lines: this.lines.values }, range, this.h, look.grid);
+    const values = range ? `values from ${decimal(range.lo, range.scale)} to ${decimal(range.hi, range.scale)}` : "no value to show";
+    this.plot.setAttribute("aria-label", `${this.spec.names.join(" and ")} from ${look.spelled(window.t0)} to ${look.spelled(window.t1)}: ${values}`);
+    const { dataset } = this.plot;
+    Object.assign(dataset, { t0: window.t0, t1: window.t1, drawings: Number(dataset.drawings ?? 0) + 1 });
+  }
+
+  /** Shows what may be black of one of its series, whose frame is still coming in; and its values where it is alone, with its scale. */
+  cover(place, { picture, count, frame: { lo, hi, h, w } }, window, scale) {
+    Object.assign(this, { window, h, w });
+    this.traces[place].cover(picture, count);
+    this.covered.hidden = false;
+    if (scale !== null) {
+      drawValues({ labels: this.labels, lines: this.lines.values }, { lo: BigInt(lo), hi: BigInt(hi), scale }, h, false);
+    }
+  }
+
+  drawTimeLines(placed) {
+    drawTimeLines(this.lines.times, placed);
+  }
+
+  /** Says why nothing was drawn; under a filter's text a mark shows the character at which it can't be read. */
+  fail(why, at = null) {
+    const mark = at === null ? "" : `${this.spec.filter}\n${" ".repeat(at)}^ `;
+    tell(this.fault, `${mark}${why}${at === null ? "" : `: see character ${at + 1}`}`);
+  }
+
+  /** Empties it, since what it shows is not what is asked for. */
+  clear() {
+    this.window = null;
+    this.traces.forEach((trace) => {
+      clear(trace.canvas);
+      trace.picture = null;
+    });
+  }
+
+  /** The range that its series have in common, of the answers to views with ranges of their own; null where all are blank. */
+  static rangeOf(answers, scales) {
+    const shown = answers.map((answer, place) => ({ ...answer, scale: scales[place] })).filter(({ picture }) => !picture.isBlank());
+    return shown.length > 0 ? sharedRange(shown.map(({ frame: { lo, hi }, scale }) => ({ lo, hi, scale })), scales) : null;
+  }
+}

@@ -1,0 +1,248 @@
+"""The answers over HTTP: the page's files, and behind its token request lines, the catalog and the stream of what changes."""
+import hmac
+import http.server
+import itertools
+import json
+import os
+import re
+import select
+import socket
+import sys
+import time
+
+from .connections import ANSWER, BODY, HEAD, WAITING, Connections, refuse
+from .program import MOST_LINES, Ended
+
+FOLDER = os.path.dirname(os.path.dirname(os.path.realpath(__file__)))
+KINDS = {".html": "text/html; charset=utf-8", ".js": "text/javascript; charset=utf-8", ".css": "text/css; charset=utf-8"}
+SHOWN = re.compile(r"/(?:|page\.css|chart_client\.js|proved_client\.js|page/[a-z_]+\.js)")
+MODULE = "/chart_client.wasm"
+LONGEST = 8192  # bytes of a line
+MOST_BYTES = 65536  # of a body
+READING = (b"open", b"close", b"view", b"zoom", b"pan")
+MOST_STREAMS = 48
+BEAT = 5  # seconds from one sign of life on a stream to the next
+REST = 0.02  # and at least from what changed to what changes next, so that many edits are told together
+HEADERS = {
+    "Content-Security-Policy": "default-src 'none'; script-src 'self' 'wasm-unsafe-eval'; style-src 'self'; connect-src 'self'; "
+    "base-uri 'none'; form-action 'none'; frame-ancestors 'none'",
+    "X-Content-Type-Options": "nosniff",
+    "Referrer-Policy": "no-referrer",
+    "Cache-Control": "no-store",
+}
+
+
+class Handler(http.server.BaseHTTPRequestHandler):
+    protocol_version = "HTTP/1.1"
+    server_version, sys_version = "chart", ""
+    timeout = 60
+    # The head and the body of an answer leave at once: apart, the body waits until the browser has acknowledged the head.
+    wbufsize = 1 << 16
+    disable_nagle_algorithm = True
+
+    def turn_to(self, state):
+        self.server.connections.turn_to(self.connection, state)
+
+    def handle_one_request(self):
+        self.turn_to(WAITING)
+        try:
+            is_there = bool(self.rfile.peek(1))
+        except (OSError, ValueError):
+            is_there = False
+        if not is_there:
+            self.close_connection = True
+            return
+        self.turn_to(HEAD)
+        super().handle_one_request()
+
+    def the_only(self, name):
+        """The value of a header that stands once, or None."""
+        values = self.headers.get_all(name, [])
+        return values[0] if len(values) == 1 else None
+
+    def is_own(self):
+        """Whether the request is for this server by one of its names, and from no other page."""
+        origins = self.server.origins
+        hosts = [origin.partition("://")[2] for origin in origins]
+        origin = self.headers.get_all("Origin", [])
+        return self.the_only("Host") in hosts and (not origin or self.the_only("Origin") in origins)
+
+    def head(self, status, kind, more):
+        self.send_response(status)
+        headers = {"Content-Type": kind, **more, **HEADERS}
+        if self.close_connection:
+            headers["Connection"] = "close"
+        for name, value in headers.items():
+            self.send_header(name, str(value))
+        self.end_headers()
+
+    def send(self, status, kind, body):
+        self.head(status, kind, {"Content-Length": len(body)})
+        if self.command != "HEAD":
+            self.wfile.write(body)
+
+    def send_json(self, status, value):
+        self.send(status, "application/json", json.dumps(value).encode())
+
+    def refuse(self, status, why):
+        # What is left of the request isn't read, so the connection can't go on.
+        self.close_connection = True
+        self.send_json(status, {"error": why})
+
+    def do_GET(self):
+        self.turn_to(ANSWER)
+        if not self.is_own():
+            return self.refuse(403, "another host or origin")
+        path = self.path.partition("?")[0]
+        if path == MODULE:
+            return self.send_file(self.server.module, "application/wasm", "its module isn't built")
+        if not SHOWN.fullmatch(path):
+            return self.refuse(404, "no such file")
+        name = path[1:] or "index.html"
+        return self.send_file(os.path.join(FOLDER, name), KINDS[os.path.splitext(name)[1]], "no such file")
+
+    do_HEAD = do_GET
+
+    def send_file(self, path, kind, why):
+        try:
+            with open(path, "rb") as it:
+                body = it.read()
+        except OSError:
+            return self.refuse(404, why)
+        return self.send(200, kind, body)
+
+    def do_POST(self):
+        self.turn_to(BODY)
+        if not self.is_own():
+            return self.refuse(403, "another host or origin")
+        if not hmac.compare_digest((self.the_only("X-Chart-Token") or "").encode(), self.server.token.encode()):
+            return self.refuse(403, "a wrong token")
+        body = self.body()
+        if body is None:
+            return self.refuse(400, f"a body has its length, and at most {MOST_BYTES} bytes")
+        self.turn_to(ANSWER)
+        step = {"/request": self.answer_lines, "/catalog": self.send_catalog, "/events": self.send_events}.get(self.path)
+        if step is None:
+            return self.refuse(404, "no such file")
+        try:
+            return step(body)
+        except Ended as end:
+            return self.refuse(503, str(end))
+
+    def body(self):
+        """The body of the request, where it tells its length and isn't too long."""
+        length = self.the_only("Content-Length") or ""
+        if not re.fullmatch("[0-9]{1,5}", length) or int(length) > MOST_BYTES or "Transfer-Encoding" in self.headers:
+            return None
+        body = self.rfile.read(int(length))
+        return body if len(body) == int(length) else None
+
+    def answer_lines(self, body):
+        """Sends the frames of request lines, each as soon as it is there."""
+        lines = body.split(b"\n")
+        if len(lines) > MOST_LINES or not all(1 <= len(line) <= LONGEST and line != b"\r" for line in lines):
+            return self.refuse(400, f"a request is at most {MOST_LINES} lines, each of 1 to {LONGEST} bytes")
+        words = {re.match(rb"[^ \r]*", line)[0] for line in lines}
+        if not self.server.edits and not words <= set(READING):
+            return self.refuse(403, "without --edit only open, close, view, zoom and pan are taken")
+        frames = self.server.sessions.answers(lines)
+        if len(lines) == 1:
+            return self.send(200, "application/octet-stream", next(frames))
+        return self.send_pieces(next(frames), frames)
+
+    def send_pieces(self, first, others):
+        """Sends a first piece and those that follow it, as they come. Where the program ends in between, the answer has no end."""
+        self.head(200, "application/octet-stream", {"Transfer-Encoding": "chunked"})
+        try:
+            for piece in itertools.chain([first], others, [b""]):
+                self.wfile.write(b"%x\r\n%b\r\n" % (len(piece), piece))
+                self.wfile.flush()
+        except Ended:
+            self.close_connection = True
+
+    def send_catalog(self, _):
+        self.send_json(200, [told(series) for series in list(self.server.program.catalog.values())])
+
+    def send_events(self, number):
+        """A stream of events, which holds a session: `changed` with the series that changed, `ended` with how the program ended,
+        and `closed` where the session had to give way."""
+        session = self.server.sessions.attach(number)
+        if session is None:
+            return self.refuse(404, "the session isn't open")
+        try:
+            if not self.server.streams.acquire(blocking=False):
+                return self.refuse(503, "too many pages look at this store")
+            try:
+                self.close_connection = True
+                self.head(200, "text/event-stream", {})
+                self.send_changes(session)
+            finally:
+                self.server.streams.release()
+        finally:
+            self.server.sessions.detach(session)
+
+    def send_changes(self, session):
+        program, changes = self.server.program, self.server.changes
+        seen, beaten = changes.count, 0
+        while not self.is_left():
+            if time.monotonic() - beaten > BEAT:
+                beaten = time.monotonic()
+                self.wfile.write(b": here\n\n")
+            if program.over.is_set():
+                return self.event("ended", program.end)
+            if session.over.is_set():
+                return self.event("closed", session.gave_way)
+            self.wfile.flush()
+            seen, series = changes.since(seen, 1)
+            if series:
+                self.event("changed", [told(one) for one in series])
+                time.sleep(REST)
+
+    def event(self, name, value):
+        self.wfile.write(f"event: {name}\ndata: {json.dumps(value)}\n\n".encode())
+        self.wfile.flush()
+
+    def is_left(self):
+        """Whether the browser has closed the connection: nothing else comes on it."""
+        ready, _, _ = select.select([self.connection], [], [], 0)
+        return bool(ready) and not self.connection.recv(1, socket.MSG_PEEK)
+
+    def log_request(self, code="-", size="-"):
+        """Notes a request and the status of its answer, without what stands behind a question mark."""
+        if self.server.log and self.command:
+            path = re.sub(r"[^!-~]", "?", self.path.partition("?")[0])
+            moment = time.strftime("%d/%b/%Y:%H:%M:%S %z")
+            self.server.log.write(f'{self.client_address[0]} - - [{moment}] "{self.command} {path}" {int(code)} {size}\n')
+
+    def log_message(self, *_):
+        pass
+
+
+def told(series):
+    """A series as JSON; its start as a text, since it may pass 2^53."""
+    return {**series._asdict(), "start": str(series.start)}
+
+
+class Server(http.server.ThreadingHTTPServer):
+    daemon_threads = True
+    request_queue_size = 128
+
+    def __init__(self, *words):
+        self.connections = Connections()
+        super().__init__(*words)
+
+    def process_request(self, request, client_address):
+        if self.connections.enter(request):
+            super().process_request(request, client_address)
+        else:
+            refuse(request)
+            self.shutdown_request(request)
+
+    def shutdown_request(self, request):
+        self.connections.leave(request)
+        super().shutdown_request(request)
+
+    def handle_error(self, request, client_address):
+        # A browser that no longer wants its answer is no fault, nor is a connection that was cut.
+        if not isinstance(sys.exc_info()[1], (OSError, ValueError)):
+            super().handle_error(request, client_address)
