@@ -122,7 +122,7 @@ class Store:
 
     def __init__(self, data):
         self.data = data
-        self.count = min(len(data) // BLOCK, 2**32 - 1) - FIRST_PAGE
+        self.count = min(len(data) // BLOCK, 2**20) - FIRST_PAGE
         self.replayed = {}
         self.used = set()  # the tree pages that were met
         if data[0] == 1:

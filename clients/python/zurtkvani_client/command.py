@@ -20,7 +20,7 @@ from .sources import Unreadable
 from .timestamps import UNITS, date_text
 from .unfit import Unfit
 
-SIZES = {"": 1, "k": 2**10, "m": 2**20, "g": 2**30, "t": 2**40}
+SIZES = {"": 1, "k": 2**10, "m": 2**20, "g": 2**30}
 
 
 def length(text):
