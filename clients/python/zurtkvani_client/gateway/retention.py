@@ -5,8 +5,8 @@ A sweep makes at most so many clears, so no stop takes long; what is left is for
 import asyncio
 import time
 
+from ..commands import Output
 from ..run import Ended
-from ..store_file import run_once
 from . import child
 from .log import tell
 from .reading import COLUMNS
@@ -15,6 +15,11 @@ from .rules import rule_for
 CLEARED = 4096  # slots of a clear of `retain`
 MOST_CLEARS = 64  # of a sweep
 PAUSE = 1.0  # seconds between two looks whether it is quiet, and between two sweeps of one store
+
+
+def retained(keeper, rules):
+    """What a run of `retain` over a keeper's store sends for some rules. Raises Ended."""
+    return Output(keeper.program, keeper.path, "retain", given=rules).read()
 
 
 class Retention:
@@ -42,7 +47,7 @@ class Retention:
                 return
             await self.quiet(keeper)
             begun = time.monotonic()
-            await keeper.between_runs(lambda: asyncio.to_thread(run_once, keeper.program, keeper.path, "retain", "".join(lines).encode()))
+            await keeper.between_runs(lambda: asyncio.to_thread(retained, keeper, "".join(lines).encode()))
             self.gateway.stores.full.discard(keeper)
             tell("old values are dropped", path=keeper.path, series=len(lines), seconds=round(time.monotonic() - begun, 3))
             if is_all:
