@@ -14,6 +14,8 @@
  * BigInt; and each sum is done in numbers where all that it can meet is exact, else in BigInts: `Number` or `BigInt`, as `of`.
  */
 
+import { REFUSALS } from "./refusals.js";
+
 const MOST = 10 ** 18; // the greatest size of a value; exact as a number
 const EXACT = 2 ** 53; // up to this size whole numbers are exact
 const SMALL = 2 ** 39; // two values of this size, their difference times a height or a width: still exact
@@ -33,32 +35,6 @@ const LENGTHS = new Map([
   [ROWS, [27, 34, 4096]],
   [LIVE, [6, 1, 0]],
 ]);
-
-// The name of each refusal and what it means, from number 1 on, as clients/python has them.
-export const REFUSALS = [
-  ["LineTooLong", "the line is too long"],
-  ["BadLine", "the line is no request"],
-  ["BadFilter", "the text is no filter"],
-  ["UnknownSession", "the session isn't open"],
-  ["SessionOpen", "the session is open"],
-  ["TooManySessions", "16 sessions are open"],
-  ["BadCache", "the cache isn't 1 to 131,072"],
-  ["UnknownSeries", "no series has the name"],
-  ["SeriesExists", "a series has the name"],
-  ["TooManySeries", "there are 512 series"],
-  ["OffGrid", "the time is no slot's"],
-  ["BeforeStart", "the time is before the start"],
-  ["ValueTooLarge", "a value passes 10^18 in size"],
-  ["RangeTooLong", "there are too many values, or too many slots to clear"],
-  ["SeriesFull", "the series' length would pass 2^35, or the time of its last slot 2 * 10^18"],
-  ["NoView", "there is nothing to zoom or pan"],
-  ["BadWindow", "the window is empty, or an end of it too far from 0"],
-  ["BadCanvas", "the width or the height isn't 1 to 4,096"],
-  ["BadRange", "the range isn't one, or passes 10^18 in size"],
-  ["ViewTooLarge", "the view needs more coefficients than the session's cache keeps"],
-  ["Full", "the store is full"],
-  ["LiveTooLarge", "the view may need more coefficients than the session's cache keeps, so it isn't followed"],
-];
 
 /** Why no further picture is drawn: its message says so, as the client in clients/python does. */
 export class Stopped extends Error {}
@@ -541,13 +517,18 @@ class Rows {
   }
 }
 
+/** The name of a refusal and what it means, with its numbers where these tell something. */
+export function refusalOf(number, a, b) {
+  const [name, means, tells] = REFUSALS[number - 1];
+  return { number, a, b, name, meaning: means + (tells && `: ${tells.replace("A", a).replace("B", b)}`) };
+}
+
 /** A Refused frame, with the name of the refusal and what it means. */
 function readRefusal(fields) {
   const number = fields.byte(1, 22);
   const a = fields.unsigned([2, 3, 20, 21, 22].includes(number) ? 2n ** 64n : 0);
   const b = fields.unsigned([20, 21, 22].includes(number) ? 2n ** 64n : 0);
-  const [name, meaning] = REFUSALS[number - 1];
-  return { kind: KINDS[REFUSED], number, a, b, name, meaning };
+  return { kind: KINDS[REFUSED], ...refusalOf(number, a, b) };
 }
 
 /** The frame that the fields spell, as an object with its `kind`. Errors come at the first field that breaks its rule. */

@@ -11,7 +11,7 @@
  * crates/client_exports/src/lib.rt. What can't be drawn is thrown as a `Stopped`, and so is a module that traps or runs out of
  * memory; a client that has thrown one takes nothing more, and another one has a memory of its own.
  */
-import { REFUSALS, Stopped } from "./chart_client.js";
+import { Stopped, refusalOf } from "./chart_client.js";
 
 const KINDS = ["", "done", "refused", "opened", "closed", "view", "rows", "live"];
 const [MORE, FRAME, BAD, MISSING, MISFIT, UNKNOWN, MEMORY] = Array.from({ length: 7 }, (_, code) => code);
@@ -34,14 +34,18 @@ export class BitPicture {
     return this.bytes.subarray(this.front).every((byte) => byte === 0);
   }
 
-  /** Puts one of two colours in the place of each pixel. */
+  /** Puts one of two colours in the place of each pixel. Most bytes are eight white ones. */
   colour(colours, ink, paper) {
-    let at = 0;
-    for (let y = 0; y < this.h; y += 1) {
-      const row = this.front + y * this.size;
-      for (let x = 0; x < this.w; x += 1) {
-        colours[at] = this.bytes[row + (x >> 3)] & (128 >> (x & 7)) ? ink : paper;
-        at += 1;
+    const { bytes, size, w, h } = this;
+    colours.fill(paper);
+    for (let y = 0, at = this.front; y < h; y += 1) {
+      for (let x = 0; x < size; x += 1, at += 1) {
+        let bits = bytes[at];
+        for (const first = y * w + 8 * x; bits > 0; ) {
+          const place = Math.clz32(bits) - 24;
+          colours[first + place] = ink;
+          bits -= 128 >> place;
+        }
       }
     }
   }
@@ -93,14 +97,17 @@ export class ProvedClient {
 
   /** The least and the greatest value of each column of the picture drawn last that has any. */
   values(w) {
-    const [found, answer] = [new Map(), BigInt(this.answer)];
+    const found = new Map();
+    const [handle, answer, { chart_column: column }] = [BigInt(this.handle), BigInt(this.answer), this.calls];
     const view = new DataView(this.calls.memory.buffer, this.answer, ANSWER); // chart_column takes no memory
-    for (let x = 0; x < w; x += 1) {
-      this.call("chart_column", x, answer);
-      if (view.getUint32(0, true) === FRAME) {
-        found.set(x, [view.getBigInt64(64, true), view.getBigInt64(72, true)]);
+    guarded(() => {
+      for (let x = 0; x < w; x += 1) {
+        column(handle, x, answer);
+        if (view.getUint32(0, true) === FRAME) {
+          found.set(x, [view.getBigInt64(64, true), view.getBigInt64(72, true)]);
+        }
       }
-    }
+    });
     return found;
   }
 
@@ -145,11 +152,7 @@ export class ProvedClient {
 
   /** Calls the module with the handle. One that fails has to be given up. */
   call(name, ...words) {
-    try {
-      return this.calls[name](BigInt(this.handle), ...words);
-    } catch (error) {
-      throw new Stopped(`the client's module fails: ${error.message}`);
-    }
+    return guarded(() => this.calls[name](BigInt(this.handle), ...words));
   }
 
   require(holds) {
@@ -188,6 +191,15 @@ export class ProvedClient {
   }
 }
 
+/** What calls of the module give; a trap of theirs is thrown as a `Stopped`. */
+function guarded(calls) {
+  try {
+    return calls();
+  } catch (error) {
+    throw new Stopped(`the client's module fails: ${error.message}`);
+  }
+}
+
 function causeOf({ code, session, number, a }) {
   const causes = new Map([
     [BAD, `the field at byte ${a} breaks its rule`],
@@ -201,11 +213,10 @@ function causeOf({ code, session, number, a }) {
 
 /** The frame that an answer tells, as an object with its `kind`, with the names of chart_client.js. */
 function frameOf({ kind, session, number, w, h, step, count, a, b, t0, t1, lo, hi, start }) {
-  const [name, meaning] = kind === 2 ? REFUSALS[number - 1] : [];
   const fields = [
     {},
     { slots: a },
-    { number, a, b, name, meaning },
+    kind === 2 ? refusalOf(number, a, b) : {},
     { session, cache: a },
     { session },
     { session, series: number, w, h, t0, t1, lo, hi, start, step, slots: a, count },

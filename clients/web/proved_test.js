@@ -1,8 +1,11 @@
 // The proved client's module on a worked stream of docs/FORMATS.md, whole and in pieces, and where it fails.
 // Run by `CHART_MODULE=FOLDER/chart_client.wasm node --test clients/web/proved_test.js`.
 import assert from "node:assert";
-import { readFileSync } from "node:fs";
+import { execFileSync } from "node:child_process";
+import { createHash } from "node:crypto";
+import { existsSync, readFileSync, readdirSync } from "node:fs";
 import { test } from "node:test";
+import { fileURLToPath } from "node:url";
 import { Client, Stopped } from "./chart_client.js";
 import { ProvedClient } from "./proved_client.js";
 
@@ -83,6 +86,50 @@ test("the values of columns", () => {
   ]);
 });
 
+const ROOT = fileURLToPath(new URL("../..", import.meta.url));
+const GOLDEN = `${ROOT}golden/draw/`;
+
+/** The input of a run of golden/draw; some are computed. */
+function inputOf(name) {
+  const path = `${GOLDEN}${name}/stdin`;
+  if (existsSync(`${path}.py`)) {
+    const env = { ...process.env, PYTHONPATH: `${ROOT}scripts/lib`, PYTHONDONTWRITEBYTECODE: "1" };
+    return execFileSync("python3", [`${path}.py`], { env, maxBuffer: 2 ** 28 });
+  }
+  return existsSync(path) ? readFileSync(path) : new Uint8Array(0);
+}
+
+/** Of a client's pictures the colours, by a digest, and the values of each column and of one on each side; and whether the client stops. */
+function shownOf(client, stream) {
+  const found = [];
+  try {
+    for (const { picture } of client.push(stream)) {
+      if (picture) {
+        const colours = new Uint32Array(picture.w * picture.h).fill(5);
+        picture.colour(colours, 7, 3);
+        const columns = Array.from({ length: picture.w + 2 }, (_, x) => picture.column(x - 1));
+        found.push({ columns, colours: createHash("sha256").update(colours).digest("hex") });
+      }
+    }
+    client.end();
+    return { found, stops: false };
+  } catch (error) {
+    assert.ok(error instanceof Stopped, error);
+    return { found, stops: true };
+  }
+}
+
+test("colours and the values of columns are those of the client in JavaScript, over the runs of golden/draw", () => {
+  let filled = 0;
+  for (const name of readdirSync(GOLDEN)) {
+    const stream = inputOf(name);
+    const told = shownOf(new ProvedClient(module), stream);
+    assert.deepStrictEqual(told, shownOf(new Client(), stream), name);
+    filled += told.found.flatMap(({ columns }) => columns).filter((span) => span !== null).length;
+  }
+  assert.ok(filled > 0, "no column has a value");
+});
+
 test("covers have no values of columns, and leave those of the picture drawn last", () => {
   const client = new ProvedClient(module);
   const picture = [...client.push(join(OPENED, VIEW))][1].picture;
@@ -119,15 +166,25 @@ test("a module that traps or runs out of memory is given up, and another one dra
   assert.strictEqual(drawn(new ProvedClient(module), STREAM, 1000).length, 8);
 });
 
-test("a client that is closed says so, and its memory is used again", () => {
+test("a client that is closed says so, and gives back all that it took", () => {
   const client = new ProvedClient(module);
-  const before = client.calls.memory.buffer.byteLength;
-  for (let turn = 0; turn < 3000; turn += 1) {
+  const round = () => {
     assert.strictEqual([...client.push(STREAM)].length, 8);
     client.close();
     client.call("chart_open");
+  };
+  for (let turn = 0; turn < 10; turn += 1) {
+    round();
   }
-  assert.ok(client.calls.memory.buffer.byteLength <= before + 2 ** 20);
+  // No stream takes a block of this size, so the heap's end tells what is taken there: of two one behind the other all in between.
+  const size = 2 ** 22;
+  const block = () => Number(client.calls.host_alloc(BigInt(size - 16)));
+  const [before, next] = [block(), block()];
+  assert.strictEqual(next - before, size);
+  for (let turn = 0; turn < 1000; turn += 1) {
+    round();
+  }
+  assert.strictEqual(block() - next, size);
   client.close();
   assert.throws(() => client.next(), new Stopped("the client is closed"));
 });

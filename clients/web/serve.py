@@ -22,7 +22,7 @@ HERE = os.path.dirname(os.path.realpath(__file__))
 ROOT = os.path.dirname(os.path.dirname(HERE))
 CHART = os.path.join(ROOT, "chart")
 sys.dont_write_bytecode = True
-sys.path[:0] = [HERE, os.path.join(ROOT, "scripts")]
+sys.path[:0] = [HERE, os.path.join(ROOT, "scripts/lib")]
 
 from page_server.changes import Changes  # noqa: E402
 from page_server.feed import feed  # noqa: E402

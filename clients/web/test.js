@@ -57,6 +57,14 @@ for (const size of [1, 2, 7, 100, STREAM.length]) {
   });
 }
 
+test("a refusal's name, and what it means", () => {
+  const refused = (hex) => new Client().push(bytesOf(hex))[Symbol.iterator]().next().value.frame;
+  const frame = refused("00000012 02 14 0000000000000029 0000000000000028");
+  const meaning = "the view needs more coefficients than the session's client keeps: 41 of 40";
+  assert.deepStrictEqual(frame, { kind: "refused", number: 20, a: 41, b: 40, name: "ViewTooLarge", meaning });
+  assert.strictEqual(refused("00000012 02 08 0000000000000000 0000000000000000").meaning, "no series has the name");
+});
+
 test("a coefficient that isn't there", () => {
   const view = VIEW.slice(0, VIEW.length - 25);
   view.set([0, 0, 1, 3], 0);

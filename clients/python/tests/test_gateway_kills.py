@@ -14,7 +14,7 @@ from gateway_server import Gateway, T, require_all
 require_all()
 
 SERIES = '[[series]]\nstep = "1s"\nscale = 0\nstart = "2023-01-01"\n'
-WRITERS, KILLS, SECONDS = 3, 6, 60
+WRITERS, KILLS, SECONDS = 3, 6, 600  # no writer goes on for longer, however slow the machine is
 
 
 class Writer(threading.Thread):
@@ -66,7 +66,7 @@ class Kills(unittest.TestCase):
         for _ in range(KILLS):
             time.sleep(0.1 + 0.4 * draw.random())
             kill()
-            before, ends = sum(len(writer.answered) for writer in self.writers), time.monotonic() + 20
+            before, ends = sum(len(writer.answered) for writer in self.writers), time.monotonic() + SECONDS / KILLS
             while time.monotonic() < ends and sum(len(writer.answered) for writer in self.writers) == before:
                 time.sleep(0.02)
             seen += sum(len(writer.answered) for writer in self.writers) > before

@@ -1,5 +1,6 @@
 """The parts of a gateway that need no server: configuration, names, rules, values and queries."""
 import io
+import json
 import os
 import random
 import struct
@@ -12,7 +13,7 @@ from gateway_server import MISSING, ROOT
 if MISSING:
     raise unittest.SkipTest(MISSING)
 
-from zurtkvani_client import frames  # noqa: E402
+from zurtkvani_client import frames, set_lines  # noqa: E402
 from zurtkvani_client.gateway import child, configuration, evaluating, intake, labels, matching, names, promql, rules  # noqa: E402
 from zurtkvani_client.unfit import Unfit  # noqa: E402
 
@@ -28,10 +29,16 @@ class Configuration(unittest.TestCase):
         path = os.path.join(ROOT, "package/gateway.toml")
         found, empty = configuration.read(path), self.read("")
         with open(path, encoding="utf-8") as file:
-            lines = configuration.lines_of(file.read())
+            text = file.read()
+        lines = configuration.lines_of(text)
         for table, rules_of_table in {**configuration.SECTIONS, "series": configuration.RULE}.items():
             for key in rules_of_table:
                 self.assertIn((table, 0, key), lines)
+        # Topics and alarms stand behind the signs of comments, since none is one by its defaults.
+        for table, keys in (("topic", configuration.TOPIC), ("alarm", configuration.ALARM)):
+            part = text.partition(f"# [[{table}]]")[2].partition("\n\n")[0]
+            for key, (default, _) in keys.items():
+                self.assertIn(f"\n# {key} = {json.dumps(default)}", part)
         self.assertEqual(found.series[0], empty.series[0])
         self.assertEqual(vars(found) | {"series": 0}, vars(empty) | {"series": 0})
 
@@ -133,6 +140,17 @@ class Values(unittest.TestCase):
             self.assertEqual(list(map(tuple, told.rows)), list(child.rows_of(frame)))
 
 
+class Edits(unittest.TestCase):
+    def test_what_an_edit_was_answered(self):
+        for slots in (0, 1, 255, 2**35):
+            frame = struct.pack(">IBQ", 9, frames.DONE, slots)
+            self.assertEqual((child.slots_of(frame), child.done_or_refused(frame).slots), (slots, slots))
+            self.assertIsNone(child.refusal_of(frame))
+        refused = struct.pack(">IBBqq", 18, frames.REFUSED, 21, 0, 0)
+        self.assertIsNone(child.slots_of(refused))
+        self.assertEqual(child.refusal_of(refused).number, 21)
+
+
 class Rules(unittest.TestCase):
     def rule(self, **given):
         reader = configuration.Reader("test", {})
@@ -152,6 +170,26 @@ class Rules(unittest.TestCase):
         for given in ({"start": "2024-01-01"}, {"step": "1ms", "start": "1971-01-01"}):
             with self.assertRaises(Unfit):
                 rules.grid_for(self.rule(**given), noon)
+
+
+class SetLines(unittest.TestCase):
+    def test_lines_have_the_values_at_their_slots(self):
+        draw = random.Random(4)
+        for _ in range(300):
+            values, slot = {}, draw.randrange(1000)
+            for _ in range(draw.randrange(900)):
+                values[slot] = draw.randrange(-9, 9)
+                slot += 1 if draw.random() < draw.choice((0.5, 0.999)) else draw.randrange(2, 300)
+            listed = list(values.items())
+            draw.shuffle(listed)
+            found, count = {}, 0
+            for line in set_lines.lines_by_slots("s", 50, 7, dict(listed)):
+                word, name, time, *numbers = line.decode().split(" ")
+                self.assertEqual((word, name), ("set", "s"))
+                self.assertLessEqual(len(numbers), 256)
+                found.update({(int(time) - 50) // 7 + at: int(number) for at, number in enumerate(numbers)})
+                count += len(numbers)
+            self.assertEqual((found, count), (values, len(values)))
 
 
 class Queries(unittest.TestCase):

@@ -15,7 +15,8 @@ class LineProtocol(unittest.TestCase):
     def points(self, text, database="", precision="s"):
         outcome = intake.Outcome()
         reader = line_protocol.Reader("db", "_")
-        found = filter(None, reader.points(text if isinstance(text, bytes) else text.encode(), database, precision, 5 * 10**9, outcome))
+        body = text if isinstance(text, bytes) else text.encode()
+        found = filter(None, reader.points(body, database, precision, 5 * 10**9, outcome))
         return [(dict(point.key), point.time, point.value) for point in found], outcome
 
     def test_points(self):
@@ -57,6 +58,44 @@ class LineProtocol(unittest.TestCase):
         self.assertEqual(self.points("w v=1 1", "plant")[0][0][0], {"__name__": "w_v", "db": "plant"})
         self.assertEqual(len(self.points("w,db=x v=1 1", "plant")[1].errors), 1)
         self.assertEqual(self.points("w,db=x v=1 1")[0][0][0], {"__name__": "w_v", "db": "x"})
+
+    def test_columns_have_what_lines_have(self):
+        draw, plain = random.Random(8), 0
+        heads = ["w", "w,a=1", "w,b=2,a=1", "w,a=1,b=2", "ä,ö=ü", "w,a=1,a=2", "w,a=", ",a=1", "w\\ x", "#w", ""]
+        texts = ["v=1", "v=1.5", "v=-0.001", "v=5i", "v=7u", "v=1e3", "v=.5", "v=1.", "v=t", "v=nan", "v=", "v", "=1", "v=x", "u=1", "v=1,u=2", "v=1,v=2",
+                 "v=1,u=2i", "v=1,u=NaN", "v=1,", "v=1=2", "v=1_0", "v=1.2345", "v=-", 'v="a b"', "v=" + "9" * 20]
+        times = ["1", "2", "3", "4", "-1", "", "soon", "1_0", "99999999999999999999", "+1"]
+        for _ in range(3000):
+            odd = draw.choice((0, 0, 0.02, 0.2))
+
+            def one_of(listed, count):
+                return draw.choice(listed if draw.random() < odd else listed[:count])
+
+            few, some = draw.randrange(1, 5), draw.randrange(1, 8)
+            lines = [" ".join((one_of(heads, few), one_of(texts, some), one_of(times, 4))) for _ in range(draw.randrange(1, 12))]
+            body = (one_of(["\n", "\r\n", "\n\n", " \n"], 1).join(lines) + draw.choice(["", "\n"])).encode()
+            reader, found, outcomes = line_protocol.Reader("db", "_"), [{}, {}], [intake.Outcome(), intake.Outcome()]
+            parts = (reader.parts(body, "", "s", 5, outcomes[0]), intake.parts_of(reader.points(body, "", "s", 5, outcomes[1])))
+            plain += reader.columns(body.rstrip(b"\n"), "", 1) is not None
+            for model, of in zip(found, parts):
+                for column in (column for part in of for column in part):
+                    numbers = intake.plain_numbers(column.values, 3)
+                    if numbers is None:
+                        numbers = [value if len(str(value)) > 15 else intake.number_of(value, 3) for value in column.values]
+                    model.setdefault((column.key, column.measurement), []).extend(zip(column.times, numbers))
+            self.assertEqual(*found, body)
+            self.assertEqual(*[(outcome.errors, outcome.bad, outcome.left_out) for outcome in outcomes], body)
+        self.assertGreater(plain, 1000)
+
+    def test_a_long_body_is_read_piece_by_piece(self):
+        body = "".join(f"w,n={at % 3} v={at}.250,u={at}i {at}\n" for at in range(20_000)).encode()
+        outcome = intake.Outcome()
+        parts = list(line_protocol.Reader("db", "_").parts(body, "", "s", 5, outcome))
+        self.assertGreater(len(parts), 1)
+        self.assertEqual(sum(len(column.times) for part in parts for column in part), 40_000)
+        long = b"w v=1 1\n" + b"x" * 2**19 + b" v=2 2\nw v=3 3"
+        found = [column for part in line_protocol.Reader("db", "_").parts(long, "", "s", 5, outcome) for column in part]
+        self.assertEqual([list(column.times) for column in found], [[10**9], [2 * 10**9], [3 * 10**9]])
 
     def test_random_points_are_those_that_influxdbs_client_wrote(self):
         try:

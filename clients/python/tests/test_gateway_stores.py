@@ -3,6 +3,7 @@ import contextlib
 import io
 import json
 import os
+import signal
 import tempfile
 import threading
 import time
@@ -91,10 +92,31 @@ class Growing(unittest.TestCase):
                 self.assertEqual(gateway.write("\n".join(f"w,n={at} v={at} {T}" for at in range(700)))[0], 204)
                 self.assertEqual(gateway.write("\n".join(f"w,n={at} v={at} {T}" for at in range(700, 1200)))[0], 503)
                 self.assertEqual(gateway.write(f"w,n=0 v=5 {T}")[0], 204)
-                self.assertEqual(gateway.metrics()['zurtkvani_gateway_series{store="gateway-2.store"}'], 512)
+                metrics = gateway.metrics()
+                self.assertEqual(metrics['zurtkvani_gateway_series{store="gateway-2.store"}'], 512)
+                self.assertEqual(metrics["zurtkvani_gateway_made_series_total"], 1024)
                 self.assertEqual(gateway.stop(), 0)
                 gateway.start()
                 self.assertEqual(gateway.told_of("query", query='w_v{n="699"}', time=T)["result"][0]["value"], [T, "699"])
+            finally:
+                gateway.close()
+
+    def test_series_are_spread_over_the_stores_that_are_named(self):
+        with tempfile.TemporaryDirectory() as folder:
+            gateway = Gateway(folder, {"stores": 'files = ["a.store", "b.store", "c.store"]'}, SECOND).start()
+            try:
+                self.assertEqual(gateway.write("\n".join(f"w,n={at} v={at} {T}" for at in range(31)))[0], 204)
+                self.assertEqual(gateway.write("\n".join(f"w,n={at} v={at} {T + 1}" for at in range(60)))[0], 204)
+                os.kill(gateway.children()[0], signal.SIGKILL)
+                self.assertEqual(gateway.write("\n".join(f"w,n={at} v={at} {T + 2}" for at in range(90)))[0], 204)
+                metrics = gateway.metrics()
+                counts = [metrics[f'zurtkvani_gateway_series{{store="{name}.store"}}'] for name in "abc"]
+                self.assertEqual(sum(counts), 90)
+                self.assertLessEqual(max(counts) - min(counts), 3)
+                self.assertEqual(len(gateway.told_of("query", query="w_v", time=T + 2)["result"]), 90)
+                self.assertEqual(gateway.stop(), 0)
+                listed = [name for store in "abc" for name in gateway.listed(f"{store}.store")]
+                self.assertEqual((len(listed), len(set(listed))), (90, 90))
             finally:
                 gateway.close()
 

@@ -5,12 +5,12 @@ import io
 import json
 import os
 import pty
+import re
 import shutil
 import signal
 import subprocess
 import sys
 import tempfile
-import time
 import types
 import unittest
 from datetime import datetime, timedelta, timezone
@@ -201,6 +201,21 @@ class Imports(unittest.TestCase):
         self.assertIn("2m: 20,000 taken, 10,000 without a value", told)
         self.assertEqual(self.stored("2m"), [(START + 60 * at, 25 * at) for at in range(count) if at % 3])
 
+    def test_a_quote_that_nothing_ends(self):
+        status, told = self.taken("t,v\n0,1\n1,2\n2,\"3\n" + "3,4\n" * 50_000, "--step", "1")
+        self.assertEqual(status, 2, told)
+        self.assertIn("field larger than field limit", told)
+
+    def test_a_file_of_gzip_that_was_cut(self):
+        whole = gzip.compress("".join(["t,v\n", *(f"{at},{at % 97}\n" for at in range(60_000))]).encode())
+        status, told = self.taken(whole[: len(whole) // 2])
+        self.assertEqual(status, 1)
+        read = int(re.search(r"([\d,]+) rows were read", told)[1].replace(",", ""))
+        self.assertGreater(read, 20_000)
+        stored = self.stored("v")
+        self.assertEqual(stored, [(at, at % 97) for at in range(len(stored))])
+        self.assertGreater(len(stored), read - 64 * 256)
+
     def test_standard_input(self):
         words = [sys.executable, "-m", "zurtkvani_client", "import", "-", "--store", self.path, "--program", PROGRAM]
         done = subprocess.run(words, input=LOGGER.encode(), cwd=os.path.join(ROOT, "clients/python"), stdout=subprocess.PIPE, check=True)
@@ -249,22 +264,23 @@ class Imports(unittest.TestCase):
         text = "t,v,w\n" + "".join(f"{1793491200 + at},{at / 4},{-at}\n" for at in range(120_000))
         once, again = self.path, os.path.join(self.folder, "b.store")
         self.assertEqual(self.taken(text)[0], 0)
-        words = [sys.executable, "-m", "zurtkvani_client", "import", os.path.join(self.folder, "a.csv")]
-        words += ["--store", again, "--program", PROGRAM]
+        words = lambda file: [sys.executable, "-m", "zurtkvani_client", "import", file, "--store", again, "--program", PROGRAM]
         how = {"cwd": os.path.join(ROOT, "clients/python"), "stdout": subprocess.DEVNULL, "stderr": subprocess.DEVNULL}
         for end in (signal.SIGINT, signal.SIGTERM, signal.SIGKILL):
-            child = subprocess.Popen(words, **how)
-            while not os.path.exists(again) and child.poll() is None:
-                time.sleep(0.01)
-            time.sleep(0.2)
+            child = subprocess.Popen(words("-"), stdin=subprocess.PIPE, **how)
+            # All but what a pipe holds was read then, and the child waits for more.
+            child.stdin.write(text[: len(text) // 2].encode())
+            child.stdin.flush()
+            self.assertTrue(os.path.exists(again))
             child.send_signal(end)
             self.assertNotEqual(child.wait(), 0)
+            child.stdin.close()
             self.path = again
             while True:
                 with contextlib.suppress(Exception):
                     self.series()
                     break
-        subprocess.run(words, check=True, **how)
+        subprocess.run(words(os.path.join(self.folder, "a.csv")), check=True, **how)
         for name in "vw":
             self.path = once
             wanted = self.stored(name)

@@ -41,29 +41,26 @@ def time_column(names, rows, read):
     named = next((lowered.index(name) for name in TIME_NAMES if name in lowered), None)
     if named is not None:
         return named
-    dated = [index for index in range(len(names or max(rows, key=len))) if share(rows, index, read) > 0.5]
-    told = [index for index in dated if not share(rows, index, read_number) > 0.5]
-    if not dated:
+    readable = None
+    for index in range(len(names or max(rows, key=len))):
+        if share(rows, index, lambda texts: len(texts) - len(read.all(texts)[1])) > 0.5:
+            if not share(rows, index, count_numbers) > 0.5:
+                return index
+            readable = index if readable is None else readable
+    if readable is None:
         raise Unfit(f"no column has dates in ISO 8601 or numbers: {TO_NAME_TIMES}")
-    return (told or dated)[0]
+    return readable
 
 
-def read_number(text):
-    """Takes a number alone, and no date."""
-    if not NUMBER.fullmatch(text):
-        raise Unfit(f"{text!r} is no number")
+def share(rows, index, count):
+    """The part of the rows whose field is one of those that `count` counts."""
+    texts = [fields[index].strip() for fields in rows if index < len(fields)]
+    return count(texts) / len(rows) if texts else 0
 
 
-def share(rows, index, read):
-    """The part of the rows whose field a reader takes."""
-    taken = 0
-    for fields in rows:
-        try:
-            read(fields[index].strip())
-            taken += 1
-        except (Unfit, IndexError):
-            pass
-    return taken / len(rows)
+def count_numbers(texts):
+    """How many texts are numbers alone, and no dates."""
+    return sum(map(bool, map(NUMBER.fullmatch, texts)))
 
 
 def has_values(rows, index, spelled):
@@ -84,7 +81,8 @@ def is_value(text):
 def has_decimal_commas(rows, indices):
     """Whether values are spelled as 21,5: some are, and none has a point."""
     texts = [fields[index].strip() for fields in rows for index in indices if index < len(fields)]
-    return any(re.fullmatch(r"[+-]?\d+,\d+", text) for text in texts) and not any("." in text for text in texts)
+    spelled = [text for text in texts if "," in text]
+    return any(re.fullmatch(r"[+-]?\d+,\d+", text) for text in spelled) and not any("." in text for text in texts)
 
 
 def series_name(text):

@@ -8,6 +8,7 @@ A FILE is a CSV, with whatever stands between two fields, gzip of one, `-` for s
 Where the store or a series isn't there it is made: a series for each column of values, under the column's name.
 """
 import argparse
+import csv
 import os
 import sys
 import zoneinfo
@@ -20,7 +21,7 @@ from .sources import Unreadable
 from .timestamps import UNITS, date_text
 from .unfit import Unfit
 
-SIZES = {"": 1, "k": 2**10, "m": 2**20, "g": 2**30}
+SIZES = {"": 1, "k": 2**10, "m": 2**20, "g": 2**30, "t": 2**40}
 
 
 def length(text):
@@ -112,7 +113,7 @@ def run(given):
     done = Import(given, Progress())
     try:
         done.run()
-    except (Unfit, Unreadable, OSError, EOFError, ValueError) as why:
+    except (Unfit, Unreadable, OSError, EOFError, ValueError, csv.Error) as why:
         return stopped(done, str(why), 1 if done.report.rows else 2)
     except Refused as why:
         return stopped(done, f"{why}: take a larger store, as by --size 1G" if why.name == "Full" else str(why), 1)

@@ -29,23 +29,26 @@ class Grid:
     def __init__(self, start, step, unit, snap="nearest", tolerance=None):
         self.start, self.step, self.unit = start, step, unit
         self.first, self.gap = start * UNITS[unit], step * UNITS[unit]
-        self.snaps_up = self.gap if snap == "nearest" else 2 * self.gap  # from twice a rest of so much on it goes to the later slot
+        self.lead = self.gap // 2 if snap == "nearest" else 0  # by how much a slot begins to be the one before its time
         self.tolerance = 0 if snap == "none" else self.gap if tolerance is None else tolerance
 
-    def place(self, time):
-        """The time of the slot, in the unit, that a time in nanoseconds goes to, and how far the time is from it, in nanoseconds.
-
-        Raises Unfit where it is too far from each slot, or there is no such slot.
-        """
-        slot, rest = divmod(time - self.first, self.gap)
-        if rest:
-            if 2 * rest >= self.snaps_up:
-                slot, rest = slot + 1, rest - self.gap
-            if abs(rest) > self.tolerance:
-                raise Unfit(f"{date_text(time)} lies between two slots")
-        if not 0 <= slot <= LAST_SLOT:
-            raise Unfit(f"{date_text(time)} lies " + ("before the start" if slot < 0 else "too far behind the start"))
-        return self.start + slot * self.step, rest
+    def place(self, times):
+        """The time of the slot, in the unit, that each of some times in nanoseconds goes to; the indices of those that aren't their
+        slot's; and by the index of one that goes to none, why: it is too far from each, or there is no such slot."""
+        first, gap, size = self.first - self.lead, self.gap, UNITS[self.unit]
+        slots = [(time - first) // gap for time in times]
+        placed = [self.start + slot * self.step for slot in slots]
+        moved = [at for at, (time, home) in enumerate(zip(times, placed)) if time != home * size]
+        unfit = {}
+        for at in moved if self.tolerance < self.gap else ():
+            if abs(times[at] - placed[at] * size) > self.tolerance:
+                unfit[at] = Unfit(f"{date_text(times[at])} lies between two slots")
+        if min(slots) < 0 or max(slots) > LAST_SLOT:
+            for at, slot in enumerate(slots):
+                if not 0 <= slot <= LAST_SLOT:
+                    where = "before the start" if slot < 0 else "too far behind the start"
+                    unfit.setdefault(at, Unfit(f"{date_text(times[at])} lies {where}"))
+        return placed, moved, unfit
 
 
 def find_step(times):

@@ -1,6 +1,6 @@
 """What an import does, found from the first rows of its first file and the words of the command line: the columns, the grids and the scales."""
 import os
-from itertools import chain, islice
+from itertools import islice
 
 from . import columns, timestamps
 from .decimals import MISSING, decimal_of
@@ -36,18 +36,18 @@ class Plan:
     def begin(self, sources):
         """Looks at the first rows of the first file; finds the columns and grids, and makes what isn't there."""
         source = sources[0]
-        first = next(((line, fields) for line, fields in source.rows if any(map(str.strip, fields))), None)
+        first = next((row for row in source.rows if any(map(str.strip, row[0]))), None)
         if first is None:
             raise Unfit("it has no rows")
-        self.line_of_first = first[0]
-        self.names = columns.header_of(first[1], source.has_names or self.is_named())
+        self.line_of_first = first[1]
+        self.names = columns.header_of(first[0], source.has_names or self.is_named())
         sample = list(islice(source.rows, SAMPLE))
         if self.names is None:
             sample.insert(0, first)
-        source.rows = chain(sample, source.rows)
+        source.put_back(sample)
         for other in sources[1:]:
-            other.rows = self.without_header(other)
-        rows = [fields for _, fields in sample if any(map(str.strip, fields))]
+            self.skip_header(other)
+        rows = [fields for fields, _ in sample if any(map(str.strip, fields))]
         if not rows:
             raise Unfit("it has no rows behind the names of the columns")
         self.find_columns(rows)
@@ -99,15 +99,12 @@ class Plan:
         return text.replace(",", ".") if self.has_commas else text
 
     def sampled_times(self, rows):
-        times = []
-        for fields in rows:
-            try:
-                times.append(self.read_time(fields[self.time_index].strip()))
-            except (Unfit, IndexError) as why:
-                unread = why
-        if not times:
-            raise Unfit(f"{unread}: {columns.TO_NAME_TIMES}")
-        return times
+        texts = [fields[self.time_index] for fields in rows if self.time_index < len(fields)]
+        times, unfit = self.read_time.all(texts) if texts else ([], {})
+        if len(unfit) == len(times):
+            why = unfit[len(texts) - 1] if texts else "no row has the column of the times"
+            raise Unfit(f"{why}: {columns.TO_NAME_TIMES}")
+        return [time for time in times if time is not None]
 
     def rows_in(self, sources, source, sampled):
         """About how many rows all files have; None where the size of one isn't known."""
@@ -151,8 +148,7 @@ class Plan:
         if self.given.scale is not None:
             return self.given.scale
         values = []
-        for fields in rows:
-            text = fields[column.index].strip() if column.index < len(fields) else ""
+        for text in {fields[column.index].strip() for fields in rows if column.index < len(fields)}:
             if text.lower() not in MISSING:
                 try:
                     values.append(decimal_of(self.spelled(text)))
@@ -179,11 +175,10 @@ class Plan:
         """How many pages of 128 slots a row needs for each column, by the first rows."""
         return len({(time - grid.first) // grid.gap // 128 for time in times}) / len(times)
 
-    def without_header(self, source):
-        """The rows of a further file, without the names of the columns."""
+    def skip_header(self, source):
+        """Takes the names of the columns from a further file."""
         if self.names is None:
-            return source.rows
-        first = next((fields for _, fields in source.rows if any(map(str.strip, fields))), None)
+            return
+        first = next((fields for fields, _ in source.rows if any(map(str.strip, fields))), None)
         if first is not None and [field.strip() for field in first] != self.names:
             raise Unfit(f"the columns of {source.name} have other names than those of {self.given.files[0]}: import it by itself")
-        return source.rows

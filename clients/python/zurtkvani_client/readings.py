@@ -73,7 +73,7 @@ def convert(source, columns, grid, out, progress):
         progress.end()
         print(f"line {line}: {what}", file=sys.stderr)
 
-    for count, (line, fields) in enumerate(row for row in source.rows if any(map(str.strip, row[1]))):
+    for count, (fields, line) in enumerate(row for row in source.rows if any(map(str.strip, row[0]))):
         if not count & 1023:
             progress.show(count, source.done())
         if not count and is_header(fields, columns, grid):

@@ -43,8 +43,8 @@ class Store:
 
     @classmethod
     def make(cls, path, size=4 * 2**20, program="chart", unit=None, series=()):
-        """Makes a new file a store of so many bytes, 512 KiB to 4 GiB, with some series, each a name, a start, a step and a
-        scale, and gives it. A value takes about 32 bytes. Raises FileExistsError where the file is there."""
+        """Makes a new file a store of so many bytes, 512 KiB or more and less than 16 TiB, with some series, each a name, a start, a
+        step and a scale, and gives it. A value takes about 32 bytes. Raises FileExistsError where the file is there."""
         make_store(str(path), size, str(program), series)
         return cls(path, program, unit)
 

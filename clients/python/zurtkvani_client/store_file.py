@@ -5,7 +5,7 @@ import tempfile
 from .commands import Output
 
 BLOCK = 4096  # bytes
-LEAST_BLOCKS, MOST_BLOCKS = 128, 2**20
+LEAST_BLOCKS, MOST_BLOCKS = 128, 2**32 - 1
 OWN_BLOCKS = 66 + 17  # the journal's and the store's own
 UNKNOWN = 2**30  # bytes for a file of rows whose number isn't known
 

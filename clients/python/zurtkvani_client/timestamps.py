@@ -1,4 +1,5 @@
 """Times as texts, to whole nanoseconds since 1970-01-01T00:00:00Z and back."""
+import contextlib
 import re
 from datetime import datetime, timedelta, timezone
 from decimal import Decimal
@@ -38,10 +39,16 @@ def date_text(time):
     return date + (f".{rest:09}".rstrip("0") if rest else "") + "Z"
 
 
+def is_plain(texts, length):
+    """Whether Python's own reader of dates does what this one does with texts of one length, which stand one behind the other: it drops a
+    seventh decimal without a word, and takes any sign between the date and the time."""
+    year, month, day, hour, decimals = (set(texts[at::length]) if at < length else set() for at in (4, 7, 10, 13, 26))
+    return year == month == {"-"} and day <= {"T", " "} and hour <= {":"} and not any(map(str.isdigit, decimals))
+
+
 def iso_date(text):
     """The date of a text in ISO 8601, without a zone where none is said, and the nanoseconds behind its microsecond."""
-    # (Python's own reader drops a seventh decimal without a word, and takes any sign between the date and the time)
-    if text[4:5] == text[7:8] == "-" and text[10:11] in ("T", " ", "") and text[13:14] in (":", "") and not text[26:27].isdigit():
+    if is_plain(text, len(text)):
         try:
             return datetime.fromisoformat(text), 0
         except ValueError:
@@ -83,6 +90,50 @@ class TimeReader:
         if self.zone is None:
             return nanoseconds_of(date - EPOCH) + rest
         return self.placed(date, text) + rest
+
+    def all(self, texts):
+        """What each text gives, None where that is no time; and by the index of such a one, why."""
+        if texts[0] != texts[0].strip():
+            texts = list(map(str.strip, texts))
+        times = self.numbers(texts) if self.form is None else None
+        dates = self.dates(texts) if self.form is None and times is None else None
+        if dates and (self.zone is None or dates[0].tzinfo):
+            with contextlib.suppress(TypeError):  # of which one says an offset, and another none
+                epoch = UTC_EPOCH if dates[0].tzinfo else EPOCH
+                times = list(map(nanoseconds_of, [date - epoch for date in dates]))
+        return self.one_by_one(texts, dates) if times is None else (times, {})
+
+    def one_by_one(self, texts, dates):
+        """What `all` gives, text by text; with the dates that they spell, where these were read and are to be placed in the zone."""
+        times, unfit = [None] * len(texts), {}
+        is_placed = dates and self.zone is not None and not any(date.tzinfo for date in dates)
+        for at, text in enumerate(texts):
+            try:
+                times[at] = self.placed(dates[at], text) if is_placed else self(text.strip())
+            except Unfit as why:
+                unfit[at] = why
+        return times, unfit
+
+    def numbers(self, texts):
+        """The nanoseconds of whole numbers, or of numbers of one length with a point at one place; None where the texts are others."""
+        joined, length, point = "".join(texts), len(texts[0]), texts[0].find(".")
+        if joined.isascii() and joined.isdigit() and all(texts) and max(map(len, texts)) <= 19:
+            return [int(text) * self.size for text in texts]
+        digits, has_points = joined.replace(".", ""), point > 0 and joined[point::length] == "." * len(texts)
+        is_one = has_points and len(digits) == (length - 1) * len(texts) and {*map(len, texts)} == {length} and NUMBER.fullmatch(texts[0])
+        if not (is_one and digits.isascii() and digits.isdigit()) or self.size % 10 ** (length - point - 1):
+            return None
+        size = self.size // 10 ** (length - point - 1)
+        return [int(text.replace(".", "")) * size for text in texts]
+
+    @staticmethod
+    def dates(texts):
+        """The dates of texts of one length that Python's own reader takes; None where there is another."""
+        length = len(texts[0])
+        if {*map(len, texts)} == {length} and is_plain("".join(texts), length):
+            with contextlib.suppress(ValueError):
+                return list(map(datetime.fromisoformat, texts))
+        return None
 
     def number(self, text):
         if text.isdigit():

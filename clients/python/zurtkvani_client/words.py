@@ -28,13 +28,18 @@ def entry_of(status, place, command):
     return {}
 
 
+def meaning(entry):
+    """What a refusal means, where its numbers are told behind it."""
+    # What these stand for needs no words then, nor when the refusal comes once it has.
+    means = re.split("; |: A is", entry["means"])[0]
+    return means[:1].lower() + means[1:]
+
+
 def refusal(number, a=0, b=0):
     """A refusal of a request, in words."""
     entry = next((entry for entry in ENTRIES if entry.get("refusal") == str(number)), {"name": "Unknown", "means": ""})
-    # What the numbers stand for needs no words where they are told, nor when the refusal comes once it has.
-    means = re.split("; |: A is", entry["means"])[0]
     told = f": {entry['tells'].replace('A', str(a)).replace('B', str(b))}" if "tells" in entry else ""
-    return f"refusal {number}, {entry['name']}: {means[:1].lower()}{means[1:]}{told}"
+    return f"refusal {number}, {entry['name']}: {meaning(entry)}{told}"
 
 
 def end(status, place, command="serve", path=None):

@@ -4,7 +4,7 @@ import { coverOf, newClient } from "./clients.js";
 const CACHE = 131072;
 const PATIENCE = 150; // milliseconds until an answer that comes in is shown by its cover
 const BETWEEN_COVERS = 100; // and from one cover to the next
-const [UNKNOWN_SESSION, SESSION_OPEN, VIEW_TOO_LARGE] = [4, 5, 20];
+const [UNKNOWN_SESSION, SESSION_OPEN] = [4, 5];
 export const TOO_MANY_SESSIONS = 6;
 export const BAD_FILTER = 3;
 
@@ -31,7 +31,7 @@ export class Denied extends Error {
 /** A request that the program refused: `frame` has its number, its name and its numbers. */
 export class Refused extends Error {
   constructor(frame) {
-    super(frame.number === VIEW_TOO_LARGE ? `${frame.meaning}: ${frame.a} of ${frame.b}` : frame.meaning);
+    super(frame.meaning);
     this.frame = frame;
   }
 }

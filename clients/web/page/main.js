@@ -164,9 +164,10 @@ class Page {
     }
   }
 
-  /** Draws what is wanted until nothing more is. */
+  /** Draws what is wanted until nothing more is; the document says so until then. */
   async drawOn() {
     this.isDrawing = true;
+    document.body.toggleAttribute("data-drawing", true);
     while (this.wanted && this.connection.number && document.visibilityState === "visible") {
       const { names, began } = this.wanted;
       this.wanted = null;
@@ -177,6 +178,7 @@ class Page {
         this.tellFault(error);
       }
     }
+    document.body.toggleAttribute("data-drawing", false);
     this.isDrawing = false;
   }
 

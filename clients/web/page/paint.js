@@ -18,22 +18,14 @@ function pixelOf(colour) {
 /** The size in device pixels of a length on the screen, as a picture may have it. */
 export const pixelsOf = (length) => Math.max(1, Math.min(4096, Math.floor(length * devicePixelRatio)));
 
-/** Puts a colour in the place of each black pixel. The rows of a picture with `bytes` are looked at by eight pixels, most of them white. */
-function fill(colours, picture, ink) {
-  if (!picture.bytes) {
-    picture.colour(colours, ink, NOTHING);
-    return;
+let spare = null; // what was painted last, for the next picture of its size
+
+/** Room for the pixels of a picture. Each one is written anew. */
+function roomFor({ w, h }) {
+  if (spare?.width !== w || spare.height !== h) {
+    spare = new ImageData(w, h);
   }
-  const { bytes, front, size, w } = picture;
-  for (let at = front; at < bytes.length; at += 1) {
-    const row = Math.floor((at - front) / size);
-    const first = row * w + 8 * (at - front - row * size);
-    for (let bits = bytes[at], place = 0; bits > 0; bits = (bits << 1) & 255, place += 1) {
-      if (bits & 128) {
-        colours[first + place] = ink;
-      }
-    }
-  }
+  return spare;
 }
 
 /** Puts a picture on a canvas of its own size, in the colour of a place in its panel. */
@@ -45,8 +37,8 @@ export function paint(canvas, picture, place) {
   }
   canvas.style.width = `${picture.w / devicePixelRatio}px`;
   canvas.style.height = `${picture.h / devicePixelRatio}px`;
-  const image = new ImageData(picture.w, picture.h);
-  fill(new Uint32Array(image.data.buffer), picture, pixelOf(COLOURS[theme()][place]));
+  const image = roomFor(picture);
+  picture.colour(new Uint32Array(image.data.buffer), pixelOf(COLOURS[theme()][place]), NOTHING);
   canvas.getContext("2d").putImageData(image, 0, 0);
   performance.measure("chart: canvas", { start });
 }

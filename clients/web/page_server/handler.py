@@ -15,7 +15,7 @@ from .program import MOST_LINES, Ended
 
 FOLDER = os.path.dirname(os.path.dirname(os.path.realpath(__file__)))
 KINDS = {".html": "text/html; charset=utf-8", ".js": "text/javascript; charset=utf-8", ".css": "text/css; charset=utf-8"}
-SHOWN = re.compile(r"/(?:|page\.css|chart_client\.js|proved_client\.js|page/[a-z_]+\.js)")
+SHOWN = re.compile(r"/(?:|page\.css|chart_client\.js|proved_client\.js|refusals\.js|page/[a-z_]+\.js)")
 MODULE = "/chart_client.wasm"
 LONGEST = 8192  # bytes of a line
 MOST_BYTES = 65536  # of a body

@@ -11,15 +11,15 @@ use std::os::unix::fs::FileExt;
 use std::rt::Files;
 
 /// The most blocks that are used of a file.
-const MOST: u64 = 1048576;
+const MOST: u64 = u32::MAX as u64;
 
 /// The blocks of a file that was there before. It tells no content.
 ///
 /// It holds the file's exclusive lock (`flock`) until it is dropped or its process ends, so that of
 /// all that use the file in this way one does at a time. Its size is the number of whole blocks of
-/// the file, at most 2^20. Where the file couldn't be opened, or another holds its lock, the size is
-/// 0 and every call fails. Every call fails also after a sync that failed, since the system may then
-/// have dropped what was written, and say no more of it.
+/// the file, at most 2^32 - 1. Where the file couldn't be opened, or another holds its lock, the size
+/// is 0 and every call fails. Every call fails also after a sync that failed, since the system may
+/// then have dropped what was written, and say no more of it.
 #[derive(Drop)]
 pub struct FileDisk {
     file: Option<File>,
@@ -31,9 +31,7 @@ pub struct FileDisk {
 }
 
 /// Opens a file for reading and writing, takes its lock at once or not at all, and counts its blocks.
-fn open<R: Files<File = File>>(rt: &R, path: &str) -> io::Result<(File, u32)>
-    ensures { IfOk result (λ opened. opened.1 ≤ 2 ^ 20) }
-{
+fn open<R: Files<File = File>>(rt: &R, path: &str) -> io::Result<(File, u32)> {
     let mut how = OpenOptions::new();
     how.read(true);
     how.write(true);
@@ -51,7 +49,6 @@ fn offset(no: u32) -> u64 {
 impl FileDisk {
     /// The disk in an existing file. It doesn't wait for the lock.
     pub fn at<R: Files<File = File>>(rt: &R, path: &str) -> FileDisk
-        ensures size { result.blocks ≤ 2 ^ 20 }
         ensures counts { (result.reads ≡ 0) × (result.syncs ≡ 0) × (result.writes ≡ 0) × (result.faults ≡ 0) }
     {
         let (file, blocks) = match open(rt, path) {

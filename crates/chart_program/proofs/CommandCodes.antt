@@ -105,35 +105,3 @@ load_codes code (suc (suc (suc (suc (suc (suc (suc zero)))))), inside, is) = (7,
 load_codes code (suc (suc (suc (suc (suc (suc (suc (suc zero))))))), inside, is) = (10, omega arith, is)
 load_codes code (suc (suc (suc (suc (suc (suc (suc (suc (suc zero)))))))), inside, is) = (12, omega arith, is)
 load_codes code (suc (suc (suc (suc (suc (suc (suc (suc (suc (suc k))))))))), inside, is) = absurd (omega (arith, inside))
-
--- codes of the command `retain` are codes of a command
-abbrev pub of_retain : List ℕ
-of_retain = 0 ∷ 3 ∷ 4 ∷ 5 ∷ 6 ∷ 7 ∷ 8 ∷ 9 ∷ 12 ∷ 17 ∷ []
-
-pub retain_codes : (code : ℕ) → Contains of_retain code → Contains (0 ∷ 3 ∷ 4 ∷ 5 ∷ 6 ∷ 7 ∷ 8 ∷ 9 ∷ 10 ∷ 11 ∷ 12 ∷ 13 ∷ 14 ∷ 15 ∷ 16 ∷ 17 ∷ []) code
-retain_codes code (zero, inside, is) = (0, omega arith, is)
-retain_codes code (suc zero, inside, is) = (1, omega arith, is)
-retain_codes code (suc (suc zero), inside, is) = (2, omega arith, is)
-retain_codes code (suc (suc (suc zero)), inside, is) = (3, omega arith, is)
-retain_codes code (suc (suc (suc (suc zero))), inside, is) = (4, omega arith, is)
-retain_codes code (suc (suc (suc (suc (suc zero)))), inside, is) = (5, omega arith, is)
-retain_codes code (suc (suc (suc (suc (suc (suc zero))))), inside, is) = (6, omega arith, is)
-retain_codes code (suc (suc (suc (suc (suc (suc (suc zero)))))), inside, is) = (7, omega arith, is)
-retain_codes code (suc (suc (suc (suc (suc (suc (suc (suc zero))))))), inside, is) = (10, omega arith, is)
-retain_codes code (suc (suc (suc (suc (suc (suc (suc (suc (suc zero)))))))), inside, is) = (15, omega arith, is)
-retain_codes code (suc (suc (suc (suc (suc (suc (suc (suc (suc (suc k))))))))), inside, is) = absurd (omega (arith, inside))
-
--- codes of the command `live` are codes of a command
-abbrev pub of_live : List ℕ
-of_live = 0 ∷ 3 ∷ 4 ∷ 5 ∷ 6 ∷ 7 ∷ 9 ∷ 12 ∷ []
-
-pub live_codes : (code : ℕ) → Contains of_live code → Contains (0 ∷ 3 ∷ 4 ∷ 5 ∷ 6 ∷ 7 ∷ 8 ∷ 9 ∷ 10 ∷ 11 ∷ 12 ∷ 13 ∷ 14 ∷ 15 ∷ 16 ∷ 17 ∷ []) code
-live_codes code (zero, inside, is) = (0, omega arith, is)
-live_codes code (suc zero, inside, is) = (1, omega arith, is)
-live_codes code (suc (suc zero), inside, is) = (2, omega arith, is)
-live_codes code (suc (suc (suc zero)), inside, is) = (3, omega arith, is)
-live_codes code (suc (suc (suc (suc zero))), inside, is) = (4, omega arith, is)
-live_codes code (suc (suc (suc (suc (suc zero)))), inside, is) = (5, omega arith, is)
-live_codes code (suc (suc (suc (suc (suc (suc zero))))), inside, is) = (7, omega arith, is)
-live_codes code (suc (suc (suc (suc (suc (suc (suc zero)))))), inside, is) = (10, omega arith, is)
-live_codes code (suc (suc (suc (suc (suc (suc (suc (suc k))))))), inside, is) = absurd (omega (arith, inside))

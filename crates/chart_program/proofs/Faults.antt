@@ -13,7 +13,8 @@ use Rattle.chart_world.specs.declared.line_answer.LineFault.{LineFault}
 use Rattle.chart_world.specs.declared.line_answer.LineFault.TheVariants as fault
 use Rattle.draw_command.specs.declared.draw_end.DrawEnd.{DrawEnd}
 use Rattle.draw_command.specs.declared.draw_end.DrawEnd.TheVariants as draw_end
-use Rattle.store_commands.specs.Status.{code_fault, end_fault}
+use Rattle.run_ends.specs.Faults.{end_fault}
+use Rattle.store_commands.specs.Status.{code_fault}
 use Rattle.chart_program.specs.CommandStatuses.{drawing_end}
 use Rattle.chart_program.specs.Ended.{status_by}
 use Rattle.chart_program.specs.Faulting.{plot_fault, run_fault}

@@ -11,9 +11,9 @@ use Rattle.empty_store.specs.declared.errors.InitCause.TheVariants as init
 use Rattle.program_words.specs.declared.words.Command.TheVariants.{Init}
 use Rattle.run_ends.specs.Statuses.{code_of, place_of}
 use Rattle.run_ends.specs.declared.ending.End.{End}
+use Rattle.run_ends.specs.Faults.{end_fault}
 use Rattle.run_ends.specs.declared.ending.End.TheVariants.{Done, NoMemory, DiskFault, TooSmall, IsStore}
 use Rattle.store_commands.specs.Away.{IsTurnedAway}
-use Rattle.store_commands.specs.Status.{end_fault}
 use Rattle.chart_program.specs.CommandStatuses.{codes_of}
 use Rattle.chart_program.specs.Served.{Faults}
 use Rattle.chart_program.specs.Ran.{CommandEnds, IsFree, IsInitEnd, LeavesDisk, init_end}

@@ -27,6 +27,8 @@ pub mod InitLemmas
 pub mod InitEnds
 pub mod OneCommand
 pub mod DerivePage
+pub mod RetainPage
+pub mod LivePage
 pub mod StorePages
 pub mod StreamPages
 pub mod RetainEnds

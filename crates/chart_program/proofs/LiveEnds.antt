@@ -1,89 +1,90 @@
 -- The command `live` ends as its own clauses say.
-use Rattle.std.proofs.Common.{ℕ, zero, suc, ◌<◌, List, Option, Some, None, IfSome, refl, sym, arith, inl, inr}
+use Rattle.std.proofs.Common.{ℕ, ◌<◌, List, Option, Some, None, IfSome, refl, ap, arith, inl, inr}
 use Rattle.std.specs.Prelude.{Contains}
 use Rattle.block_disk.specs.View.{View}
 use Rattle.gate_pages.specs.Journal.{page_count}
-use Rattle.stored_book.specs.Damage.{IsBadForRequest}
+use Rattle.run_ends.specs.Statuses.{code_of, place_of}
+use Rattle.run_ends.specs.declared.ending.End.{End}
+use Rattle.run_ends.specs.declared.ending.End.TheVariants.{Done, NoMemory, ReadFault, SendFault, DiskFault, DamagedBlock, DamagedPage}
+use Rattle.run_ends.specs.declared.ending.End.TheVariants.{InputTooLong, TooSmall}
 use Rattle.store_commands.specs.Away.{IsTurnedAway}
-use Rattle.store_commands.specs.Damaged.{IsDamagedPlace}
-use Rattle.live_command.specs.Ended.{FindsDamaged, LiveEnds, LivesTaken, ReadsLiving, SyncsLiving}
+use Rattle.store_commands.specs.Traffic.{Traffic}
+use Rattle.live_command.specs.Ended.{DoesLive, IsLiveCause, LiveEnds, LivesTaken, ReadsLiving, SyncsLiving}
 use Rattle.program_words.specs.declared.words.Command.TheVariants.{Live}
-use Rattle.chart_program.specs.CommandStatuses.{IsBarred}
+use Rattle.chart_program.specs.CommandStatuses.{codes_of}
 use Rattle.chart_program.specs.Served.{Faults}
 use Rattle.chart_program.specs.Ran.{AreLines, CommandEnds, of_done}
-use Rattle.chart_program.proofs.CommandCodes.{never, of_live, live_codes}
-use Rattle.chart_program.proofs.CommandsEnd.{small_never}
+use Rattle.chart_program.proofs.Codes.{told_both}
+use Rattle.chart_program.proofs.EndsByCode.{Came, by_code}
+
+abbrev passed : (left left' before now : Option (List ℕ)) → Faults → Traffic
+passed left left' before now faults = record { left = left; left_now = left'; sent = before; sent_now = now; reads = faults.reads; reads_now = faults.reads_now; sends = faults.sends; sends_now = faults.sends_now }
 
 -- with good input it is done, a stream fails, or there is no memory
-completed : (old new : View) (input : List ℕ) (left' before now : Option (List ℕ)) (faults : Faults) (code place : ℕ) → AreLines old new input → LiveEnds old new (Some input) left' before now faults.reads faults.reads_now faults.sends faults.sends_now code place → Contains of_live code → Contains of_done code
-completed old new input left' before now faults code place r e (zero, inside, is) = (0, omega arith, is)
-completed old new input left' before now faults code place r e (suc zero, inside, is) = (1, omega arith, is)
-completed old new input left' before now faults code place r e (suc (suc zero), inside, is) = (2, omega arith, is)
-completed old new input left' before now faults code place r e (suc (suc (suc zero)), inside, is) = (3, omega arith, is)
-completed old new input left' before now faults code place r e (suc (suc (suc (suc zero))), inside, is) = absurd (r.whole (e.fault (sym is)))
-completed old new input left' before now faults code place r e (suc (suc (suc (suc (suc zero)))), inside, is) = absurd (e.undamaged (sym is) r.total r.book r.holds)
-completed old new input left' before now faults code place r e (suc (suc (suc (suc (suc (suc zero))))), inside, is) = absurd (omega (arith, r.short, ((e.much (sym is)).1 r.total r.book r.holds).past))
-completed old new input left' before now faults code place r e (suc (suc (suc (suc (suc (suc (suc zero)))))), inside, is) = absurd (small_never old r.total r.book r.holds (omega (arith, (e.small (sym is)).1)))
-completed old new input left' before now faults code place r e (suc (suc (suc (suc (suc (suc (suc (suc k))))))), inside, is) = absurd (omega (arith, inside))
-
-complete : (old new : View) (left left' before now : Option (List ℕ)) (faults : Faults) (code place : ℕ) → LiveEnds old new left left' before now faults.reads faults.reads_now faults.sends faults.sends_now code place → IfSome left (λ input. AreLines old new input → Contains of_done code)
-complete old new None left' before now faults code place e = tt
-complete old new (Some input) left' before now faults code place e = λ good. completed old new input left' before now faults code place good e e.codes
+completed : (old new : View) (input : List ℕ) (left' before now : Option (List ℕ)) (faults : Faults) → AreLines old new input → (end : End)
+    → IsLiveCause end old new (passed (Some input) left' before now faults) → DoesLive (page_count old.size) old new (passed (Some input) left' before now faults) end → Contains of_done (code_of end)
+completed old new input left' before now faults r Done cause does = (0, omega arith, refl)
+completed old new input left' before now faults r NoMemory cause does = (1, omega arith, refl)
+completed old new input left' before now faults r ReadFault cause does = (2, omega arith, refl)
+completed old new input left' before now faults r SendFault cause does = (3, omega arith, refl)
+completed old new input left' before now faults r DiskFault cause does = absurd (r.whole cause)
+completed old new input left' before now faults r (DamagedBlock block) cause does = absurd (does r.total r.book r.holds)
+completed old new input left' before now faults r (DamagedPage page) cause does = absurd (does r.total r.book r.holds)
+completed old new input left' before now faults r InputTooLong cause does = absurd (omega (arith, r.short, (does r.total r.book r.holds).past))
+completed old new input left' before now faults r (TooSmall blocks) cause does = absurd (does r.total r.book r.holds)
+completed old new input left' before now faults r end cause does = absurd cause
 
 taken : (old new : View) (left left' before now : Option (List ℕ)) → IfSome left (λ input. LivesTaken (page_count old.size) old new input left' before now) → IfSome left (λ input. IfSome left' (λ bytes. LivesTaken (page_count old.size) old new input (Some bytes) before now))
 taken old new None left' before now all = tt
 taken old new (Some input) None before now all = tt
 taken old new (Some input) (Some bytes) before now all = all
 
-barred : (old new : View) (left left' before now : Option (List ℕ)) (place : ℕ) → FindsDamaged old new left left' before now place → IsBarred (page_count old.size) new left left' before now place
-barred old new left left' before now place (inl first) = inl (first.0.0, first.1)
-barred old new left left' before now place (inr later) = inr later
+complete : (old new : View) (left left' before now : Option (List ℕ)) (faults : Faults) (end : End) → IsLiveCause end old new (passed left left' before now faults) → DoesLive (page_count old.size) old new (passed left left' before now faults) end
+    → IfSome left (λ input. AreLines old new input → Contains of_done (code_of end))
+complete old new None left' before now faults end cause does = tt
+complete old new (Some input) left' before now faults end cause does = λ good. completed old new input left' before now faults good end cause does
 
-found : (old new : View) (left left' before now : Option (List ℕ)) (place : ℕ) → FindsDamaged old new left left' before now place → IsDamagedPlace IsBadForRequest old new place
-found old new left left' before now place (inl first) = inl first.0
-found old new left left' before now place (inr later) = inr later
+module _ (old new : View) (left left' before now : Option (List ℕ)) (faults : Faults) where
+  live_came : (end : End) → IsLiveCause end old new (passed left left' before now faults) → DoesLive (page_count old.size) old new (passed left left' before now faults) end → Came Live old new left left' before now faults end
+  live_came Done cause does = (cause, does, tt)
+  live_came NoMemory cause does = does
+  live_came ReadFault cause does = (cause, taken old new left left' before now does)
+  live_came SendFault cause does = (cause, does)
+  live_came DiskFault cause does = (cause, does)
+  live_came (DamagedBlock block) cause does = (inl cause.0, does, inl (cause.0.0, cause.1))
+  live_came (DamagedPage page) cause does = (inr cause, does, inr cause)
+  live_came InputTooLong cause does = told_both left _ _ refl does
+  live_came (TooSmall blocks) cause does = cause
+  live_came end cause does = absurd cause
 
-pub live_ends : (old new : View) (left left' before now : Option (List ℕ)) (faults : Faults) (code place : ℕ) → LiveEnds old new left left' before now faults.reads faults.reads_now faults.sends faults.sends_now code place → (old.size < 128 → IsTurnedAway left left' before now code) → IfSome left (λ input. ReadsLiving old new input) → IfSome left (λ input. SyncsLiving old new input) → CommandEnds Live old new left left' before now faults code place
-live_ends old new left left' before now faults code place e away reads syncs = record {
-  codes = live_codes code e.codes;
-  own = e.codes;
-  away = λ over. away;
-  untaken = λ none. absurd none;
-  bars = λ is. barred old new left left' before now place (e.damaged is);
-  reads = tt;
-  reads_lines = reads;
-  syncs = syncs;
-  unsent = λ is. absurd (never of_live code 14 e.codes refl is);
-  read = e.read;
-  stopped = λ is. taken old new left left' before now (e.stopped is);
-  send = e.send;
-  bad = λ is. absurd (never of_live code 8 e.codes refl is);
-  much = e.much;
-  missing = λ is. absurd (never of_live code 10 e.codes refl is);
-  misfit = λ is. absurd (never of_live code 11 e.codes refl is);
-  unopened = λ is. absurd (never of_live code 15 e.codes refl is);
-  memory = e.memory;
-  within = e.within;
-  fault = e.fault;
-  faulted = e.faulted;
-  damaged = λ is. found old new left left' before now place (e.damaged is);
-  undamaged = e.undamaged;
-  small = e.small;
-  there = λ is. absurd (never of_live code 13 e.codes refl is);
-  refused = λ is. absurd (never of_live code 14 e.codes refl is);
-  unnamed = tt;
-  unknown = λ is. absurd (never of_live code 17 e.codes refl is);
-  refused_line = λ is. absurd (never of_live code 16 e.codes refl is);
-  zero_place = e.zero_place;
-  done = e.done;
-  part = e.part;
-  nothing = λ some unsent quiet. absurd (quiet tt);
-  pictures = λ is command. cc;
-  holds = e.holds;
-  crash = e.crash;
-  disk = e.goes_on;
-  made = λ is. tt;
-  complete = complete old new left left' before now faults code place e;
-  drawn = λ command. cc;
-  ready = λ command. cc;
-}
+  live_own : (end : End) → IsLiveCause end old new (passed left left' before now faults) → Contains (codes_of Live) (code_of end)
+  live_own Done cause = (0, omega arith, refl)
+  live_own NoMemory cause = (1, omega arith, refl)
+  live_own ReadFault cause = (2, omega arith, refl)
+  live_own SendFault cause = (3, omega arith, refl)
+  live_own DiskFault cause = (4, omega arith, refl)
+  live_own (DamagedBlock block) cause = (5, omega arith, refl)
+  live_own (DamagedPage page) cause = (5, omega arith, refl)
+  live_own InputTooLong cause = (6, omega arith, refl)
+  live_own (TooSmall blocks) cause = (7, omega arith, refl)
+  live_own end cause = absurd cause
+
+  pub live_ends : (end : End) → LiveEnds old new (passed left left' before now faults) end → (old.size < 128 → IsTurnedAway left left' before now (code_of end)) → IfSome left (λ input. ReadsLiving old new input) → IfSome left (λ input. SyncsLiving old new input) → CommandEnds Live old new left left' before now faults (code_of end) (place_of end)
+  live_ends end e away reads syncs = by_code Live old new left left' before now faults end (record {
+    came = live_came end e.cause e.does;
+    own = live_own end e.cause;
+    away = λ over. away;
+    untaken = λ none. absurd none;
+    reads = tt;
+    reads_lines = reads;
+    syncs = syncs;
+    unnamed = tt;
+    nothing = λ some unsent quiet. absurd (quiet tt);
+    pictures = λ is command. cc;
+    holds = λ other. e.holds (λ is. other (ap (λ (end : End). code_of end) is));
+    crash = e.crash;
+    disk = e.goes_on;
+    complete = complete old new left left' before now faults end e.cause e.does;
+    drawn = λ command. cc;
+    ready = λ command. cc;
+  })

@@ -1,93 +1,103 @@
 -- The command `retain` ends as its own clauses say.
-use Rattle.std.proofs.Common.{ℕ, zero, suc, ◌<◌, List, Option, Some, None, IfSome, refl, sym, arith, inl, inr}
+use Rattle.std.proofs.Common.{ℕ, ◌<◌, List, Option, Some, None, IfSome, refl, ap, arith, inl, inr}
 use Rattle.std.specs.Prelude.{Contains}
 use Rattle.block_disk.specs.View.{View}
 use Rattle.gate_pages.specs.Journal.{page_count}
-use Rattle.stored_book.specs.Damage.{IsBadForRequest}
+use Rattle.run_ends.specs.Statuses.{code_of, place_of}
+use Rattle.run_ends.specs.declared.ending.End.{End}
+use Rattle.run_ends.specs.declared.ending.End.TheVariants.{Done, NoMemory, ReadFault, SendFault, DiskFault, DamagedBlock, DamagedPage}
+use Rattle.run_ends.specs.declared.ending.End.TheVariants.{BadInput, InputTooLong, TooSmall, NoSeries}
 use Rattle.store_commands.specs.Away.{IsTurnedAway}
-use Rattle.store_commands.specs.Damaged.{IsDamagedPlace}
-use Rattle.retain_command.specs.Retained.{FindsDamaged, RetainEnds, RetainsTaken}
+use Rattle.store_commands.specs.Books.{Holds, OfBook}
+use Rattle.store_commands.specs.Traffic.{Traffic}
+use Rattle.retain_command.specs.Retained.{IsRetainCause, RetainEnds, RetainsTaken}
+use Rattle.retain_command.specs.Sweeping.{EndsSo}
 use Rattle.retain_command.proofs.GoodLemmas.{bad_never, unknown_never}
 use Rattle.program_words.specs.declared.words.Command.TheVariants.{Retain}
-use Rattle.chart_program.specs.CommandStatuses.{IsBarred}
+use Rattle.chart_program.specs.CommandStatuses.{codes_of}
 use Rattle.chart_program.specs.Served.{Faults}
 use Rattle.chart_program.specs.Ran.{AreRetained, CommandEnds, of_done}
+use Rattle.chart_program.proofs.Codes.{told_both}
 use Rattle.chart_program.proofs.Counts.{told_any}
-use Rattle.chart_program.proofs.CommandCodes.{never, of_retain, retain_codes}
-use Rattle.chart_program.proofs.CommandsEnd.{small_never}
+use Rattle.chart_program.proofs.EndsByCode.{Came, by_code}
 
 -- with good input it is done, a stream fails, or there is no memory
-completed : (old new : View) (input : List ℕ) (left' before now : Option (List ℕ)) (faults : Faults) (code place : ℕ) → AreRetained old new input → RetainEnds old new (Some input) left' before now faults.reads faults.reads_now faults.sends faults.sends_now code place → Contains of_retain code → Contains of_done code
-completed old new input left' before now faults code place r e (zero, inside, is) = (0, omega arith, is)
-completed old new input left' before now faults code place r e (suc zero, inside, is) = (1, omega arith, is)
-completed old new input left' before now faults code place r e (suc (suc zero), inside, is) = (2, omega arith, is)
-completed old new input left' before now faults code place r e (suc (suc (suc zero)), inside, is) = (3, omega arith, is)
-completed old new input left' before now faults code place r e (suc (suc (suc (suc zero))), inside, is) = absurd (r.whole (e.fault (sym is)))
-completed old new input left' before now faults code place r e (suc (suc (suc (suc (suc zero)))), inside, is) = absurd (e.undamaged (sym is) r.total r.book r.holds)
-completed old new input left' before now faults code place r e (suc (suc (suc (suc (suc (suc zero))))), inside, is) = absurd (bad_never _ r.total r.book input before now place r.rules r.are (e.bad (sym is) r.total r.book r.holds))
-completed old new input left' before now faults code place r e (suc (suc (suc (suc (suc (suc (suc zero)))))), inside, is) = absurd (omega (arith, r.short, ((e.much (sym is)).1 r.total r.book r.holds).past))
-completed old new input left' before now faults code place r e (suc (suc (suc (suc (suc (suc (suc (suc zero))))))), inside, is) = absurd (small_never old r.total r.book r.holds (omega (arith, (e.small (sym is)).1)))
-completed old new input left' before now faults code place r e (suc (suc (suc (suc (suc (suc (suc (suc (suc zero)))))))), inside, is) = absurd (unknown_never _ r.total r.book input before now place r.rules r.are (e.unknown (sym is) r.total r.book r.holds))
-completed old new input left' before now faults code place r e (suc (suc (suc (suc (suc (suc (suc (suc (suc (suc k))))))))), inside, is) = absurd (omega (arith, inside))
+completed : (old new : View) (input : List ℕ) (left' before now : Option (List ℕ)) (t : Traffic) → AreRetained old new input → (end : End) → IsRetainCause end old new t → OfBook (page_count old.size) old (λ total book. EndsSo (Holds (page_count old.size) total new) total book input left' before now end)
+    → Contains of_done (code_of end)
+completed old new input left' before now t r Done cause does = (0, omega arith, refl)
+completed old new input left' before now t r NoMemory cause does = (1, omega arith, refl)
+completed old new input left' before now t r ReadFault cause does = (2, omega arith, refl)
+completed old new input left' before now t r SendFault cause does = (3, omega arith, refl)
+completed old new input left' before now t r DiskFault cause does = absurd (r.whole cause)
+completed old new input left' before now t r (DamagedBlock block) cause does = absurd (does r.total r.book r.holds)
+completed old new input left' before now t r (DamagedPage page) cause does = absurd (does r.total r.book r.holds)
+completed old new input left' before now t r (BadInput at) cause does = absurd (bad_never _ r.total r.book input before now at r.rules r.are (does r.total r.book r.holds))
+completed old new input left' before now t r InputTooLong cause does = absurd (omega (arith, r.short, (does r.total r.book r.holds).past))
+completed old new input left' before now t r (TooSmall blocks) cause does = absurd (does r.total r.book r.holds)
+completed old new input left' before now t r (NoSeries at) cause does = absurd (unknown_never _ r.total r.book input before now at r.rules r.are (does r.total r.book r.holds))
+completed old new input left' before now t r end cause does = absurd cause
 
-complete : (old new : View) (left left' before now : Option (List ℕ)) (faults : Faults) (code place : ℕ) → RetainEnds old new left left' before now faults.reads faults.reads_now faults.sends faults.sends_now code place → IfSome left (λ input. AreRetained old new input → Contains of_done code)
-complete old new None left' before now faults code place e = tt
-complete old new (Some input) left' before now faults code place e = λ good. completed old new input left' before now faults code place good e e.codes
+complete : (old new : View) (left left' before now : Option (List ℕ)) (t : Traffic) (end : End) → IsRetainCause end old new t → IfSome left (λ input. OfBook (page_count old.size) old (λ total book. EndsSo (Holds (page_count old.size) total new) total book input left' before now end))
+    → IfSome left (λ input. AreRetained old new input → Contains of_done (code_of end))
+complete old new None left' before now t end cause does = tt
+complete old new (Some input) left' before now t end cause does = λ good. completed old new input left' before now t good end cause does
 
 taken : (old new : View) (left left' before now : Option (List ℕ)) → IfSome left (λ input. RetainsTaken (page_count old.size) old new input left' before now) → IfSome left (λ input. IfSome left' (λ bytes. RetainsTaken (page_count old.size) old new input (Some bytes) before now))
 taken old new None left' before now all = tt
 taken old new (Some input) None before now all = tt
 taken old new (Some input) (Some bytes) before now all = all
 
-barred : (old new : View) (left left' before now : Option (List ℕ)) (place : ℕ) → FindsDamaged old new left left' before now place → IsBarred (page_count old.size) new left left' before now place
-barred old new left left' before now place (inl first) = inl (first.0.0, first.1)
-barred old new left left' before now place (inr later) = inr later
+module _ (old new : View) (left left' before now : Option (List ℕ)) (faults : Faults) where
+  abbrev passed : Traffic
+  passed = record { left = left; left_now = left'; sent = before; sent_now = now; reads = faults.reads; reads_now = faults.reads_now; sends = faults.sends; sends_now = faults.sends_now }
 
-found : (old new : View) (left left' before now : Option (List ℕ)) (place : ℕ) → FindsDamaged old new left left' before now place → IsDamagedPlace IsBadForRequest old new place
-found old new left left' before now place (inl first) = inl first.0
-found old new left left' before now place (inr later) = inr later
+  abbrev Sweeps : End → Type 0
+  Sweeps end = IfSome left (λ input. OfBook (page_count old.size) old (λ total book. EndsSo (Holds (page_count old.size) total new) total book input left' before now end))
 
-pub retain_ends : (old new : View) (left left' before now : Option (List ℕ)) (faults : Faults) (code place : ℕ) → RetainEnds old new left left' before now faults.reads faults.reads_now faults.sends faults.sends_now code place → (old.size < 128 → IsTurnedAway left left' before now code) → CommandEnds Retain old new left left' before now faults code place
-retain_ends old new left left' before now faults code place e away = record {
-  codes = retain_codes code e.codes;
-  own = e.codes;
-  away = λ over. away;
-  untaken = λ none. absurd none;
-  bars = λ is. barred old new left left' before now place (e.damaged is);
-  reads = tt;
-  reads_lines = told_any left;
-  syncs = told_any left;
-  unsent = λ is. absurd (never of_retain code 14 e.codes refl is);
-  read = e.read;
-  stopped = λ is. taken old new left left' before now (e.stopped is);
-  send = e.send;
-  bad = e.bad;
-  much = e.much;
-  missing = λ is. absurd (never of_retain code 10 e.codes refl is);
-  misfit = λ is. absurd (never of_retain code 11 e.codes refl is);
-  unopened = λ is. absurd (never of_retain code 15 e.codes refl is);
-  memory = e.memory;
-  within = e.within;
-  fault = e.fault;
-  faulted = e.faulted;
-  damaged = λ is. found old new left left' before now place (e.damaged is);
-  undamaged = e.undamaged;
-  small = e.small;
-  there = λ is. absurd (never of_retain code 13 e.codes refl is);
-  refused = λ is. absurd (never of_retain code 14 e.codes refl is);
-  unnamed = tt;
-  unknown = e.unknown;
-  refused_line = λ is. absurd (never of_retain code 16 e.codes refl is);
-  zero_place = e.zero_place;
-  done = e.done;
-  part = e.part;
-  nothing = λ some unsent quiet. absurd (quiet tt);
-  pictures = λ is command. cc;
-  holds = e.holds;
-  crash = e.crash;
-  disk = e.goes_on;
-  made = λ is. tt;
-  complete = complete old new left left' before now faults code place e;
-  drawn = λ command. cc;
-  ready = λ command. cc;
-}
+  retain_came : (end : End) → IsRetainCause end old new passed → Sweeps end → Came Retain old new left left' before now faults end
+  retain_came Done cause does = (cause, does, tt)
+  retain_came NoMemory cause does = does
+  retain_came ReadFault cause does = (cause, taken old new left left' before now does)
+  retain_came SendFault cause does = (cause, does)
+  retain_came DiskFault cause does = (cause, does)
+  retain_came (DamagedBlock block) cause does = (inl cause.0, does, inl (cause.0.0, cause.1))
+  retain_came (DamagedPage page) cause does = (inr cause, does, inr cause)
+  retain_came (BadInput at) cause does = does
+  retain_came InputTooLong cause does = told_both left _ _ refl does
+  retain_came (TooSmall blocks) cause does = cause
+  retain_came (NoSeries at) cause does = does
+  retain_came end cause does = absurd cause
+
+  retain_own : (end : End) → IsRetainCause end old new passed → Contains (codes_of Retain) (code_of end)
+  retain_own Done cause = (0, omega arith, refl)
+  retain_own NoMemory cause = (1, omega arith, refl)
+  retain_own ReadFault cause = (2, omega arith, refl)
+  retain_own SendFault cause = (3, omega arith, refl)
+  retain_own DiskFault cause = (4, omega arith, refl)
+  retain_own (DamagedBlock block) cause = (5, omega arith, refl)
+  retain_own (DamagedPage page) cause = (5, omega arith, refl)
+  retain_own (BadInput at) cause = (6, omega arith, refl)
+  retain_own InputTooLong cause = (7, omega arith, refl)
+  retain_own (TooSmall blocks) cause = (8, omega arith, refl)
+  retain_own (NoSeries at) cause = (9, omega arith, refl)
+  retain_own end cause = absurd cause
+
+  pub retain_ends : (end : End) → RetainEnds old new passed end → (old.size < 128 → IsTurnedAway left left' before now (code_of end)) → CommandEnds Retain old new left left' before now faults (code_of end) (place_of end)
+  retain_ends end e away = by_code Retain old new left left' before now faults end (record {
+    came = retain_came end e.cause e.does;
+    own = retain_own end e.cause;
+    away = λ over. away;
+    untaken = λ none. absurd none;
+    reads = tt;
+    reads_lines = told_any left;
+    syncs = told_any left;
+    unnamed = tt;
+    nothing = λ some unsent quiet. absurd (quiet tt);
+    pictures = λ is command. cc;
+    holds = λ other. e.holds (λ is. other (ap (λ (end : End). code_of end) is));
+    crash = e.crash;
+    disk = e.goes_on;
+    complete = complete old new left left' before now passed end e.cause e.does;
+    drawn = λ command. cc;
+    ready = λ command. cc;
+  })

@@ -4,8 +4,8 @@ use Rattle.block_disk.specs.View.{View}
 use Rattle.chart_grid.specs.Limits.{IsSide}
 use Rattle.program_words.specs.Words.{AreWordsOf, IsEvery}
 use Rattle.program_words.specs.declared.words.Command.{Command}
-use Rattle.program_words.specs.declared.words.Command.TheVariants.{Plot, Demo, Draw, Init, Check, ListSeries, Export, Derive}
-use Rattle.program_words.specs.declared.words.Command.TheVariants.{Cover}
+use Rattle.program_words.specs.declared.words.Command.TheVariants.{Plot, Demo, Draw, Init, Check, ListSeries, Export, Retain}
+use Rattle.program_words.specs.declared.words.Command.TheVariants.{Cover, Live, Derive}
 use Rattle.run_ends.specs.Statuses.{status_of}
 use Rattle.run_ends.specs.declared.ending.End.{End}
 use Rattle.run_ends.specs.declared.status.Status.{Status}
@@ -18,7 +18,9 @@ use Rattle.chart_program.specs.Draw.{OfDraw}
 use Rattle.chart_program.specs.Export.{OfExport}
 use Rattle.chart_program.specs.Init.{OfInit}
 use Rattle.chart_program.specs.ListSeries.{OfList}
+use Rattle.chart_program.specs.Live.{OfLive}
 use Rattle.chart_program.specs.Plot.{OfPlot}
+use Rattle.chart_program.specs.Retain.{OfRetain}
 
 -- the operands of a command are in their ranges
 abbrev pub HasOperands : Command → Type 0
@@ -45,7 +47,9 @@ Does Init c status = EndsSo status (OfInit c)
 Does Check c status = EndsSo status (OfCheck c)
 Does ListSeries c status = EndsSo status (OfList c)
 Does (Export name window) c status = EndsSo status (OfExport name window c)
+Does Retain c status = EndsSo status (OfRetain c)
 Does (Cover every) c status = EndsSo status (OfCover every c)
+Does Live c status = EndsSo status (OfLive c)
 Does Derive c status = EndsSo status (OfDerive c)
 Does command c status = ⊤
 

@@ -9,8 +9,9 @@ ghost use Rattle.draw_command.specs.Draws.{IsNumbered};
 ghost use Rattle.program_words.specs.Words.{IsEvery};
 ghost use Rattle.chart_program.specs.CommandStatuses.{drawing_end};
 ghost use Rattle.store_commands.specs.Away.{TurnsAway};
+ghost use Rattle.run_ends.specs.Faults.{end_fault};
 ghost use Rattle.run_ends.specs.Statuses.{status_of};
-ghost use Rattle.store_commands.specs.Status.{code_fault, end_fault};
+ghost use Rattle.store_commands.specs.Status.{code_fault};
 ghost use Rattle.store_commands.specs.Traffic.{traffic};
 ghost use Rattle.chart_program.specs.Commands.{Does, EndsSo, HasOperands};
 ghost use Rattle.chart_program.specs.Course.{course};
@@ -84,12 +85,18 @@ pub(crate) fn status_of_command<W: World>(
             let (end, world) = export_values(alloc, &name, window, world);
             (status_of(end), world)
         }
-        Command::Retain => retain(alloc, world),
+        Command::Retain => {
+            let (end, world) = retain(alloc, world);
+            (status_of(end), world)
+        }
         Command::Cover { every } => {
             let status = cover_status(alloc, every, &mut world);
             (status, world)
         }
-        Command::Live => live(alloc, world),
+        Command::Live => {
+            let (end, world) = live(alloc, world);
+            (status_of(end), world)
+        }
         Command::Derive => {
             let (end, world) = derive(alloc, world);
             (status_of(end), world)

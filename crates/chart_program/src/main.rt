@@ -8,8 +8,11 @@
 //! `main` opens the file that the first word names as a disk, which takes the file's lock, and gives
 //! `chart` the words after it and a world of this disk, standard input and standard output. `plot`,
 //! `draw` and `cover` never call the disk, so for them no file is opened.
-//! Nothing is claimed of `main` but that it is safe and ends.
+//! Nothing is claimed of `main` but that it is safe and ends; of `report` that the exit status is the status' code.
 #![tactic(auto)]
+
+ghost use Rattle.std.specs.Prelude.{◌≡◌};
+ghost use Rattle.std.specs.Process.{exit_status};
 
 mod commands;
 mod input;
@@ -58,8 +61,16 @@ fn main(rt: HostRuntime) -> ExitCode {
     report(&rt, status)
 }
 
-/// Whether the first word of a command names one that uses no store, so that no file has to be opened and locked for it.
+/// Whether a command uses no store, so that no file has to be opened and locked for it. Its name may stand behind `--`.
 fn uses_no_store(words: &[String]) -> bool {
+    match words {
+        [dashes, rest @ ..] if dashes.as_str() == "--" => names_no_store(rest),
+        _ => names_no_store(words),
+    }
+}
+
+/// Whether the first word names a command that uses no store.
+fn names_no_store(words: &[String]) -> bool {
     matches!(words, [word, ..] if word.as_str() == "plot" || word.as_str() == "draw" || word.as_str() == "cover")
 }
 
@@ -86,8 +97,10 @@ fn unread_words(error: io::Error) -> Status {
     Status { code, place: 0 }
 }
 
-/// Tells the status on standard error where it isn't 0, and makes it the program's own.
-fn report(rt: &impl Eprint, status: Status) -> ExitCode {
+/// Tells the status on standard error where it isn't 0. Its code is the program's own exit status.
+fn report(rt: &impl Eprint, status: Status) -> ExitCode
+    ensures code { exit_status result ≡ status.code }
+{
     let Status { code, place } = status;
     if code != codes::DONE {
         let _ = eprintln!(rt; "chart: status {code} at {place}");

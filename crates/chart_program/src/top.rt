@@ -2,7 +2,7 @@ ghost use Rattle.std.specs.Prelude.{◌≡◌, ◌≢◌, ◌⊎◌, ℕ, List, 
 ghost use Rattle.block_disk.specs.Counts.{HasRisen};
 ghost use Rattle.chart_world.specs.Faults.{CountsFault};
 ghost use Rattle.program_words.specs.CommandLine.{plain_words};
-ghost use Rattle.program_words.specs.declared.words.Command.TheVariants.{Check, Cover, Demo, Derive, Draw, Export, Init, ListSeries, Plot};
+ghost use Rattle.program_words.specs.declared.words.Command.TheVariants.{Check, Cover, Demo, Derive, Draw, Export, Init, ListSeries, Live, Plot, Retain};
 ghost use Rattle.program_words.specs.Words.{AreCommand, AreWordsOf, ByCommand, Spells, IsWrong};
 ghost use Rattle.store_commands.specs.Status.{code_fault};
 ghost use Rattle.series_export.specs.declared.window.Window.{Window};
@@ -16,7 +16,9 @@ ghost use Rattle.chart_program.specs.Export.{OfExport};
 ghost use Rattle.chart_program.specs.Init.{OfInit};
 ghost use Rattle.chart_program.specs.ListSeries.{OfList};
 ghost use Rattle.chart_program.specs.Plot.{OfPlot};
+ghost use Rattle.chart_program.specs.Retain.{OfRetain};
 ghost use Rattle.chart_program.specs.CommandStatuses.{all_codes, codes_of, TakesNone, BarsBy};
+ghost use Rattle.chart_program.specs.Live.{OfLive};
 ghost use Rattle.chart_program.specs.Lives.{IsLived};
 ghost use Rattle.chart_program.specs.Ran.{ForCommand, ForStreams, IsUnread, IsAwayFor, SendsAll, SendsPart, StopsWith, StopsAtDisk, IsBadInput, IsTooMuch, IsCutShort, IsInput, HasGoodInput, IsFree, IsWithin, LeavesDisk, LeavesTold, HoldsNow, IsDamaged, IsUndamaged, IsMade, IsTooSmall, IsThere, IsRefusedWith, IsUnknown, IsRefusedLine, TellsUnnamed, ReadsFew, ReadsByInput, SyncsByInput, Lacks, Misfits, NamesUnopened, DrawsReplies, IsOfReplies, IsCoverOfReplies, CoversBook, BeginStream};
 
@@ -121,7 +123,9 @@ pub fn chart<W: World>(alloc: Global, words: &[String], world: W) -> (Status, W)
     ensures check { ByPage words.now W.view W.left W.sent world result.1 result.0 Check OfCheck }
     ensures list { ByPage words.now W.view W.left W.sent world result.1 result.0 ListSeries OfList }
     ensures export { (name : List ℕ) (window : Option Window) → ByPage words.now W.view W.left W.sent world result.1 result.0 (Export name window) (OfExport name window) }
+    ensures retain { ByPage words.now W.view W.left W.sent world result.1 result.0 Retain OfRetain }
     ensures cover { (every : ℕ) → ByPage words.now W.view W.left W.sent world result.1 result.0 (Cover every) (OfCover every) }
+    ensures live { ByPage words.now W.view W.left W.sent world result.1 result.0 Live OfLive }
     ensures derive { ByPage words.now W.view W.left W.sent world result.1 result.0 Derive OfDerive }
 {
     one_frame_a_spelling();

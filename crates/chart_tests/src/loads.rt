@@ -40,3 +40,26 @@ fn an_input_fails_in_mid_stream(rt: HostRuntime) -> Result<(), Fail> {
     assert!(rt; is_loaded(alloc, 3, 0, b"loaded 3000\nseries 1\nvalues 3000\n")?);
     Ok(())
 }
+
+/// How often the disk is synced by a load of these rows, beside the opening of its store.
+fn syncs_of(alloc: Global, input: &[u8]) -> Result<u64, Fail> {
+    let disk = behind(alloc, CREATED)?;
+    let world = world_of(alloc, disk, input, &[])?;
+    let (status, world) = load_series(alloc, &Name::new(alloc, b"a")?, world);
+    if status.code != 0 {
+        return Err(Fail::new("not loaded"));
+    }
+    let loaded = world.into_disk().syncs();
+    let world = world_of(alloc, behind(alloc, CREATED)?, &[], &[])?;
+    let (_, world) = load_series(alloc, &Name::new(alloc, b"a")?, world);
+    Ok(loaded.saturating_sub(world.into_disk().syncs()))
+}
+
+/// The twelve runs are stored in three commits, one for each take and one for the run that stands open at the end, with
+/// four syncs each.
+#[test]
+fn runs_are_stored_by_groups(rt: HostRuntime) -> Result<(), Fail> {
+    let alloc = rt.alloc();
+    assert_eq!(rt; syncs_of(alloc, rows(alloc)?.as_slice())?, 12);
+    Ok(())
+}

@@ -1,5 +1,5 @@
 -- How lines end over the store of a disk, in the words of the disk.
-use Rattle.std.proofs.Common.{◌≡◌, ◌≢◌, ◌∙◌, ℕ, ◌+◌, ◌≤◌, ◌^◌, Bool, List, length, Option, Some, None, IfSome, inl, inr, refl, sym, subst, arith}
+use Rattle.std.proofs.Common.{◌≡◌, ◌≢◌, ◌∙◌, ℕ, ◌+◌, ◌≤◌, ◌^◌, Bool, List, length, Option, Some, None, IfSome, refl, sym, subst, arith}
 use Rattle.block_disk.proofs.Passing.{passes_weaker}
 use Rattle.block_disk.specs.SentLaws.{sent_none}
 use Rattle.block_disk.specs.View.{Image, View, Honest, Now, Passes, sent_now}
@@ -7,7 +7,7 @@ use Rattle.chart_service.specs.MomentLaws.{since_both, since_none}
 use Rattle.chart_service.specs.Moments.{Since}
 use Rattle.chart_service.proofs.DiskKept.{risen_since}
 use Rattle.disk_store.specs.Held.{HoldsBook}
-use Rattle.disk_store.specs.Openings.{IsOutside, Opens}
+use Rattle.disk_store.specs.Openings.{Opens}
 use Rattle.disk_store.specs.declared.causes.OpeningCause.{OpeningCause}
 use Rattle.disk_store.specs.declared.causes.OpeningCause.TheVariants as opening
 use Rattle.gate_pages.specs.GateLaws.{goes_then}
@@ -27,7 +27,7 @@ use Rattle.store_commands.proofs.InputLemmas.{any_told}
 use Rattle.store_commands.proofs.Moments.{on_at, opened_goes, opened_since, since_on}
 use Rattle.store_commands.proofs.WorldLemmas.{IsUnopened}
 use Rattle.store_commands.specs.Books.{LeavesSame, OfBook}
-use Rattle.store_commands.specs.Codes.{unopened}
+use Rattle.store_commands.specs.Codes.{too_small, unopened}
 use Rattle.store_commands.specs.Damaged.{IsDamagedLater}
 use Rattle.store_commands.specs.Sides.{Side}
 use Rattle.store_commands.specs.Status.{opening_end}
@@ -94,15 +94,7 @@ module _ (count count' : ℕ) (sound sound' : Bool) (first old new : View) (tota
     goes_on = goes_then first old new (opened_goes first old opens) goes.goes_on;
   }
 
--- what passed through the streams of a world that begins as another one
-pub traffic_from : (t : Traffic) (left sent : Option (List ℕ)) (reads sends : ℕ) → t.left ≡ left → t.sent ≡ sent → t.reads ≡ reads → t.sends ≡ sends → t ≡ record t { left = left; sent = sent; reads = reads; sends = sends }
-traffic_from t left sent reads sends l s r f = λ i. record { left = l i; left_now = t.left_now; sent = s i; sent_now = t.sent_now; reads = r i; reads_now = t.reads_now; sends = f i; sends_now = t.sends_now }
-
 -- ---- no store was opened
-
-too_small : (size : ℕ) → IsOutside (opening.TooSmall size) → ⊥
-too_small size (inl same) = cc
-too_small size (inr same) = cc
 
 module _ (old new : View) (t : Traffic) where
   unopened_cause : (cause : OpeningCause) → IsUnopened old new t.left t.left_now t.sent t.sent_now cause → IsDeriveCause (opening_end cause) old new t

@@ -13,6 +13,7 @@ use Rattle.pbm_writer.specs.Picture.{picture}
 use Rattle.plain_chart.specs.declared.value_range.ValueRange.{ValueRange}
 use Rattle.retention.specs.Moving.{Looks}
 use Rattle.run_ends.specs.declared.ending.End.{End}
+use Rattle.run_ends.specs.Faults.{end_fault}
 use Rattle.run_ends.specs.declared.ending.End.TheVariants.{NoMemory, SendFault, DiskFault, BadInput, RefusedLine}
 use Rattle.series_book.specs.declared.one_series.Series.{Series}
 use Rattle.series_catalog.specs.declared.catalog.Catalog.{Catalog}
@@ -21,7 +22,6 @@ use Rattle.series_pair.specs.declared.sum_error.SumError.{SumError}
 use Rattle.series_pair.specs.declared.sum_error.SumError.TheVariants as sum
 use Rattle.chart_world.specs.Faults.{CountsFault}
 use Rattle.store_commands.specs.Sides.{Side, AreBeside}
-use Rattle.store_commands.specs.Status.{end_fault}
 use Rattle.derive_command.specs.Answers.{AreOnOneGrid, HasLarge, IsAnswer, IsRefused}
 use Rattle.derive_command.specs.Doing.{DoesLine, DoesRequest, Goes, IsAsked, IsCause, LineStops, RequestStops, TextStops, end_at, refused_at}
 use Rattle.derive_command.specs.Requests.{Spells, SaysNone}

@@ -1,17 +1,16 @@
 -- What lines of `derive` sent, by what a run of lines says.
-use Rattle.std.proofs.Common.{◌≡◌, ◌≢◌, ◌∙◌, ℕ, ◌+◌, ◌≤◌, ◌^◌, Bool, cond, List, [], ◌∷◌, ◌++◌, length, map, Option, Some, None, Result, Ok, Err, IfSome, refl, ap, sym, subst, inl, inr}
+use Rattle.std.proofs.Common.{◌≡◌, ◌∙◌, ℕ, ◌+◌, Bool, cond, List, [], ◌∷◌, ◌++◌, length, map, Option, Some, None, Result, Ok, Err, IfSome, refl, ap, sym, subst, inl, inr}
 use Rattle.std.specs.List.{filter}
 use Rattle.std.specs.Prelude.{IfErr, OnOk}
 use Rattle.std.proofs.lemmas.List.{append-nil}
-use Rattle.block_disk.specs.Counts.{HasRisen}
 use Rattle.block_disk.specs.SentLaws.{sent_none}
 use Rattle.block_disk.specs.Streams.{sent_after}
-use Rattle.chart_world.specs.Faults.{CountsFault, OfTake, fault_in}
 use Rattle.chart_world.specs.Fronts.{says}
 use Rattle.chart_world.specs.Lines.{lines, split_lines, text_of}
 use Rattle.chart_world.specs.declared.line_answer.LineFault.TheVariants as fault
 use Rattle.line_runs.specs.Carried.{Carries, Done}
 use Rattle.line_runs.specs.CarriedLaws.{carries_both, carries_unpaused}
+use Rattle.line_runs.specs.Ends.{run_end}
 use Rattle.line_runs.specs.Given as given
 use Rattle.line_runs.specs.Given.{AreFirst, Given, IsNext, NextLine, given_from, given_lines, unpaused}
 use Rattle.line_runs.specs.Runs as runs
@@ -20,11 +19,9 @@ use Rattle.line_runs.specs.declared.lines_stop.LinesStop.TheVariants as stop
 use Rattle.run_ends.specs.declared.ending.End.{End}
 use Rattle.run_ends.specs.declared.ending.End.TheVariants as ends
 use Rattle.series_book.specs.declared.one_series.Series.{Series}
-use Rattle.store_commands.specs.Sides.{Side, AreBeside}
-use Rattle.store_commands.specs.Status.{end_fault}
-use Rattle.derive_command.specs.Doing.{IsCause, IsSaid, LineStops}
+use Rattle.derive_command.specs.Doing.{IsSaid, LineStops}
 use Rattle.derive_command.specs.Lines.{AreAnswers, DrawsAll, EndsSo, FirstLines}
-use Rattle.derive_command.specs.Working.{LineDoes, LineStopsSo, end_of}
+use Rattle.derive_command.specs.Working.{LineDoes, LineStopsSo}
 use Rattle.derive_command.proofs.LineLemmas.{no_lines, says_true}
 
 -- the text is the answers to lines that were done, and the book stays
@@ -132,7 +129,7 @@ module _ (book : List Series) (input : List ℕ) where
   ends_so : {T : Type 0} (IsNow : List Series → Type 0) (left before now : Option (List ℕ)) (pieces pieces' : ℕ) (answer : Result T (LinesStop End))
       → OnOk answer (runs.Runs LineDoes book (runs.AreAll pieces pieces') IsNow (Some input) before now)
       → IfErr answer (runs.StopsSo LineDoes (λ b it end was. LineStopsSo b it was now end) IsNow book (Some input) left before now pieces pieces')
-      → EndsSo book input left before now (end_of answer)
+      → EndsSo book input left before now (run_end answer)
   ends_so {T} IsNow left before now pieces pieces' (Ok v) all is = all_so IsNow before now pieces pieces' all
   ends_so {T} IsNow left before now pieces pieces' (Err (stop.Fault fault.ReadFault)) all is = record {
     drawn = record { first = firsts is.done is.are.first; sent = is.sent };
@@ -152,7 +149,7 @@ module _ (book : List Series) (input : List ℕ) where
 pub ends_told : {T : Type 0} (book : List Series) (IsNow : List Series → Type 0) (input left before now : Option (List ℕ)) (pieces pieces' : ℕ) (answer : Result T (LinesStop End))
     → OnOk answer (runs.Runs LineDoes book (runs.AreAll pieces pieces') IsNow input before now)
     → IfErr answer (runs.StopsSo LineDoes (λ b it end was. LineStopsSo b it was now end) IsNow book input left before now pieces pieces')
-    → IfSome input (λ bytes. EndsSo book bytes left before now (end_of answer))
+    → IfSome input (λ bytes. EndsSo book bytes left before now (run_end answer))
 ends_told {T} book IsNow None left before now pieces pieces' answer all is = tt
 ends_told {T} book IsNow (Some bytes) left before now pieces pieces' answer all is = ends_so book bytes IsNow left before now pieces pieces' answer all is
 
@@ -160,36 +157,3 @@ ends_told {T} book IsNow (Some bytes) left before now pieces pieces' answer all 
 pub none_told : (book : List Series) (input left before : Option (List ℕ)) → IfSome input (λ bytes. EndsSo book bytes left before before ends.NoMemory)
 none_told book None left before = tt
 none_told book (Some bytes) left before = record { first = no_lines book bytes; sent = sent_none before }
-
--- ---- whatever the pages are
-
--- the fault that an end tells of is that of the loop
-pub end_faults : {T : Type 0} (answer : Result T (LinesStop End)) → end_fault (end_of answer) ≡ fault_in (runs.fault_of end_fault) answer
-end_faults {T} (Ok v) = refl
-end_faults {T} (Err (stop.Fault fault.ReadFault)) = refl
-end_faults {T} (Err (stop.Fault fault.InputTooLong)) = refl
-end_faults {T} (Err (stop.Work end)) = refl
-
-take_risen : (old new : Side) → AreBeside old.view old.read_faults old.send_faults → AreBeside new.view new.read_faults new.send_faults → CountsFault (Some OfTake) old.view new.view → HasRisen old.read_faults new.read_faults
-take_risen old new was are (disk, risen, send) =
-    let P : ℕ → Type 0 = λ n. HasRisen n new.read_faults in
-    let Q : ℕ → Type 0 = λ n. HasRisen old.view.beside.read_faults n in
-    subst P was.reads_are (subst Q are.reads_are risen)
-
-pub ends_cause : {T S : Type 0} (side : S → Side) (old new : S) (answer : Result T (LinesStop End)) → AreBeside (side old).view (side old).read_faults (side old).send_faults → AreBeside (side new).view (side new).read_faults (side new).send_faults
-    → CountsFault (fault_in (runs.fault_of end_fault) answer) (side old).view (side new).view → IfErr answer (runs.cause_of (λ end s s'. IsCause end (side s) (side s')) old new) → end_of answer ≢ ends.Done
-    → IsCause (end_of answer) (side old) (side new)
-ends_cause {T} {S} side old new (Ok v) was are counts cause other = absurd (other refl)
-ends_cause {T} {S} side old new (Err (stop.Fault fault.ReadFault)) was are counts cause other = take_risen (side old) (side new) was are counts
-ends_cause {T} {S} side old new (Err (stop.Fault fault.InputTooLong)) was are counts cause other = tt
-ends_cause {T} {S} side old new (Err (stop.Work end)) was are counts cause other = cause
-
--- an end that is done told that all lines were
-pub ends_within : {T S : Type 0} (side : S → Side) (old new : S) (input : Option (List ℕ)) (answer : Result T (LinesStop End)) → OnOk answer (IfSome input (λ bytes. length bytes ≤ 2 ^ 32)) → IfErr answer (runs.cause_of (λ end s s'. IsCause end (side s) (side s')) old new)
-    → end_of answer ≡ ends.Done → IfSome input (λ bytes. length bytes ≤ 2 ^ 32)
-ends_within {T} {S} side old new input (Ok v) within cause is = within
-ends_within {T} {S} side old new input (Err (stop.Fault fault.ReadFault)) within cause is = cc
-ends_within {T} {S} side old new input (Err (stop.Fault fault.InputTooLong)) within cause is = cc
-ends_within {T} {S} side old new input (Err (stop.Work end)) within cause is =
-    let C : End → Type 0 = λ e. IsCause e (side old) (side new) in
-    absurd (subst C is cause)

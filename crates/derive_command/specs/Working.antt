@@ -1,12 +1,8 @@
 -- What a line of `derive` sends, and why it stops the run.
-use Rattle.std.specs.Prelude.{◌≡◌, ℕ, List, [], Option, Result, Ok, Err}
+use Rattle.std.specs.Prelude.{◌≡◌, ℕ, List, [], Option}
 use Rattle.block_disk.specs.View.{Image}
-use Rattle.chart_world.specs.declared.line_answer.LineFault.TheVariants as fault
 use Rattle.line_runs.specs.Given as given
-use Rattle.line_runs.specs.declared.lines_stop.LinesStop.{LinesStop}
-use Rattle.line_runs.specs.declared.lines_stop.LinesStop.TheVariants as stop
 use Rattle.run_ends.specs.declared.ending.End.{End}
-use Rattle.run_ends.specs.declared.ending.End.TheVariants.{Done, ReadFault, InputTooLong}
 use Rattle.series_book.specs.declared.one_series.Series.{Series}
 use Rattle.stored_book.specs.Standing.{StandsForBook}
 use Rattle.derive_command.specs.Doing.{IsSaid, LineStops}
@@ -26,10 +22,3 @@ abbrev pub LineStopsSo : List Series → given.Given → Option (List ℕ) → O
 LineStopsSo book (given.Line at line) before now end = LineStops book line at before now end
 LineStopsSo book given.Pause before now end = ⊥
 LineStopsSo book given.End before now end = ⊥
-
--- how a run ended by what the loop over its lines answers
-abbrev pub end_of : {T : Type 0} → Result T (LinesStop End) → End
-end_of {T} (Ok done) = Done
-end_of {T} (Err (stop.Fault fault.ReadFault)) = ReadFault
-end_of {T} (Err (stop.Fault fault.InputTooLong)) = InputTooLong
-end_of {T} (Err (stop.Work end)) = end

@@ -4,9 +4,9 @@ ghost use Rattle.block_disk.specs.Counts.{HasRisen};
 ghost use Rattle.block_disk.specs.Streams.{sent_after};
 ghost use Rattle.chart_world.specs.Faults.{CountsFault, fault_in};
 ghost use Rattle.pbm_writer.specs.Picture.{picture};
+ghost use Rattle.run_ends.specs.Faults.{end_fault};
 ghost use Rattle.series_store.specs.Shown as shown;
 ghost use Rattle.store_commands.specs.Sides.{side_of};
-ghost use Rattle.store_commands.specs.Status.{end_fault};
 ghost use Rattle.derive_command.specs.Doing.{DoesLine, DoesRequest, Goes, IsCause, TextStops, end_at, refused_at};
 ghost use Rattle.derive_command.specs.Requests.{IsFactor};
 

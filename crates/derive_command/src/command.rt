@@ -1,8 +1,8 @@
 //! The command `derive`: a picture for each line of the input, drawn of the store of a disk.
 ghost use Rattle.chart_world.specs.Faults.{CountsFault};
+ghost use Rattle.run_ends.specs.Faults.{end_fault};
 ghost use Rattle.run_ends.specs.Statuses.{status_of};
 ghost use Rattle.store_commands.specs.Away.{TurnsAway};
-ghost use Rattle.store_commands.specs.Status.{end_fault};
 ghost use Rattle.store_commands.specs.Traffic.{traffic};
 ghost use Rattle.derive_command.specs.Derived.{DeriveEnds};
 

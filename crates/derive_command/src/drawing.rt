@@ -1,32 +1,19 @@
 //! The lines of a store's streams are answered.
 ghost use Rattle.std.specs.Prelude.{◌≡◌, ◌≢◌, ◌≤◌, ◌^◌, length, IfSome};
 ghost use Rattle.chart_world.specs.Faults.{CountsFault};
+ghost use Rattle.run_ends.specs.Faults.{end_fault};
 ghost use Rattle.series_store.specs.Shown as shown;
 ghost use Rattle.store_commands.specs.Sides.{side_of};
-ghost use Rattle.store_commands.specs.Status.{end_fault};
 ghost use Rattle.derive_command.specs.Doing.{Goes, IsCause};
 ghost use Rattle.derive_command.specs.Shown.{EndsOn};
-ghost use Rattle.derive_command.specs.Working.{end_of};
 
 use crate::request_work::RequestWork;
-use chart_world::{LineFault, Lines};
+use chart_world::Lines;
 use gate_pages::PageWorld;
-use line_runs::{LinesStop, run_lines};
+use line_runs::{run_end, run_lines};
 use run_ends::End;
 use series_store::Store;
 use std::alloc::Global;
-
-/// How a run ended by what the loop over its lines answers.
-fn end_of(answer: Result<(), LinesStop<End>>) -> End
-    ensures { result ≡ end_of answer }
-{
-    match answer {
-        Ok(()) => End::Done,
-        Err(LinesStop::Fault(LineFault::ReadFault)) => End::ReadFault,
-        Err(LinesStop::Fault(LineFault::InputTooLong)) => End::InputTooLong,
-        Err(LinesStop::Work(end)) => end,
-    }
-}
 
 /// Sends the picture that each line of the input asks for, in order; empty lines are passed over. After `Done` the input
 /// was read to its end. Nothing is written to the pages of the store.
@@ -44,5 +31,5 @@ pub fn draw_lines<P: PageWorld>(alloc: Global, store: &mut Store<P>) -> End
     };
     let mut work = RequestWork { alloc };
     let answer = run_lines(&mut work, store, &mut lines);
-    end_of(answer)
+    run_end(answer)
 }

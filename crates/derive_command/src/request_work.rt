@@ -1,9 +1,9 @@
 //! The work of `derive`: each line is a request.
 ghost use Rattle.std.specs.Prelude.{List, ⊤};
+ghost use Rattle.run_ends.specs.Faults.{end_fault};
 ghost use Rattle.series_book.specs.declared.one_series.Series.{Series};
 ghost use Rattle.series_store.specs.Shown as shown;
 ghost use Rattle.store_commands.specs.Sides.{side_of};
-ghost use Rattle.store_commands.specs.Status.{end_fault};
 ghost use Rattle.derive_command.specs.Doing.{Goes, IsCause};
 ghost use Rattle.derive_command.specs.WorkLaws.{besides, cause_later, goes_further, goes_nowhere, goes_takes, no_less, same_total, stand_kept};
 ghost use Rattle.derive_command.specs.Working.{LineDoes, LineStopsSo, StandFor};

@@ -31,9 +31,10 @@ use Rattle.chart_service.specs.Replies.{RepliesToLine}
 use Rattle.chart_client.specs.declared.holding.Holding.{Holding}
 use Rattle.chart_client.specs.declared.errors.ClientError.TheVariants.{Missing, BadCoefficient, UnknownSession, NoMemory}
 use Rattle.chart_client.specs.Holdings.{holding_of, opened as client_opened, without as client_without, with_cache, axis_of as client_axis, told_by, seen_by}
-use Rattle.chart_client.specs.Agreeing.{IsGridOf}
+use Rattle.chart_client.specs.Agreeing.{IsGridOf, Agrees}
 use Rattle.chart_client.specs.Failing.{IsFirstFailing}
 use Rattle.chart_client.specs.Accepting.{AcceptsView, AcceptsRows, DrawsView, viewed as client_viewed, FailsView, session_in}
+use Rattle.drawn_replies.specs.Laws.{AgreesWithBook}
 use Rattle.drawn_replies.specs.Mirrors.{mirrored, Mirrors, ShowsAnswered, IsPictureOf, DrawsTheBook, OnlyLacksMemory}
 use Rattle.view_keys.proofs.Grids.{grid_same}
 use Rattle.drawn_replies.proofs.Holders.{mirror, held, closed, there, opened-same, viewed-same, unviewed-same, last-viewed}
@@ -325,3 +326,46 @@ pub follows : (laws : Laws) (line : Option (List ℕ)) (frame : Frame) (old new 
     → RepliesToLine line frame old new → Mirrors old.sessions h
     → DrawsTheBook frame old new h × OnlyLacksMemory frame h
 follows laws line frame old new h sound replied m = follows-step laws frame old new h sound (step-of line frame old new replied) m
+
+-- the series of an answered view agrees with what the client of its session holds
+agrees-at : (v : View) (session : Session) (old : State) (h : List Holding) (holding : Holding) (grid : Grid) (series : Series)
+    → session_of v.number old.sessions ≡ Some session → session.cache ≡ v.cache → slice_get old.book v.spec.series ≡ Some v.series → Mirrors old.sessions h
+    → holding_of v.number h ≡ Some holding → IsGridOf (frame_of v) grid → slice_get old.book v.spec.series ≡ Some series
+    → Agrees (frame_of v) holding.cache grid series.slots
+agrees-at v session old h holding grid series found cached stored m open_is is there =
+    let c : v.cache ≡ holding.cache = sym (cache-same v.number session old h holding found m open_is ∙ cached) in
+    let g : v.spec.grid ≡ grid = sym (grid-is v grid is) in
+    let s : v.series ≡ series = some-series (sym stored ∙ there) in
+    subst (λ (x : Series). Agrees (frame_of v) holding.cache grid x.slots) s
+    (subst (λ (x : Grid). Agrees (frame_of v) holding.cache x v.series.slots) g
+    (subst (λ (x : Cache). Agrees (frame_of v) x v.spec.grid v.series.slots) c (agrees v)))
+
+view-agrees : (laws : Laws) (frame : Frame) (view : ViewFrame) (old new : State) (h : List Holding) → IsBook old.book → ViewStep frame old new
+    → frame ≡ ViewFrameOf view → Mirrors old.sessions h → AgreesWithBook view old h
+view-agrees laws frame view old new h good s is m =
+    let v = view-of laws frame old new good s in
+    let P : ViewFrame → Type 0 = λ f. AgreesWithBook f old h in
+    subst P (view-same (sym s.answers.frame_is ∙ is))
+    (λ holding grid series open_is grid_is there. agrees-at v s.answers.session old h holding grid series s.answers.open_is refl s.stored m open_is grid_is there)
+
+quiet-agrees : (frame : Frame) (view : ViewFrame) (old : State) (h : List Holding) → IsQuiet frame → frame ≡ ViewFrameOf view → AgreesWithBook view old h
+quiet-agrees frame view old h (inl q) is = absurd (refused-no-view (sym q.3 ∙ is))
+quiet-agrees frame view old h (inr q) is = absurd (done-no-view (sym q.1 ∙ is))
+
+-- the series of a view that is the frame of a step
+pub step-agrees : (laws : Laws) (frame : Frame) (view : ViewFrame) (old new : State) (h : List Holding) → IsSound old → Step frame old new
+    → frame ≡ ViewFrameOf view → Mirrors old.sessions h → AgreesWithBook view old h
+step-agrees laws frame view old new h sound step is m =
+    elim step [
+      | inl quiet ↦ quiet-agrees frame view old h quiet.quiet is
+      | inr later ↦ elim later [
+        | inl opening ↦ absurd (opened-no-view (sym opening.is ∙ is))
+        | inr more ↦ elim more [
+          | inl closing ↦ absurd (closed-no-view (sym closing.is ∙ is))
+          | inr last ↦ elim last [
+            | inl s ↦ view-agrees laws frame view old new h sound.book s is m
+            | inr rows ↦ absurd (rows-no-view (sym rows.answers.frame_is ∙ is))
+          ]
+        ]
+      ]
+    ]

@@ -1,10 +1,16 @@
 -- The laws of what a client draws of replies.
-use Rattle.std.specs.Prelude.{ℕ, ◌≡◌, List, [], Option}
+use Rattle.std.specs.Prelude.{ℕ, ◌≡◌, List, [], Option, Some, slice_get}
 use Rattle.std.specs.List.{filter}
 use Rattle.line_raster.specs.Canvas.{Canvas}
 use Rattle.chart_client.specs.declared.holding.Holding.{Holding}
+use Rattle.chart_client.specs.Agreeing.{IsGridOf, Agrees}
+use Rattle.chart_client.specs.Holdings.{holding_of}
+use Rattle.chart_grid.specs.declared.grid.Grid.{Grid}
+use Rattle.series_book.specs.declared.one_series.Series.{Series}
 use Rattle.request_lines.specs.declared.requests.Request.{Request}
 use Rattle.chart_frames.specs.declared.frame.Frame.{Frame}
+use Rattle.chart_frames.specs.declared.frame.Frame.TheVariants.{View}
+use Rattle.chart_frames.specs.declared.frame.ViewFrame.{ViewFrame}
 use Rattle.chart_service.specs.State.{State, IsSound}
 use Rattle.chart_service.specs.Replies.{Replies, RepliesToLine}
 use Rattle.chart_service.specs.Serving.{RepliesToAll}
@@ -35,6 +41,24 @@ abbrev pub RequestsAreAccepted : Type 0
 RequestsAreAccepted =
     (request : Request) (frame : Frame) (old new : State) (holdings : List Holding)
     → IsSound old → Replies request frame old new → Mirrors old.sessions holdings → OnlyLacksMemory frame holdings
+
+-- The series of a view, as it is in the book, agrees with the view's frame and with what a client holds of its session.
+abbrev pub AgreesWithBook : ViewFrame → State → List Holding → Type 0
+AgreesWithBook view old holdings =
+    (holding : Holding) (grid : Grid) (series : Series) → holding_of view.session holdings ≡ Some holding → IsGridOf view grid
+    → slice_get old.book view.series ≡ Some series → Agrees view holding.cache grid series.slots
+
+-- That is so of each view that answers a line, for a client that holds what the sessions hold.
+abbrev pub LineViewsAgree : Type 0
+LineViewsAgree =
+    (line : Option (List ℕ)) (view : ViewFrame) (old new : State) (holdings : List Holding)
+    → IsSound old → RepliesToLine line (View view) old new → Mirrors old.sessions holdings → AgreesWithBook view old holdings
+
+-- The same of each view that answers a request.
+abbrev pub RequestViewsAgree : Type 0
+RequestViewsAgree =
+    (request : Request) (view : ViewFrame) (old new : State) (holdings : List Holding)
+    → IsSound old → Replies request (View view) old new → Mirrors old.sessions holdings → AgreesWithBook view old holdings
 
 -- The drawings of all replies to lines are the pictures of the book, each as it is at its line.
 abbrev pub RepliesDrawTheBook : Type 0

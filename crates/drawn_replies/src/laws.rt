@@ -6,7 +6,7 @@ ghost use Rattle.chart_service.specs.State.{State, IsSound};
 ghost use Rattle.chart_service.specs.Serving.{RepliesToAll};
 ghost use Rattle.chart_service.specs.Naming.{NameOpened};
 ghost use Rattle.drawn_replies.specs.Pictures.{NoneRejected};
-ghost use Rattle.drawn_replies.specs.Laws.{LinesAreDrawn, LinesAreAccepted, RequestsAreDrawn, RequestsAreAccepted, RepliesDrawTheBook, OwnRepliesDrawTheBook, OwnRepliesAreAccepted};
+ghost use Rattle.drawn_replies.specs.Laws.{LinesAreDrawn, LinesAreAccepted, RequestsAreDrawn, RequestsAreAccepted, LineViewsAgree, RequestViewsAgree, RepliesDrawTheBook, OwnRepliesDrawTheBook, OwnRepliesAreAccepted};
 
 use chart_service::laws::frames_name_opened_sessions;
 use coefficient_cache::laws::sent_and_held_give_the_needed;
@@ -89,4 +89,17 @@ pub fn replies_name_opened_sessions()
         IsSound old → old.sessions ≡ [] → RepliesToAll old lines frames new → NameOpened frames }
 {
     frames_name_opened_sessions();
+}
+
+/// The series of a view that answers a line or a request, as it is in the book, agrees with the view's frame and with what such
+/// a client holds. So what is so of each series that agrees with them, as that covers hold the picture, is so of the book's.
+pub fn views_agree()
+    ensures lines { LineViewsAgree }
+    ensures requests { RequestViewsAgree }
+{
+    wanted_keys_are_needed();
+    sent_and_held_give_the_needed();
+    spans_add_up();
+    points_are_the_samples();
+    split_and_join_undo_each_other();
 }

@@ -1,5 +1,5 @@
 -- What the calls of pages do, by what the calls of their disk do.
-use Rattle.std.proofs.Common.{◌≡◌, ℕ, ◌+◌, ◌*◌, ◌≤◌, ◌^◌, Bool, List, length, refl, sym, ap, arith, ◌∙◌}
+use Rattle.std.proofs.Common.{◌≡◌, ℕ, ◌+◌, ◌*◌, ◌≤◌, ◌<◌, ◌^◌, Bool, List, length, refl, sym, ap, arith, ◌∙◌}
 use Rattle.block_disk.specs.View.{Image, View, Now, Honest, Passes, Moves, Nowhere}
 use Rattle.block_disk.proofs.Passing.{passes_none, passes_weaker}
 use Rattle.gate_pages.specs.Batch.{Entry, put_all, numbers, AllBelow}
@@ -55,7 +55,7 @@ committed count batch old new closed closed' honest honest' lies =
     closed_pages count new.image (closed'.gate honest') ∙ lies
     ∙ ap (λ (i : Image). put_all batch i) (sym (closed_pages count old.image (closed.gate honest)))
 
-pub lies_within : (count size : ℕ) (batch : List Entry) → count + 66 ≤ 2 ^ 20 → count + 66 ≤ size → AllBelow count batch → LiesWithin size (numbers batch)
+pub lies_within : (count size : ℕ) (batch : List Entry) → count + 66 < 2 ^ 32 → count + 66 ≤ size → AllBelow count batch → LiesWithin size (numbers batch)
 lies_within count size batch most within below n is =
     let less = below_from_all count (numbers batch) n (numbers_below count batch below) is in
     omega (arith, less, most, within)

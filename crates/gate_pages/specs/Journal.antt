@@ -6,9 +6,13 @@ use Rattle.std.proofs.Math.Dec.{eqb}
 use Rattle.block_disk.specs.View.{Image}
 use Rattle.gate_pages.specs.Batch.{Entry, put_all, is_distinct, all_below}
 
+-- the most blocks of a disk that are used
+abbrev pub most_blocks : ℕ
+most_blocks = 2 ^ 32 - 1
+
 -- how many pages a disk of so many blocks has
 abbrev pub page_count : ℕ → ℕ
-page_count size = min size (2 ^ 20) - 66
+page_count size = min size most_blocks - 66
 
 -- the gate is open exactly where the first byte of block 0 is 1
 abbrev pub is_open : List ℕ → Bool

@@ -1,8 +1,8 @@
 -- The steps of a commit and of a recovery.
-use Rattle.std.specs.Prelude.{ℕ, ◌+◌, ◌-◌, ◌≡◌, ◌≤◌, ◌<◌, ◌^◌, min, IsTrue, List, Some}
+use Rattle.std.specs.Prelude.{ℕ, ◌+◌, ◌-◌, ◌≡◌, ◌≤◌, ◌<◌, min, IsTrue, List, Some}
 use Rattle.block_disk.specs.View.{Image}
 use Rattle.gate_pages.specs.Batch.{Entry, is_one_of, all_below, numbers}
-use Rattle.gate_pages.specs.Journal.{directory, images}
+use Rattle.gate_pages.specs.Journal.{directory, images, most_blocks}
 
 -- any block
 abbrev pub Anywhere : ℕ → Type 0
@@ -18,7 +18,7 @@ IsHome ns number = (66 ≤ number) × IsTrue (is_one_of ns (number - 66))
 
 -- the pages of these numbers lie within the used blocks of a disk of so many
 abbrev pub LiesWithin : ℕ → List ℕ → Type 0
-LiesWithin size ns = (n : ℕ) → IsTrue (is_one_of ns n) → n + 66 < min size (2 ^ 20)
+LiesWithin size ns = (n : ℕ) → IsTrue (is_one_of ns n) → n + 66 < min size most_blocks
 
 -- the journal holds this batch
 pub record HoldsBatch (batch : List Entry) (image : Image) : Type 0 where

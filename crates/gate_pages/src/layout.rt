@@ -19,7 +19,7 @@ pub(crate) const MOST: usize = 64;
 pub(crate) const FEWEST_BLOCKS: u32 = 128;
 
 /// The most blocks of a disk that are used.
-pub(crate) const MOST_BLOCKS: u32 = 1_048_576;
+pub(crate) const MOST_BLOCKS: u32 = u32::MAX;
 
 /// The gate byte of an open gate. With every other value it is closed.
 pub(crate) const OPEN: u8 = 1;

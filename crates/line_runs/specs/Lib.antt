@@ -5,4 +5,6 @@ pub mod GivenLaws
 pub mod Carried
 pub mod CarriedLaws
 pub mod Runs
+pub mod Ends
+pub mod EndLaws
 pub mod Shown

@@ -4,11 +4,11 @@ use Rattle.block_disk.specs.View.{Beside, DiskKept}
 use Rattle.chart_world.specs.Faults.{CountsFault}
 use Rattle.chart_world.specs.FaultLaws.{disk_stays, sends_stay, takes_stay}
 use Rattle.chart_service.specs.Stepping.{Steps}
-use Rattle.chart_service.specs.declared.failure.ServeEnd.{ServeEnd}
-use Rattle.chart_service.specs.declared.failure.ServeEnd.TheVariants.{ReadFault, SendFault, DiskFault, Damaged, InputTooLong, NoMemory}
 use Rattle.chart_service.proofs.DiskKept.{risen_since}
 use Rattle.gate_pages.specs.GateLaws.{goes_none, goes_then as goes_on_then}
 use Rattle.gate_pages.specs.Pages.{GoesOn}
+use Rattle.run_ends.specs.declared.ending.End.{End}
+use Rattle.run_ends.specs.declared.ending.End.TheVariants.{NoMemory, ReadFault, SendFault, DiskFault, DamagedPage, InputTooLong}
 use Rattle.zoom_session.specs.declared.session.Session.{Session}
 use Rattle.store_commands.specs.Sides.{AreBeside}
 use Rattle.live_command.specs.Doing.{Goes, Held, IsCause, Side}
@@ -48,13 +48,14 @@ pub goes_streams : (old new : Side) → DiskKept old.view new.view → (old.told
 goes_streams old new kept told was_told on reads sends = record { is_told = told; was_told = was_told; size = kept.size; faults = omega (arith, kept.faults); goes_on = on; reads = reads; sends = sends }
 
 -- why a later call ended is why all ended
-pub cause_later : (old mid new : Side) (end : ServeEnd) → IsBeside old → IsBeside mid → CountsFault None old.view mid.view → IsCause end mid new → IsCause end old new
+pub cause_later : (old mid new : Side) (end : End) → IsBeside old → IsBeside mid → CountsFault None old.view mid.view → IsCause end mid new → IsCause end old new
+cause_later old mid new NoMemory was are quiet is = tt
 cause_later old mid new ReadFault was are quiet is = risen_since old.read_faults mid.read_faults new.read_faults (sym are.reads_are ∙ takes_stay old.view mid.view quiet ∙ was.reads_are) is
 cause_later old mid new SendFault was are quiet is = risen_since old.send_faults mid.send_faults new.send_faults (sym are.sends_are ∙ sends_stay old.view mid.view quiet ∙ was.sends_are) is
 cause_later old mid new DiskFault was are quiet is = risen_since old.view.faults mid.view.faults new.view.faults (disk_stays old.view mid.view quiet) is
-cause_later old mid new (Damaged page) was are quiet is = is
+cause_later old mid new (DamagedPage page) was are quiet is = is
 cause_later old mid new InputTooLong was are quiet is = tt
-cause_later old mid new NoMemory was are quiet is = tt
+cause_later old mid new end was are quiet is = absurd is
 
 -- what is held beside the pages
 abbrev pub held_of : List Session → List ℕ → List ℕ → Held

@@ -7,5 +7,4 @@ pub mod GoesLemmas
 pub mod FaultLemmas
 pub mod LiveShown
 pub mod DiskLemmas
-pub mod StatusLemmas
 pub mod Drawing

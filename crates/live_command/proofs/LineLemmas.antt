@@ -10,22 +10,22 @@ use Rattle.chart_frames.specs.Frames.{spelling}
 use Rattle.chart_service.specs.MomentLaws.{through_none, through_by, through_so, through_then}
 use Rattle.chart_service.specs.Moments.{Through}
 use Rattle.chart_service.specs.ReadingBlocks.{ReadsLine}
-use Rattle.chart_service.specs.Serving.{end_of_step, unless_empty}
+use Rattle.chart_service.specs.Serving.{unless_empty}
 use Rattle.chart_world.specs.LineLaws.{said, says_text}
 use Rattle.chart_service.specs.State.{IsSound}
 use Rattle.chart_service.specs.Stepping.{IsOutside, IsUnchangedFor, state_of}
-use Rattle.chart_service.specs.declared.failure.ServeEnd.{ServeEnd}
-use Rattle.chart_service.specs.declared.failure.ServeEnd.TheVariants.{ReadFault, SendFault, DiskFault, Damaged, InputTooLong, NoMemory}
 use Rattle.chart_service.specs.declared.failure.ServiceError.{ServiceError}
 use Rattle.chart_service.specs.declared.failure.ServiceError.TheVariants as step
 use Rattle.gate_pages.specs.Pages.{Quiet}
 use Rattle.live_service.specs.LiveReplies.{LiveState, ReadsPush}
 use Rattle.live_service.specs.Shown.{IsBeforeOrAfter}
+use Rattle.run_ends.specs.declared.ending.End.{End}
+use Rattle.run_ends.specs.declared.ending.End.TheVariants.{NoMemory, SendFault, DiskFault}
 use Rattle.series_book.specs.declared.one_series.Series.{Series}
 use Rattle.stored_book.specs.Standing.{StandsForBook}
 use Rattle.store_commands.specs.Sides.{CountsSent}
 use Rattle.store_commands.proofs.InputLemmas.{told_any}
-use Rattle.live_command.specs.Doing.{AreFirst, DoesLines, FrameStops, Held, LinesDone, LinesMoment, LinesRead, LinesStop, held_with}
+use Rattle.live_command.specs.Doing.{AreFirst, DoesLines, FrameStops, Held, LinesDone, LinesMoment, LinesRead, LinesStop, held_with, step_end}
 use Rattle.live_command.specs.Lives.{LivesBy, spelled}
 use Rattle.live_command.specs.Reads.{ReadsBy}
 use Rattle.live_command.proofs.EventLemmas.{by_more, by_none, length_more, length_one, reads_more, reads_none, sent_then, spelled_one}
@@ -108,8 +108,7 @@ module _ (lines : List (Option (List ℕ))) (total : ℕ) (old : LiveState) (Rep
       sent = sent ∙ ap (λ t. sent_after t before) (sym (spelled_one frame));
     }
 
-    frame_stops : (end : ServeEnd) → FrameStops frame before now end → LinesStop lines total old image before now end
-    frame_stops ReadFault stops = absurd stops
+    frame_stops : (end : End) → FrameStops frame before now end → LinesStop lines total old image before now end
     frame_stops SendFault stops = record {
       first = lines;
       are_first = inr refl;
@@ -122,9 +121,6 @@ module _ (lines : List (Option (List ℕ))) (total : ℕ) (old : LiveState) (Rep
       whole = sent_none before;
       part = stops;
     }
-    frame_stops DiskFault stops = absurd stops
-    frame_stops (Damaged page) stops = absurd stops
-    frame_stops InputTooLong stops = absurd stops
     frame_stops NoMemory stops = record {
       first = lines;
       are_first = inr refl;
@@ -136,10 +132,11 @@ module _ (lines : List (Option (List ℕ))) (total : ℕ) (old : LiveState) (Rep
       stands = stands;
       sent = stops ∙ sent_none before;
     }
+    frame_stops end stops = absurd stops
 
   -- a frame is made by one call, which sends nothing, and sent by another, which leaves all but the streams
   pub frame_does : {T : Type 0} (frame : Frame) (held held' : Held) → held' ≡ held → (book : List Series) → Reply frame old (held_with total book held) → IsSound (state_of book total held.sessions) → (view mid new : View) (before between now : Option (List ℕ)) → StandsForBook mid.image total book → Through view mid (LinesMoment lines total old (sent_now view)) → sent_now mid ≡ sent_now view → between ≡ before → ReadsBy lines (frame ∷ []) old (held_with total book held) view.reads mid.reads → DiskKept mid new
-      → (result : Result T ServeEnd) → OnOk result (now ≡ sent_after (spelling frame) between) → IfErr result (FrameStops frame between now) → Only mid.image (Now mid) → Passes mid new (Now mid) (λ count. (sent_now mid ≤ count) × (count ≤ sent_now new)) → sent_now new ≤ sent_now mid + length (spelling frame) → DoesLines lines total old result view new held' before now
+      → (result : Result T End) → OnOk result (now ≡ sent_after (spelling frame) between) → IfErr result (FrameStops frame between now) → Only mid.image (Now mid) → Passes mid new (Now mid) (λ count. (sent_now mid ≤ count) × (count ≤ sent_now new)) → sent_now new ≤ sent_now mid + length (spelling frame) → DoesLines lines total old result view new held' before now
   frame_does {T} frame held held' same book replied sound view mid new before between now stands made quiet unsent read kept result whole stops only sends most =
       let S : Image → Type 0 = λ i. StandsForBook i total book in
       let H : Held → Type 0 = λ h. DoesLines lines total old result view new h before now in
@@ -149,7 +146,7 @@ module _ (lines : List (Option (List ℕ))) (total : ℕ) (old : LiveState) (Rep
       let moments = told_any (through_then view mid new (LinesMoment lines total old (sent_now view)) made (sent_moments frame (held_with total book held) (sent_now view) mid new replied stands (sym quiet) only sends most)) before in
       subst H (sym same) (by result whole stops there moments reads)
     where
-      by : (r : Result T ServeEnd) → OnOk r (now ≡ sent_after (spelling frame) between) → IfErr r (FrameStops frame between now) → StandsForBook new.image total book → IfSome before (λ bytes. Through view new (LinesMoment lines total old (sent_now view))) → ReadsBy lines (frame ∷ []) old (held_with total book held) view.reads new.reads → DoesLines lines total old r view new held before now
+      by : (r : Result T End) → OnOk r (now ≡ sent_after (spelling frame) between) → IfErr r (FrameStops frame between now) → StandsForBook new.image total book → IfSome before (λ bytes. Through view new (LinesMoment lines total old (sent_now view))) → ReadsBy lines (frame ∷ []) old (held_with total book held) view.reads new.reads → DoesLines lines total old r view new held before now
       by (Ok v) whole stops there moments reads = record { done = frame_done frame held book replied sound new.image there view.reads new.reads reads before now (whole ∙ ap (sent_after (spelling frame)) unsent); stops = tt; moments = moments; reads = one_read lines old (held_with total book held) frame view.reads new.reads reads }
       by (Err end) whole stops there moments reads =
           let P : Option (List ℕ) → Type 0 = λ b. FrameStops frame b now end in
@@ -163,7 +160,7 @@ NothingWith (step.Damaged page) image total book = Unit {0}
 NothingWith step.NoMemory image total book = StandsForBook image total book
 
 module _ (lines : List (Option (List ℕ))) (total : ℕ) (old : LiveState) (image : Image) (before now : Option (List ℕ)) (unsent : now ≡ before) where
-  unmade_so : (error : ServiceError) → IsOutside error → NothingWith error image total old.state.book → LinesStop lines total old image before now (end_of_step error)
+  unmade_so : (error : ServiceError) → IsOutside error → NothingWith error image total old.state.book → LinesStop lines total old image before now (step_end error)
   unmade_so step.DiskFault outside stands = record { first = []; are_first = inl refl; frames = []; state = old; lives = by_none old; sent = unsent ∙ sent_none before }
   unmade_so (step.Damaged page) outside stands = elim outside [
     | inl fault ↦ absurd (cc (fault))
@@ -171,9 +168,9 @@ module _ (lines : List (Option (List ℕ))) (total : ℕ) (old : LiveState) (ima
   ]
   unmade_so step.NoMemory outside stands = record { first = []; are_first = inl refl; shown = []; more = []; few = omega arith; state = old; lives = by_none old; stands = stands; sent = unsent ∙ sent_none before }
 
-pub unmade_does : {T : Type 0} (lines : List (Option (List ℕ))) (total : ℕ) (old : LiveState) (held : Held) (view view' : View) (before now : Option (List ℕ)) (error : ServiceError) (end : ServeEnd) → end ≡ end_of_step error → IsOutside error → NothingWith error view'.image total old.state.book → now ≡ before → Through view view' (LinesMoment lines total old (sent_now view)) → LinesRead lines old view.reads view'.reads → DoesLines {T = T} lines total old (Err end) view view' held before now
+pub unmade_does : {T : Type 0} (lines : List (Option (List ℕ))) (total : ℕ) (old : LiveState) (held : Held) (view view' : View) (before now : Option (List ℕ)) (error : ServiceError) (end : End) → end ≡ step_end error → IsOutside error → NothingWith error view'.image total old.state.book → now ≡ before → Through view view' (LinesMoment lines total old (sent_now view)) → LinesRead lines old view.reads view'.reads → DoesLines {T = T} lines total old (Err end) view view' held before now
 unmade_does {T} lines total old held view view' before now error end is outside stands unsent moments reads =
-    let P : ServeEnd → Type 0 = λ e. LinesStop lines total old view'.image before now e in
+    let P : End → Type 0 = λ e. LinesStop lines total old view'.image before now e in
     record { done = tt; stops = subst P (sym is) (unmade_so lines total old view'.image before now unsent error outside stands); moments = told_any moments before; reads = reads }
 
 -- with an error that is no fault of the disk nothing was committed
@@ -243,8 +240,7 @@ module _ (lines : List (Option (List ℕ))) (total : ℕ) (old : LiveState) (ima
     sent = sent_then d.frames e.frames before between now d.sent e.sent;
   }
 
-  then_stops : (image' : Image) (now : Option (List ℕ)) (end : ServeEnd) → LinesStop [] total reached image' between now end → LinesStop lines total old image' before now end
-  then_stops image' now ReadFault s = absurd s
+  then_stops : (image' : Image) (now : Option (List ℕ)) (end : End) → LinesStop [] total reached image' between now end → LinesStop lines total old image' before now end
   then_stops image' now SendFault s = record {
     first = lines;
     are_first = inr refl;
@@ -265,8 +261,6 @@ module _ (lines : List (Option (List ℕ))) (total : ℕ) (old : LiveState) (ima
     lives = all_lines s.first s.frames s.state s.are_first s.lives;
     sent = sent_then d.frames s.frames before between now d.sent s.sent;
   }
-  then_stops image' now (Damaged page) s = absurd s
-  then_stops image' now InputTooLong s = absurd s
   then_stops image' now NoMemory s = record {
     first = lines;
     are_first = inr refl;
@@ -278,6 +272,7 @@ module _ (lines : List (Option (List ℕ))) (total : ℕ) (old : LiveState) (ima
     stands = s.stands;
     sent = sent_then d.frames s.shown before between now d.sent s.sent;
   }
+  then_stops image' now end s = absurd s
 
   then_moment : (sent sent' : ℕ) (image' : Image) (count : ℕ) → sent' ≡ sent + length (spelled d.frames) → LinesMoment [] total reached sent' image' count → LinesMoment lines total old sent image' count
   then_moment sent sent' image' count counted m = record {
@@ -303,7 +298,7 @@ then_moments lines total old held view mid new (Some sent) (Some all) d begins c
     (through_so mid new (LinesMoment [] total (held_with total d.book held) (sent_now mid)) (LinesMoment lines total old (sent_now view)) (λ image count m. then_moment lines total old mid.image held view.reads mid.reads (Some sent) (Some all) d (sent_now view) (sent_now mid) image count counted m) second)
 
 pub then_does : {T : Type 0} (lines : List (Option (List ℕ))) (total : ℕ) (old : LiveState) (held held' : Held) (view mid new : View) (before between now : Option (List ℕ)) (d : LinesDone lines total old mid.image held view.reads mid.reads before between) → CountsSent before view → CountsSent between mid → IfSome before (λ bytes. Through view mid (LinesMoment lines total old (sent_now view)))
-    → (result : Result T ServeEnd) → DoesLines [] total (held_with total d.book held) result mid new held' between now → DoesLines lines total old result view new held' before now
+    → (result : Result T End) → DoesLines [] total (held_with total d.book held) result mid new held' between now → DoesLines lines total old result view new held' before now
 then_does {T} lines total old held held' view mid new before between now d begins counts first (Ok v) second = record {
   done = then_done lines total old mid.image held view.reads mid.reads before between d new.image held' new.reads now second.done;
   stops = tt;
@@ -339,7 +334,7 @@ pub line_empty : {T : Type 0} (v : T) (text : List ℕ) (total : ℕ) (book : Li
 line_empty {T} v [] total book held at before none stands sound = none_does v total book held at before stands sound
 line_empty {T} v (byte ∷ bytes) total book held at before none stands sound = absurd (omega (arith, none))
 
-pub line_some : {T : Type 0} (text : List ℕ) (total : ℕ) (old : LiveState) (result : Result T ServeEnd) (view view' : View) (held : Held) (before now : Option (List ℕ)) → 0 < length text → DoesLines (Some text ∷ []) total old result view view' held before now → DoesLines (unless_empty (Some text)) total old result view view' held before now
+pub line_some : {T : Type 0} (text : List ℕ) (total : ℕ) (old : LiveState) (result : Result T End) (view view' : View) (held : Held) (before now : Option (List ℕ)) → 0 < length text → DoesLines (Some text ∷ []) total old result view view' held before now → DoesLines (unless_empty (Some text)) total old result view view' held before now
 line_some {T} text total old result view view' held before now some does =
     let P : List (Option (List ℕ)) → Type 0 = λ l. DoesLines l total old result view view' held before now in
     subst P (sym (said (Some text) (says_text text some))) does

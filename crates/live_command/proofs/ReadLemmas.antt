@@ -7,13 +7,13 @@ use Rattle.chart_frames.specs.declared.frame.Frame.{Frame}
 use Rattle.chart_service.specs.Serving.{told, unless_empty}
 use Rattle.chart_service.specs.State.{IsSound}
 use Rattle.chart_service.specs.Stepping.{state_of}
-use Rattle.chart_service.specs.declared.failure.ServeEnd.{ServeEnd}
 use Rattle.chart_world.specs.FrontLaws.{Passed, passes}
 use Rattle.chart_world.specs.Fronts.{says, BeginsWith, Gives, first_piece}
 use Rattle.chart_world.specs.LineLaws.{lines_none, piece_line, said, told_more}
 use Rattle.chart_world.specs.Lines.{is_line_feed, lines}
 use Rattle.chart_world.specs.Reading.{Reading, unread, unread_input}
 use Rattle.live_service.specs.LiveReplies.{LiveState}
+use Rattle.run_ends.specs.declared.ending.End.{End}
 use Rattle.series_book.specs.declared.one_series.Series.{Series}
 use Rattle.stored_book.specs.Standing.{StandsForBook}
 use Rattle.live_command.specs.Doing.{DoesLines, Held, LinesDone, LinesRead, held_with}
@@ -172,13 +172,13 @@ reads_nothing None at count = tt
 reads_nothing (Some input) at count = none_read input at count
 
 module _ (r r' : Reading) (left left' line : Option (List ℕ)) (gives : Gives r r' left left' line) (total : ℕ) (old : LiveState) (held held' : Held) (mid new : View) (from : ℕ) (now later : Option (List ℕ)) where
-  abbrev pub DoesIt : {T : Type 0} → Result T ServeEnd → Type 0
+  abbrev pub DoesIt : {T : Type 0} → Result T End → Type 0
   DoesIt result = (between : List Series) → StandsForBook mid.image total between → IsSound (state_of between total held.sessions) → DoesLines (unless_empty line) total (held_with total between held) result mid new held' now later
 
   pub far_read_line : {T : Type 0} (v : T) (o : Option (List ℕ)) → DoesIt (Ok v) → FarRead o (unread r left) r.given total old mid.image held from mid.reads → FarRead o (unread r' left') r'.given total old new.image held' from new.reads
   far_read_line {T} v None does far = tt
   far_read_line {T} v (Some input) does far = read_line input r r' left left' line gives total old mid.image new.image held from mid.reads new.reads now later far held' (does far.book far.stands far.sound).done
 
-  pub reads_stopped : {T : Type 0} (result : Result T ServeEnd) (o : Option (List ℕ)) → DoesIt result → FarRead o (unread r left) r.given total old mid.image held from mid.reads → IfSome o (λ input. ReadsLines input old from new.reads)
+  pub reads_stopped : {T : Type 0} (result : Result T End) (o : Option (List ℕ)) → DoesIt result → FarRead o (unread r left) r.given total old mid.image held from mid.reads → IfSome o (λ input. ReadsLines input old from new.reads)
   reads_stopped {T} result None does far = tt
   reads_stopped {T} result (Some input) does far = read_some input r r' left left' line gives total old mid.image new.image held from mid.reads new.reads now later far (does far.book far.stands far.sound).reads

@@ -8,11 +8,9 @@ use Rattle.block_disk.specs.SentLaws.{sent_none, sent_is}
 use Rattle.chart_frames.specs.declared.frame.Frame.{Frame}
 use Rattle.chart_service.specs.MomentLaws.{since_none, since_then, through_by, through_so}
 use Rattle.chart_service.specs.Moments.{Since, Through}
-use Rattle.chart_service.specs.Serving.{told, unless_empty, end_of}
+use Rattle.chart_service.specs.Serving.{told, unless_empty}
 use Rattle.chart_service.specs.State.{IsSound}
 use Rattle.chart_service.specs.Stepping.{state_of}
-use Rattle.chart_service.specs.declared.failure.ServeEnd.{ServeEnd}
-use Rattle.chart_service.specs.declared.failure.ServeEnd.TheVariants.{ReadFault, SendFault, DiskFault, Damaged, InputTooLong, NoMemory}
 use Rattle.chart_world.specs.FrontLaws.{Passed, passes}
 use Rattle.chart_world.specs.Fronts.{says, Gives, IsWhole, first_piece}
 use Rattle.chart_world.specs.LineLaws.{lines_none, piece_line, told_more, no_rest}
@@ -22,6 +20,9 @@ use Rattle.chart_world.specs.Reading.{Reading, unread, unread_input, told_lines,
 use Rattle.chart_world.specs.declared.line_answer.LineFault.{LineFault}
 use Rattle.chart_world.specs.declared.line_answer.LineFault.TheVariants as fault
 use Rattle.live_service.specs.LiveReplies.{LiveState}
+use Rattle.run_ends.specs.Faults.{input_end}
+use Rattle.run_ends.specs.declared.ending.End.{End}
+use Rattle.run_ends.specs.declared.ending.End.TheVariants.{NoMemory, SendFault, DiskFault}
 use Rattle.series_book.specs.declared.one_series.Series.{Series}
 use Rattle.stored_book.specs.Standing.{StandsForBook}
 use Rattle.store_commands.specs.Sides.{CountsSent}
@@ -129,8 +130,7 @@ module _ (input : List ℕ) (r r' : Reading) (left left' line : Option (List ℕ
   }
 
   -- or wasn't
-  pub line_ends : (end : ServeEnd) (rest : Option (List ℕ)) → LinesStop (unless_empty line) total reached image' now later end → EndsSo (Stands total image') input old rest before later end
-  line_ends ReadFault rest s = absurd s
+  pub line_ends : (end : End) (rest : Option (List ℕ)) → LinesStop (unless_empty line) total reached image' now later end → EndsSo (Stands total image') input old rest before later end
   line_ends SendFault rest s = record {
     shown = g.frames ++ s.shown;
     last = s.last;
@@ -147,8 +147,6 @@ module _ (input : List ℕ) (r r' : Reading) (left left' line : Option (List ℕ
     first = some_first s.first s.frames s.state s.are_first s.lives;
     sent = sent_then g.frames s.frames before now later g.sent s.sent;
   }
-  line_ends (Damaged page) rest s = absurd s
-  line_ends InputTooLong rest s = absurd s
   line_ends NoMemory rest s = record {
     shown = g.frames ++ s.shown;
     more = s.more;
@@ -158,6 +156,7 @@ module _ (input : List ℕ) (r r' : Reading) (left left' line : Option (List ℕ
     there = s.stands;
     sent = sent_then g.frames s.shown before now later g.sent s.sent;
   }
+  line_ends end rest s = absurd s
 
   -- what a crash leaves meanwhile
   pub line_ahead : (from from' : ℕ) (at : Image) (count : ℕ) → from' ≡ from + length (spelled g.frames) → LinesMoment (unless_empty line) total reached from' at count → IsAhead (λ after. StandsForBook at total after) input old from count
@@ -189,7 +188,7 @@ module _ (input : List ℕ) (total : ℕ) (old : LiveState) (image : Image) (hel
 
   -- at a fault of the input
   pub fault_ends : (r r' : Reading) (left left' : Option (List ℕ)) (f : LineFault) → r.given ≤ 2 ^ 32 → (f ≡ fault.ReadFault → IsWhole (take r.given input)) → (f ≡ fault.ReadFault → NoLineIn (r'.taken - r.given) (unread r left)) → (f ≡ fault.InputTooLong → NoLineIn (2 ^ 32 - r.given) (unread r left)) → (f ≡ fault.InputTooLong → 2 ^ 32 < r'.taken)
-      → left' ≡ left_after (r'.taken - r.given) (unread r left) → r.taken ≡ r.given + length r.pending → input_length r'.taken left' ≡ input_length r.taken left → Going input (unread r left) r.given total old image held before now → EndsSo (Stands total image) input old left' before now (end_of f)
+      → left' ≡ left_after (r'.taken - r.given) (unread r left) → r.taken ≡ r.given + length r.pending → input_length r'.taken left' ≡ input_length r.taken left → Going input (unread r left) r.given total old image held before now → EndsSo (Stands total image) input old left' before now (input_end f)
   fault_ends r r' left left' fault.ReadFault few whole none_read none_past past after counted sum g =
       let n = r'.taken - r.given in
       let N : Option (List ℕ) → Type 0 = NoLineIn n in
@@ -322,18 +321,18 @@ line_moments input r r' left left' line gives early total old held start mid new
 
 -- the next line, which a call answers from the state on that the lines before it left
 module _ (r r' : Reading) (left left' line : Option (List ℕ)) (gives : Gives r r' left left' line) (early : r'.given ≤ 2 ^ 32) (total : ℕ) (old : LiveState) (held held' : Held) (mid new : View) (before now later : Option (List ℕ)) where
-  abbrev pub DoesIt : {T : Type 0} → Result T ServeEnd → Type 0
+  abbrev pub DoesIt : {T : Type 0} → Result T End → Type 0
   DoesIt result = (between : List Series) → StandsForBook mid.image total between → IsSound (state_of between total held.sessions) → DoesLines (unless_empty line) total (held_with total between held) result mid new held' now later
 
   pub far_line : {T : Type 0} (v : T) (o : Option (List ℕ)) → DoesIt (Ok v) → Far o (unread r left) r.given total old mid.image held before now → Far o (unread r' left') r'.given total old new.image held' before later
   far_line {T} v None does far = tt
   far_line {T} v (Some input) does far = goes_line input r r' left left' line gives early total old mid.image new.image held before now later far held' mid.reads new.reads (does far.book far.stands far.sound).done
 
-  pub line_stops : {T : Type 0} (end : ServeEnd) (o rest : Option (List ℕ)) → DoesIt {T = T} (Err end) → Far o (unread r left) r.given total old mid.image held before now → IfSome o (λ input. EndsSo (Stands total new.image) input old rest before later end)
+  pub line_stops : {T : Type 0} (end : End) (o rest : Option (List ℕ)) → DoesIt {T = T} (Err end) → Far o (unread r left) r.given total old mid.image held before now → IfSome o (λ input. EndsSo (Stands total new.image) input old rest before later end)
   line_stops {T} end None rest does far = tt
   line_stops {T} end (Some input) rest does far = line_ends input r r' left left' line gives early total old mid.image new.image held before now later far end rest (does far.book far.stands far.sound).stops
 
-  pub lasts_on_line : {T : Type 0} (result : Result T ServeEnd) (o : Option (List ℕ)) (start : View) → CountsSent before start → CountsSent now mid → DoesIt result → Far o (unread r left) r.given total old mid.image held before now → LastsOn total old o before start mid → LastsOn total old o before start new
+  pub lasts_on_line : {T : Type 0} (result : Result T End) (o : Option (List ℕ)) (start : View) → CountsSent before start → CountsSent now mid → DoesIt result → Far o (unread r left) r.given total old mid.image held before now → LastsOn total old o before start mid → LastsOn total old o before start new
   lasts_on_line {T} result None start begins counts does far lasts = tt
   lasts_on_line {T} result (Some input) start begins counts does far lasts =
       line_moments input r r' left left' line gives early total old held start mid new before now begins counts far (does far.book far.stands far.sound).moments lasts
@@ -344,7 +343,7 @@ all_on None bytes given total old image held before now idle none far = tt
 all_on (Some input) bytes given total old image held before now idle none far = all_answered input total old image held before now idle bytes given none far
 
 pub fault_on : (o : Option (List ℕ)) (total : ℕ) (old : LiveState) (image : Image) (held : Held) (before now : Option (List ℕ)) → held.pending ≡ [] → (r r' : Reading) (left left' : Option (List ℕ)) (f : LineFault) → r.given ≤ 2 ^ 32 → (f ≡ fault.ReadFault → IfSome o (λ input. IsWhole (take r.given input))) → (f ≡ fault.ReadFault → NoLineIn (r'.taken - r.given) (unread r left)) → (f ≡ fault.InputTooLong → NoLineIn (2 ^ 32 - r.given) (unread r left)) → (f ≡ fault.InputTooLong → 2 ^ 32 < r'.taken)
-    → left' ≡ left_after (r'.taken - r.given) (unread r left) → r.taken ≡ r.given + length r.pending → input_length r'.taken left' ≡ input_length r.taken left → Far o (unread r left) r.given total old image held before now → IfSome o (λ input. EndsSo (Stands total image) input old left' before now (end_of f))
+    → left' ≡ left_after (r'.taken - r.given) (unread r left) → r.taken ≡ r.given + length r.pending → input_length r'.taken left' ≡ input_length r.taken left → Far o (unread r left) r.given total old image held before now → IfSome o (λ input. EndsSo (Stands total image) input old left' before now (input_end f))
 fault_on None total old image held before now idle r r' left left' f few whole none_read none_past past after counted sum far = tt
 fault_on (Some input) total old image held before now idle r r' left left' f few whole none_read none_past past after counted sum far = fault_ends input total old image held before now idle r r' left left' f few whole none_read none_past past after counted sum far
 

@@ -12,9 +12,8 @@ use Rattle.chart_service.specs.ReadingBlocks.{ReadsLine}
 use Rattle.chart_service.specs.Shown as shown
 use Rattle.chart_service.specs.State.{IsSound}
 use Rattle.chart_service.specs.Stepping.{state_of}
-use Rattle.chart_service.specs.declared.failure.ServeEnd.{ServeEnd}
-use Rattle.chart_service.specs.declared.failure.ServeEnd.TheVariants.{ReadFault, SendFault, DiskFault, Damaged, InputTooLong, NoMemory}
 use Rattle.chart_service.specs.declared.failure.ServiceError.{ServiceError}
+use Rattle.chart_service.specs.declared.failure.ServiceError.TheVariants as step
 use Rattle.gate_pages.specs.Pages.{GoesOn}
 use Rattle.gate_pages.specs.declared.pages.Pages.{Ghosts}
 use Rattle.live_service.specs.LiveReplies.{LiveState, ReadsPush}
@@ -24,6 +23,8 @@ use Rattle.live_service.specs.declared.stepper.ServiceStepper.{ServiceStepper}
 use Rattle.live_view.specs.declared.live.Live.{Live}
 use Rattle.live_view.specs.declared.stepper.Stepper.{Ghosts as StepperGhosts}
 use Rattle.live_view.specs.Live as live
+use Rattle.run_ends.specs.declared.ending.End.{End}
+use Rattle.run_ends.specs.declared.ending.End.TheVariants.{NoMemory, ReadFault, SendFault, DiskFault, DamagedPage, InputTooLong}
 use Rattle.series_book.specs.declared.one_series.Series.{Series}
 use Rattle.stored_book.specs.Damage.{IsBadForRequest}
 use Rattle.stored_book.specs.Standing.{StandsForBook}
@@ -32,16 +33,19 @@ use Rattle.live_command.specs.Lives.{LivesBy, spelled}
 use Rattle.live_command.specs.Reads.{ReadsBy}
 use Rattle.live_command.specs.Shown.{pages}
 
+-- what an error of a step is for the run
+abbrev pub step_end : ServiceError → End
+step_end step.DiskFault = DiskFault
+step_end (step.Damaged page) = DamagedPage page
+step_end step.NoMemory = NoMemory
+
 -- ---- a frame that is sent
 
 -- it wasn't sent, or not all of it
-abbrev pub FrameStops : Frame → Option (List ℕ) → Option (List ℕ) → ServeEnd → Type 0
-FrameStops frame before now ReadFault = ⊥
-FrameStops frame before now SendFault = PartSent (spelling frame) before now
-FrameStops frame before now DiskFault = ⊥
-FrameStops frame before now (Damaged page) = ⊥
-FrameStops frame before now InputTooLong = ⊥
+abbrev pub FrameStops : Frame → Option (List ℕ) → Option (List ℕ) → End → Type 0
 FrameStops frame before now NoMemory = now ≡ before
+FrameStops frame before now SendFault = PartSent (spelling frame) before now
+FrameStops frame before now end = ⊥
 
 -- ---- lines that are answered, and pushes
 
@@ -104,13 +108,11 @@ pub record LinesSent (lines : List (Option (List ℕ))) (old : LiveState) (befor
   pub sent : now ≡ sent_after (spelled frames) before
 
 -- why the lines weren't answered, or not all pushes made
-abbrev pub LinesStop : List (Option (List ℕ)) → ℕ → LiveState → Image → Option (List ℕ) → Option (List ℕ) → ServeEnd → Type 0
-LinesStop lines total old image before now ReadFault = ⊥
+abbrev pub LinesStop : List (Option (List ℕ)) → ℕ → LiveState → Image → Option (List ℕ) → Option (List ℕ) → End → Type 0
+LinesStop lines total old image before now NoMemory = LinesSome lines total old image before now
 LinesStop lines total old image before now SendFault = LinesCut lines total old image before now
 LinesStop lines total old image before now DiskFault = LinesSent lines old before now
-LinesStop lines total old image before now (Damaged page) = ⊥
-LinesStop lines total old image before now InputTooLong = ⊥
-LinesStop lines total old image before now NoMemory = LinesSome lines total old image before now
+LinesStop lines total old image before now end = ⊥
 
 -- what a crash leaves meanwhile, and how many bytes were sent
 pub record LinesMoment (lines : List (Option (List ℕ))) (total : ℕ) (old : LiveState) (from : ℕ) (image : Image) (sent : ℕ) : Type 0 where
@@ -138,7 +140,7 @@ pub record LinesRead (lines : List (Option (List ℕ))) (old : LiveState) (from 
       ⊎ ReadsPush state.pending state.state count to)
 
 -- what a call does that answers these lines, and makes pushes
-pub record DoesLines {T : Type 0} (lines : List (Option (List ℕ))) (total : ℕ) (old : LiveState) (result : Result T ServeEnd) (view view' : View) (held : Held) (before now : Option (List ℕ)) : Type 0 where
+pub record DoesLines {T : Type 0} (lines : List (Option (List ℕ))) (total : ℕ) (old : LiveState) (result : Result T End) (view view' : View) (held : Held) (before now : Option (List ℕ)) : Type 0 where
   pub done : OnOk result (LinesDone lines total old view'.image held view.reads view'.reads before now)
   pub stops : IfErr result (LinesStop lines total old view'.image before now)
   pub moments : IfSome before (λ bytes. Through view view' (LinesMoment lines total old (sent_now view)))
@@ -165,13 +167,14 @@ pub record Goes (old new : Side) : Type 0 where
   pub sends : old.send_faults ≤ new.send_faults
 
 -- Why lines weren't answered. A page that is called damaged is one of so many, and is so where reads give what the pages are.
-abbrev pub IsCause : ServeEnd → Side → Side → Type 0
+abbrev pub IsCause : End → Side → Side → Type 0
+IsCause NoMemory old new = ⊤
 IsCause ReadFault old new = HasRisen old.read_faults new.read_faults
 IsCause SendFault old new = HasRisen old.send_faults new.send_faults
 IsCause DiskFault old new = HasRisen old.view.faults new.view.faults
-IsCause (Damaged page) old new = (page < new.view.size) × (new.told → IsBadForRequest new.view.size new.view.image page)
+IsCause (DamagedPage page) old new = (page < new.view.size) × (new.told → IsBadForRequest new.view.size new.view.image page)
 IsCause InputTooLong old new = ⊤
-IsCause NoMemory old new = ⊤
+IsCause end old new = ⊥
 
 module _ {P : Type 0} {g : Ghosts P} {h : StepperGhosts (ServiceStepper P g) ServiceError} {beside : StreamGhosts (ServiceStepper P g)} where
   abbrev pub held_by : Live (ServiceStepper P g) ServiceError h beside → Held
@@ -187,5 +190,5 @@ module _ {P : Type 0} {g : Ghosts P} {h : StepperGhosts (ServiceStepper P g) Ser
   }
 
   -- what a call does from one moment to another
-  abbrev pub DoesFor : {T : Type 0} → streams.Ghosts P → List (Option (List ℕ)) → ℕ → List Series → Result T ServeEnd → Live (ServiceStepper P g) ServiceError h beside → Live (ServiceStepper P g) ServiceError h beside → Type 0
+  abbrev pub DoesFor : {T : Type 0} → streams.Ghosts P → List (Option (List ℕ)) → ℕ → List Series → Result T End → Live (ServiceStepper P g) ServiceError h beside → Live (ServiceStepper P g) ServiceError h beside → Type 0
   DoesFor told lines total book result old new = DoesLines lines total (its.state old total book) result (its.view old) (its.view new) (held_by new) (told.sent (pages old)) (told.sent (pages new))

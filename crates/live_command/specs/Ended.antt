@@ -1,5 +1,5 @@
--- How `live` ends over the store of a disk, by its status.
-use Rattle.std.specs.Prelude.{◌≡◌, ◌≢◌, ℕ, ◌+◌, ◌<◌, ◌≤◌, ◌⊎◌, ◌^◌, List, [], ◌∷◌, length, Contains, Option, IfSome}
+-- How `live` ends over the store of a disk.
+use Rattle.std.specs.Prelude.{◌≡◌, ◌≢◌, ℕ, ◌+◌, ◌<◌, ◌≤◌, ◌^◌, List, [], length, Option, IfSome, ⊤}
 use Rattle.block_disk.specs.Counts.{HasRisen}
 use Rattle.block_disk.specs.View.{View, sent_now}
 use Rattle.chart_service.specs.Moments.{Since}
@@ -10,13 +10,16 @@ use Rattle.live_service.specs.Shown.{live_of}
 use Rattle.series_book.specs.declared.one_series.Series.{Series}
 use Rattle.stored_book.specs.Damage.{IsBadForRequest}
 use Rattle.stored_book.specs.Standing.{RecoversTo}
-use Rattle.store_commands.specs.Books.{HoldsAgain, Never, OfBook, begun, Holds}
+use Rattle.store_commands.specs.Books.{HoldsAgain, OfBook, begun, Holds}
 use Rattle.store_commands.specs.Damaged.{IsDamagedAtFirst, IsDamagedLater}
 use Rattle.store_commands.specs.Traffic.{Traffic}
-use Rattle.run_ends.specs.declared.status.Status.{Status}
+use Rattle.run_ends.specs.Statuses.{block_of}
+use Rattle.run_ends.specs.declared.ending.End.{End}
+use Rattle.run_ends.specs.declared.ending.End.TheVariants.{Done, NoMemory, ReadFault, SendFault, DiskFault, DamagedBlock, DamagedPage}
+use Rattle.run_ends.specs.declared.ending.End.TheVariants.{InputTooLong, TooSmall}
 use Rattle.live_command.specs.Reads.{ReadsLines}
 use Rattle.live_command.specs.Syncs.{SyncsLines}
-use Rattle.live_command.specs.Running.{IsAhead, SendsAll, SendsLines, SendsPart, SendsSome, SendsTaken, SendsWithin}
+use Rattle.live_command.specs.Running.{EndsSo, IsAhead, SendsAll, SendsLines, SendsPart, SendsSome, SendsTaken, SendsWithin}
 
 -- how the command begins: with the book that the disk holds, no session, and so no one that follows
 abbrev pub begun_live : ℕ → List Series → LiveState
@@ -64,33 +67,29 @@ ReadsLiving old new input = (opened : ℕ) × (opened ≤ old.reads + 200) × Re
 abbrev pub SyncsLiving : View → View → List ℕ → Type 0
 SyncsLiving old new input = (opened : ℕ) × (opened ≤ old.syncs + 7) × SyncsLines input opened new.syncs
 
--- The block at this place was found damaged at the opening, and then no input was taken and nothing was sent; or it is a
--- page that an answer or a push found so.
-abbrev pub FindsDamaged : View → View → Option (List ℕ) → Option (List ℕ) → Option (List ℕ) → Option (List ℕ) → ℕ → Type 0
-FindsDamaged old new left left' before now place =
-    (IsDamagedAtFirst old place × ((left' ≡ left) × (now ≡ before))) ⊎ IsDamagedLater IsBadForRequest (page_count old.size) new place
+-- Why `live` ended, whatever the disk holds. Where its store wasn't opened no input was taken and nothing was sent.
+abbrev pub IsLiveCause : End → View → View → Traffic → Type 0
+IsLiveCause Done old new t = IfSome t.left (λ input. length input ≤ 2 ^ 32)
+IsLiveCause NoMemory old new t = ⊤
+IsLiveCause ReadFault old new t = HasRisen t.reads t.reads_now
+IsLiveCause SendFault old new t = HasRisen t.sends t.sends_now
+IsLiveCause DiskFault old new t = HasRisen old.faults new.faults
+IsLiveCause (DamagedBlock block) old new t = IsDamagedAtFirst old block × ((t.left_now ≡ t.left) × (t.sent_now ≡ t.sent))
+IsLiveCause (DamagedPage page) old new t = IsDamagedLater IsBadForRequest (page_count old.size) new (block_of page)
+IsLiveCause InputTooLong old new t = ⊤
+IsLiveCause (TooSmall blocks) old new t = (blocks ≡ old.size) × (old.size < 128)
+IsLiveCause end old new t = ⊥
 
--- What `live` did, sent and left, and why it ended, by the status.
-pub record LiveEnds (old new : View) (left left' before now : Option (List ℕ)) (reads reads_now sends sends_now code place : ℕ) : Type 0 where
-  pub codes : Contains (0 ∷ 3 ∷ 4 ∷ 5 ∷ 6 ∷ 7 ∷ 9 ∷ 12 ∷ []) code
-  pub done : code ≡ 0 → IfSome left (λ input. LivesAll (page_count old.size) old new input before now)
-  pub within : code ≡ 0 → IfSome left (λ input. length input ≤ 2 ^ 32)
-  pub memory : code ≡ 3 → IfSome left (λ input. LivesSome (page_count old.size) old new input before now)
-  pub read : code ≡ 4 → HasRisen reads reads_now
-  pub stopped : code ≡ 4 → IfSome left (λ input. LivesTaken (page_count old.size) old new input left' before now)
-  pub send : code ≡ 5 → HasRisen sends sends_now
-  pub part : code ≡ 5 → IfSome left (λ input. LivesPart (page_count old.size) old new input before now)
-  pub fault : code ≡ 6 → HasRisen old.faults new.faults
-  pub faulted : code ≡ 6 → IfSome left (λ input. LivesLines (page_count old.size) old input before now)
-  pub damaged : code ≡ 7 → FindsDamaged old new left left' before now place
-  pub undamaged : code ≡ 7 → IfSome left (λ input. Never (page_count old.size) old)
-  pub much : code ≡ 9 → IfSome left (λ input. (place ≡ 2 ^ 32) × LivesWithin (page_count old.size) old new input before now)
-  pub small : code ≡ 12 → (place ≡ old.size) × (old.size < 128)
-  pub zero_place : Contains (0 ∷ 3 ∷ 4 ∷ 5 ∷ 6 ∷ []) code → place ≡ 0
-  pub holds : code ≢ 6 → IfSome left (λ input. HoldsAgain (page_count old.size) old new)
-  pub crash : IfSome left (λ input. IfSome before (λ bytes. LeavesLived (page_count old.size) input old new))
+-- what was done and sent by the book that the disk held, and which it holds now
+abbrev pub DoesLive : ℕ → View → View → Traffic → End → Type 0
+DoesLive count old new t end = IfSome t.left (λ input. OfBook count old (λ total book.
+    EndsSo (Holds count total new) input (begun_live total book) t.left_now t.sent t.sent_now end))
+
+-- Why `live` ended, what it did and sent by the book that the disk held, and what the disk holds: but for a fault of the
+-- disk, of which the moments tell, a book again.
+pub record LiveEnds (old new : View) (t : Traffic) (end : End) : Type 0 where
+  pub cause : IsLiveCause end old new t
+  pub does : DoesLive (page_count old.size) old new t end
+  pub holds : end ≢ DiskFault → IfSome t.left (λ input. HoldsAgain (page_count old.size) old new)
+  pub crash : IfSome t.left (λ input. IfSome t.sent (λ bytes. LeavesLived (page_count old.size) input old new))
   pub goes_on : GoesOn old new
-
--- the same by the status of the command, and by what passed through the streams
-abbrev pub EndsLive : View → View → Traffic → Status → Type 0
-EndsLive old new t end = LiveEnds old new t.left t.left_now t.sent t.sent_now t.reads t.reads_now t.sends t.sends_now end.code end.place

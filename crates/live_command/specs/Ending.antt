@@ -1,56 +1,30 @@
 -- What is done over a store on a disk. Private contracts are stated by these words.
-use Rattle.std.specs.Prelude.{ℕ, ◌+◌, ◌≤◌, ◌^◌, List, length, Option, Result, Ok, Err, IfErr, IfSome, OnOk, ⊤}
+use Rattle.std.specs.Prelude.{ℕ, ◌≤◌, ◌^◌, length, IfSome, ⊤}
 use Rattle.block_disk.specs.Counts.{HasRisen}
 use Rattle.block_disk.specs.View.{View}
-use Rattle.chart_service.specs.declared.failure.ServeEnd.{ServeEnd}
-use Rattle.chart_service.specs.declared.failure.ServeEnd.TheVariants.{ReadFault, SendFault, DiskFault, Damaged, InputTooLong, NoMemory}
 use Rattle.gate_pages.specs.Pages.{GoesOn}
+use Rattle.run_ends.specs.Statuses.{block_of}
+use Rattle.run_ends.specs.declared.ending.End.{End}
+use Rattle.run_ends.specs.declared.ending.End.TheVariants.{Done, NoMemory, ReadFault, SendFault, DiskFault, DamagedPage, InputTooLong}
 use Rattle.stored_book.specs.Damage.{IsBadForRequest}
-use Rattle.store_commands.specs.Books.{OfBook, Holds}
 use Rattle.store_commands.specs.Damaged.{IsDamagedLater}
-use Rattle.run_ends.specs.Statuses.{status}
 use Rattle.store_commands.specs.Traffic.{Traffic}
-use Rattle.run_ends.specs.declared.status.Status.{Status}
-use Rattle.live_command.specs.Ended.{LeavesLived, LivesAll, begun_live}
-use Rattle.live_command.specs.Running.{EndsSo}
+use Rattle.live_command.specs.Ended.{DoesLive, LeavesLived}
 
--- the status of why not all lines were answered
-abbrev pub end_status : ServeEnd → Status
-end_status ReadFault = status 4 0
-end_status SendFault = status 5 0
-end_status DiskFault = status 6 0
-end_status (Damaged page) = status 7 (66 + page)
-end_status InputTooLong = status 9 (2 ^ 32)
-end_status NoMemory = status 3 0
-
--- and of what answering the lines answers
-abbrev pub answer_status : {T : Type 0} → Result T ServeEnd → Status
-answer_status (Ok done) = status 0 0
-answer_status (Err end) = end_status end
-
--- why they weren't, whatever the disk holds
-abbrev pub IsEndCause : ServeEnd → ℕ → View → View → ℕ → ℕ → ℕ → ℕ → Type 0
-IsEndCause ReadFault count old new reads reads_now sends sends_now = HasRisen reads reads_now
-IsEndCause SendFault count old new reads reads_now sends sends_now = HasRisen sends sends_now
-IsEndCause DiskFault count old new reads reads_now sends sends_now = HasRisen old.faults new.faults
-IsEndCause (Damaged page) count old new reads reads_now sends sends_now = IsDamagedLater IsBadForRequest count new (66 + page)
-IsEndCause InputTooLong count old new reads reads_now sends sends_now = ⊤
-IsEndCause NoMemory count old new reads reads_now sends sends_now = ⊤
-
--- why not all lines of the input were answered, and what was done
-abbrev pub StopsAt : ℕ → View → View → List ℕ → Option (List ℕ) → Option (List ℕ) → Option (List ℕ) → ServeEnd → Type 0
-StopsAt count old new input left before now end = OfBook count old (λ total book. EndsSo (Holds count total new) input (begun_live total book) left before now end)
+-- why the lines were answered so far, whatever the disk holds
+abbrev pub IsServeCause : End → ℕ → View → View → Traffic → Type 0
+IsServeCause Done count old new t = IfSome t.left (λ input. length input ≤ 2 ^ 32)
+IsServeCause NoMemory count old new t = ⊤
+IsServeCause ReadFault count old new t = HasRisen t.reads t.reads_now
+IsServeCause SendFault count old new t = HasRisen t.sends t.sends_now
+IsServeCause DiskFault count old new t = HasRisen old.faults new.faults
+IsServeCause (DamagedPage page) count old new t = IsDamagedLater IsBadForRequest count new (block_of page)
+IsServeCause InputTooLong count old new t = ⊤
+IsServeCause end count old new t = ⊥
 
 -- The lines of the input were answered over a disk, all of them or some first ones.
-pub record Served {T : Type 0} (count : ℕ) (old new : View) (left left' before now : Option (List ℕ)) (reads reads_now sends sends_now : ℕ) (answer : Result T ServeEnd) : Type 0 where
-  pub done : OnOk answer (IfSome left (λ input. LivesAll count old new input before now))
-  pub within : OnOk answer (IfSome left (λ input. length input ≤ 2 ^ 32))
-  pub stops : IfErr answer (λ end. IfSome left (λ input. StopsAt count old new input left' before now end))
-  pub crash : IfSome left (λ input. IfSome before (λ bytes. LeavesLived count input old new))
-  pub cause : IfErr answer (λ end. IsEndCause end count old new reads reads_now sends sends_now)
+pub record Served (count : ℕ) (old new : View) (t : Traffic) (end : End) : Type 0 where
+  pub cause : IsServeCause end count old new t
+  pub does : DoesLive count old new t end
+  pub crash : IfSome t.left (λ input. IfSome t.sent (λ bytes. LeavesLived count input old new))
   pub goes_on : GoesOn old new
-  pub faults : old.faults ≤ new.faults
-
--- the same by what passed through the streams
-abbrev pub ServedOn : {T : Type 0} → ℕ → View → View → Traffic → Result T ServeEnd → Type 0
-ServedOn count old new t answer = Served count old new t.left t.left_now t.sent t.sent_now t.reads t.reads_now t.sends t.sends_now answer

@@ -5,11 +5,11 @@ use Rattle.block_disk.specs.Streams.{sent_after, PartSent}
 use Rattle.chart_frames.specs.declared.frame.Frame.{Frame}
 use Rattle.chart_frames.specs.Frames.{spelling}
 use Rattle.chart_service.specs.Serving.{told}
-use Rattle.chart_service.specs.declared.failure.ServeEnd.{ServeEnd}
-use Rattle.chart_service.specs.declared.failure.ServeEnd.TheVariants.{ReadFault, SendFault, DiskFault, Damaged, InputTooLong, NoMemory}
 use Rattle.chart_world.specs.Fronts.{BeginsWith, IsWhole}
 use Rattle.chart_world.specs.Lines.{NoLineFeed}
 use Rattle.live_service.specs.LiveReplies.{LiveState}
+use Rattle.run_ends.specs.declared.ending.End.{End}
+use Rattle.run_ends.specs.declared.ending.End.TheVariants.{Done, NoMemory, ReadFault, SendFault, DiskFault, InputTooLong}
 use Rattle.series_book.specs.declared.one_series.Series.{Series}
 use Rattle.store_commands.specs.InputLines.{Unended}
 use Rattle.live_command.specs.Lives.{LivesBy, spelled}
@@ -82,15 +82,16 @@ module _ (IsThere : List Series → Type 0) (input : List ℕ) (old : LiveState)
     pub there : IsThere state.state.book
     pub sent : now ≡ sent_after (spelled shown) before
 
--- Why not all lines were answered and all pushes made, what was sent, and which book is there then. After a fault of the
--- disk that is said by the moments of the run. No page is damaged.
-abbrev pub EndsSo : (List Series → Type 0) → List ℕ → LiveState → Option (List ℕ) → Option (List ℕ) → Option (List ℕ) → ServeEnd → Type 0
+-- What was done and sent, by how a run ended that answers from this state on, and which book is there then. After a fault
+-- of the disk that is said by the moments of the run.
+abbrev pub EndsSo : (List Series → Type 0) → List ℕ → LiveState → Option (List ℕ) → Option (List ℕ) → Option (List ℕ) → End → Type 0
+EndsSo IsThere input old left before now Done = SendsAll IsThere input old before now
+EndsSo IsThere input old left before now NoMemory = SendsSome IsThere input old before now
 EndsSo IsThere input old left before now ReadFault = SendsTaken IsThere input old before now left
 EndsSo IsThere input old left before now SendFault = SendsPart IsThere input old before now
 EndsSo IsThere input old left before now DiskFault = SendsLines input old before now
-EndsSo IsThere input old left before now (Damaged page) = ⊥
 EndsSo IsThere input old left before now InputTooLong = SendsWithin IsThere input old before now
-EndsSo IsThere input old left before now NoMemory = SendsSome IsThere input old before now
+EndsSo IsThere input old left before now end = ⊥
 
 -- Some first lines are answered and some pushes made, and the book that they leave is there. After so many bytes the
 -- spellings of all these frames were sent, or of all but the last one, and of that none, a part or all. So each edit whose

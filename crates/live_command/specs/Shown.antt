@@ -6,13 +6,13 @@ use Rattle.block_disk.specs.declared.streams.Streams as streams
 use Rattle.chart_service.specs.Moments.{Since}
 use Rattle.chart_service.specs.Shown as shown
 use Rattle.chart_service.specs.State.{IsSound}
-use Rattle.chart_service.specs.declared.failure.ServeEnd.{ServeEnd}
 use Rattle.chart_service.specs.declared.failure.ServiceError.{ServiceError}
 use Rattle.gate_pages.specs.declared.pages.Pages.{Ghosts}
 use Rattle.live_service.specs.Shown as its
 use Rattle.live_service.specs.declared.stepper.ServiceStepper.{ServiceStepper}
 use Rattle.live_view.specs.declared.live.Live.{Live}
 use Rattle.live_view.specs.declared.stepper.Stepper.{Ghosts as StepperGhosts}
+use Rattle.run_ends.specs.declared.ending.End.{End}
 use Rattle.series_book.specs.declared.one_series.Series.{Series}
 use Rattle.stored_book.specs.Standing.{StandsForBook}
 use Rattle.live_command.specs.Reads.{ReadsLines}
@@ -40,9 +40,9 @@ module _ {P : Type 0} {g : Ghosts P} {h : StepperGhosts (ServiceStepper P g) Ser
   abbrev pub AreAnswered : Type 0
   AreAnswered = IfSome (told.left (pages old)) (λ input. SendsAll Stands input (its.state old total book) (told.sent (pages old)) (told.sent (pages new)))
 
-  -- not all of them are
-  abbrev pub StopSo : ServeEnd → Type 0
-  StopSo end = IfSome (told.left (pages old)) (λ input. EndsSo Stands input (its.state old total book) (told.left (pages new)) (told.sent (pages old)) (told.sent (pages new)) end)
+  -- what was done and sent, by how the run ended
+  abbrev pub EndsOn : End → Type 0
+  EndsOn end = IfSome (told.left (pages old)) (λ input. EndsSo Stands input (its.state old total book) (told.left (pages new)) (told.sent (pages old)) (told.sent (pages new)) end)
 
   -- at each moment a crash leaves such a book
   abbrev pub LastsFor : Type 0

@@ -3,33 +3,34 @@ ghost use Rattle.std.specs.Prelude.{◌≡◌, ◌≢◌, ◌≤◌, ◌<◌, �
 ghost use Rattle.block_disk.specs.Counts.{HasRisen};
 ghost use Rattle.block_disk.specs.Streams.{sent_after};
 ghost use Rattle.chart_frames.specs.Frames.{Fits, spelling};
-ghost use Rattle.chart_service.specs.Faulting.{serve_fault};
-ghost use Rattle.chart_service.specs.Serving.{end_of_step, unless_empty};
+ghost use Rattle.chart_service.specs.Serving.{unless_empty};
 ghost use Rattle.chart_service.specs.Shown as shown;
 ghost use Rattle.chart_service.specs.Syncing.{edit_of, edits_of};
 ghost use Rattle.chart_world.specs.Faults.{CountsFault, fault_in};
 ghost use Rattle.live_service.specs.Shown as its;
 ghost use Rattle.live_view.specs.Live as follows;
-ghost use Rattle.live_command.specs.Doing.{DoesFor, FrameStops, Goes, IsCause, side_of};
+ghost use Rattle.run_ends.specs.Faults.{end_fault};
+ghost use Rattle.live_command.specs.Doing.{DoesFor, FrameStops, Goes, IsCause, side_of, step_end};
 ghost use Rattle.live_command.specs.Shown.{ForSound, pages};
 
 use block_disk::Streams;
 use chart_frames::{Frame, encode};
-use chart_service::{ServeEnd, ServiceError, refused};
+use chart_service::{ServiceError, refused};
 use gate_pages::PageWorld;
 use live_service::{ServiceStepper, push, step_line};
 use live_view::Live;
+use run_ends::End;
 use series_book::Refusal;
 use std::alloc::Global;
 
 /// What an error of a step is for the run.
-fn end_of_step(error: ServiceError) -> ServeEnd
-    ensures { result ≡ end_of_step error }
+fn step_end(error: ServiceError) -> End
+    ensures { result ≡ step_end error }
 {
     match error {
-        ServiceError::DiskFault => ServeEnd::DiskFault,
-        ServiceError::Damaged { page } => ServeEnd::Damaged { page },
-        ServiceError::NoMemory => ServeEnd::NoMemory,
+        ServiceError::DiskFault => End::DiskFault,
+        ServiceError::Damaged { page } => End::DamagedPage { page },
+        ServiceError::NoMemory => End::NoMemory,
     }
 }
 
@@ -38,23 +39,23 @@ fn send_frame<P: PageWorld>(
     alloc: Global,
     live: &mut Live<ServiceStepper<P>>,
     frame: &Frame,
-) -> Result<(), ServeEnd>
+) -> Result<(), End>
     requires { Fits frame.now }
     ensures whole { OnOk result (P.sent (pages live.new) ≡ sent_after (spelling frame.now) (P.sent (pages live.old))) }
     ensures stops { IfErr result (FrameStops frame.now (P.sent (pages live.old)) (P.sent (pages live.new))) }
-    ensures cause { result ≡ Err ServeEnd.SendFault → HasRisen (P.send_faults (pages live.old)) (P.send_faults (pages live.new)) }
-    ensures faults { CountsFault (fault_in serve_fault result) (its.view live.old) (its.view live.new) }
+    ensures cause { result ≡ Err End.SendFault → HasRisen (P.send_faults (pages live.old)) (P.send_faults (pages live.new)) }
+    ensures faults { CountsFault (fault_in end_fault result) (its.view live.old) (its.view live.new) }
     ensures send_faults { P.send_faults (pages live.old) ≤ P.send_faults (pages live.new) }
     ensures left { P.left (pages live.new) ≡ P.left (pages live.old) }
     ensures read_faults { P.read_faults (pages live.new) ≡ P.read_faults (pages live.old) }
     ensures beside { follows.Keeps (shown.Keeps (P.sends (length (spelling frame.now)) (pages live.old) (pages live.new)) (its.service live.old) (its.service live.new)) live.old live.new }
 {
     let Ok(bytes) = encode(alloc, frame) else {
-        return Err(ServeEnd::NoMemory);
+        return Err(End::NoMemory);
     };
     match live.send(bytes.as_slice()) {
         Ok(()) => Ok(()),
-        Err(_) => Err(ServeEnd::SendFault),
+        Err(_) => Err(End::SendFault),
     }
 }
 
@@ -62,14 +63,14 @@ fn send_frame<P: PageWorld>(
 pub(crate) fn refuse_line<P: PageWorld>(
     alloc: Global,
     live: &mut Live<ServiceStepper<P>>,
-) -> Result<(), ServeEnd>
+) -> Result<(), End>
     requires sound { (its.view live.old).fit }
     requires idle { follows.IsIdle live.old }
     ensures does { ForSound live.old (λ total book. DoesFor P.Streams (None ∷ []) total book result live.old live.new) }
     ensures goes { Goes (side_of P.Streams live.old) (side_of P.Streams live.new) }
     ensures cause { IfErr result (λ e. IsCause e (side_of P.Streams live.old) (side_of P.Streams live.new)) }
-    ensures faults { CountsFault (fault_in serve_fault result) (its.view live.old) (its.view live.new) }
-    ensures sound { result ≢ Err ServeEnd.DiskFault → (its.view live.new).fit }
+    ensures faults { CountsFault (fault_in end_fault result) (its.view live.old) (its.view live.new) }
+    ensures sound { result ≢ Err End.DiskFault → (its.view live.new).fit }
     ensures syncs { (its.view live.new).syncs ≡ (its.view live.old).syncs }
     ensures idle { OnOk result (follows.IsIdle live.new) }
     ensures left { P.left (pages live.new) ≡ P.left (pages live.old) }
@@ -82,36 +83,33 @@ fn answer_frame<P: PageWorld>(
     alloc: Global,
     live: &mut Live<ServiceStepper<P>>,
     line: &[u8],
-) -> Result<(), ServeEnd>
+) -> Result<(), End>
     requires sound { (its.view live.old).fit }
     requires idle { follows.IsIdle live.old }
     requires short { length line.now ≤ 8192 }
     ensures does { ForSound live.old (λ total book. DoesFor P.Streams (Some line.now ∷ []) total book result live.old live.new) }
     ensures goes { Goes (side_of P.Streams live.old) (side_of P.Streams live.new) }
     ensures cause { IfErr result (λ e. IsCause e (side_of P.Streams live.old) (side_of P.Streams live.new)) }
-    ensures faults { CountsFault (fault_in serve_fault result) (its.view live.old) (its.view live.new) }
-    ensures sound { result ≢ Err ServeEnd.DiskFault → (its.view live.new).fit }
+    ensures faults { CountsFault (fault_in end_fault result) (its.view live.old) (its.view live.new) }
+    ensures sound { result ≢ Err End.DiskFault → (its.view live.new).fit }
     ensures syncs { (its.view live.new).syncs ≤ (its.view live.old).syncs + 4 * length (edit_of (Some line.now)) }
     ensures left { P.left (pages live.new) ≡ P.left (pages live.old) }
 {
     match step_line(live, line) {
         Ok(frame) => send_frame(alloc, live, &frame),
-        Err(error) => Err(end_of_step(error)),
+        Err(error) => Err(step_end(error)),
     }
 }
 
 /// Makes the next pending push.
-fn send_push<P: PageWorld>(
-    alloc: Global,
-    live: &mut Live<ServiceStepper<P>>,
-) -> Result<(), ServeEnd>
+fn send_push<P: PageWorld>(alloc: Global, live: &mut Live<ServiceStepper<P>>) -> Result<(), End>
     requires sound { (its.view live.old).fit }
     requires some { follows.IsIdle live.old → ⊥ }
     ensures does { ForSound live.old (λ total book. DoesFor P.Streams [] total book result live.old live.new) }
     ensures goes { Goes (side_of P.Streams live.old) (side_of P.Streams live.new) }
     ensures cause { IfErr result (λ e. IsCause e (side_of P.Streams live.old) (side_of P.Streams live.new)) }
-    ensures faults { CountsFault (fault_in serve_fault result) (its.view live.old) (its.view live.new) }
-    ensures sound { result ≢ Err ServeEnd.DiskFault → (its.view live.new).fit }
+    ensures faults { CountsFault (fault_in end_fault result) (its.view live.old) (its.view live.new) }
+    ensures sound { result ≢ Err End.DiskFault → (its.view live.new).fit }
     ensures syncs { (its.view live.new).syncs ≡ (its.view live.old).syncs }
     ensures left { P.left (pages live.new) ≡ P.left (pages live.old) }
     ensures fewer { OnOk result (length (follows.pending live.new) < length (follows.pending live.old)) }
@@ -119,21 +117,18 @@ fn send_push<P: PageWorld>(
     match push(live) {
         Ok(Some(frame)) => send_frame(alloc, live, &frame),
         Ok(None) => Ok(()),
-        Err(error) => Err(end_of_step(error)),
+        Err(error) => Err(step_end(error)),
     }
 }
 
 /// Makes all pending pushes.
-fn send_pushes<P: PageWorld>(
-    alloc: Global,
-    live: &mut Live<ServiceStepper<P>>,
-) -> Result<(), ServeEnd>
+fn send_pushes<P: PageWorld>(alloc: Global, live: &mut Live<ServiceStepper<P>>) -> Result<(), End>
     requires { (its.view live.old).fit }
     ensures does { ForSound live.old (λ total book. DoesFor P.Streams [] total book result live.old live.new) }
     ensures goes { Goes (side_of P.Streams live.old) (side_of P.Streams live.new) }
     ensures cause { IfErr result (λ e. IsCause e (side_of P.Streams live.old) (side_of P.Streams live.new)) }
-    ensures faults { CountsFault (fault_in serve_fault result) (its.view live.old) (its.view live.new) }
-    ensures sound { result ≢ Err ServeEnd.DiskFault → (its.view live.new).fit }
+    ensures faults { CountsFault (fault_in end_fault result) (its.view live.old) (its.view live.new) }
+    ensures sound { result ≢ Err End.DiskFault → (its.view live.new).fit }
     ensures syncs { (its.view live.new).syncs ≡ (its.view live.old).syncs }
     ensures left { P.left (pages live.new) ≡ P.left (pages live.old) }
     ensures idle { OnOk result (follows.IsIdle live.new) }
@@ -152,15 +147,15 @@ pub(crate) fn answer_line<P: PageWorld>(
     alloc: Global,
     live: &mut Live<ServiceStepper<P>>,
     line: &[u8],
-) -> Result<(), ServeEnd>
+) -> Result<(), End>
     requires sound { (its.view live.old).fit }
     requires idle { follows.IsIdle live.old }
     requires short { length line.now ≤ 8192 }
     ensures does { ForSound live.old (λ total book. DoesFor P.Streams (unless_empty (Some line.now)) total book result live.old live.new) }
     ensures goes { Goes (side_of P.Streams live.old) (side_of P.Streams live.new) }
     ensures cause { IfErr result (λ e. IsCause e (side_of P.Streams live.old) (side_of P.Streams live.new)) }
-    ensures faults { CountsFault (fault_in serve_fault result) (its.view live.old) (its.view live.new) }
-    ensures sound { result ≢ Err ServeEnd.DiskFault → (its.view live.new).fit }
+    ensures faults { CountsFault (fault_in end_fault result) (its.view live.old) (its.view live.new) }
+    ensures sound { result ≢ Err End.DiskFault → (its.view live.new).fit }
     ensures syncs { (its.view live.new).syncs ≤ (its.view live.old).syncs + 4 * length (edits_of (unless_empty (Some line.now))) }
     ensures left { P.left (pages live.new) ≡ P.left (pages live.old) }
     ensures idle { OnOk result (follows.IsIdle live.new) }

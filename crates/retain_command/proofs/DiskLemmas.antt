@@ -1,6 +1,6 @@
--- What is done over a store on a disk, in the words of the disk.
-use Rattle.std.proofs.Common.{◌≡◌, ◌≢◌, ℕ, ◌≤◌, ◌^◌, Bool, List, length, Option, Some, None, Result, Ok, Err, IfSome, subst, inl, inr, arith}
-use Rattle.std.specs.Prelude.{IfErr, OnOk}
+-- How lines end over the store of a disk, in the words of the disk.
+use Rattle.std.proofs.Common.{◌≡◌, ◌≢◌, ◌∙◌, ℕ, ◌≤◌, ◌^◌, Bool, List, length, Option, Some, None, IfSome, refl, sym, subst, inl, inr, arith}
+use Rattle.block_disk.specs.SentLaws.{sent_none}
 use Rattle.block_disk.specs.View.{Image, View, Honest, sent_now}
 use Rattle.chart_service.specs.MomentLaws.{since_both}
 use Rattle.chart_service.specs.Moments.{Since}
@@ -8,49 +8,60 @@ use Rattle.chart_service.proofs.DiskKept.{risen_since}
 use Rattle.disk_store.proofs.Lowered.{lowered_is, lowered_readable}
 use Rattle.disk_store.specs.Held.{HoldsBook}
 use Rattle.disk_store.specs.Openings.{Opens}
+use Rattle.disk_store.specs.declared.causes.OpeningCause.{OpeningCause}
+use Rattle.disk_store.specs.declared.causes.OpeningCause.TheVariants as opening
 use Rattle.gate_pages.specs.GateLaws.{goes_then}
 use Rattle.gate_pages.specs.GatePages.{IsClosed, PagesOf, pages_view}
 use Rattle.gate_pages.specs.Journal.{page_count, pages_of}
-use Rattle.gate_pages.specs.Pages.{GoesOn}
+use Rattle.run_ends.specs.Statuses.{block_of}
+use Rattle.run_ends.specs.declared.ending.End.{End}
+use Rattle.run_ends.specs.declared.ending.End.TheVariants.{Done, NoMemory, ReadFault, SendFault, DiskFault, DamagedPage}
+use Rattle.run_ends.specs.declared.ending.End.TheVariants.{BadInput, InputTooLong, NoSeries}
 use Rattle.series_book.specs.declared.one_series.Series.{Series}
 use Rattle.stored_book.proofs.CurrentLemmas.{recovers_new}
+use Rattle.stored_book.specs.Damage.{IsBadForRequest}
 use Rattle.stored_book.specs.Standing.{StandsForBook, RecoversTo}
 use Rattle.store_commands.proofs.Damages.{later_bad}
 use Rattle.store_commands.proofs.Held.{RestsNew, held, holds_so, stands_held, within_held}
+use Rattle.store_commands.proofs.HoldsAgain.{again_opened, again_told}
+use Rattle.store_commands.proofs.InputLemmas.{any_told}
 use Rattle.store_commands.proofs.Moments.{opened_goes, opened_quiet, since_opened}
-use Rattle.store_commands.specs.Books.{Stands, Holds, OfPages}
-use Rattle.retain_command.specs.Answers.{book_behind}
+use Rattle.store_commands.proofs.WorldLemmas.{IsUnopened}
+use Rattle.store_commands.specs.Books.{HoldsAgain, OfBook, OfPages, Stands, Holds}
+use Rattle.store_commands.specs.Codes.{too_small, unopened}
+use Rattle.store_commands.specs.Damaged.{IsDamagedLater}
 use Rattle.store_commands.specs.Sides.{Side}
-use Rattle.retain_command.specs.Doing.{IsCause}
-use Rattle.retain_command.specs.Retained.{LeavesSwept, RetainsAll}
-use Rattle.retain_command.specs.Retaining.{IsEndCause, StopsAt, Swept}
+use Rattle.store_commands.specs.Status.{opening_end}
+use Rattle.store_commands.specs.Traffic.{Traffic}
+use Rattle.retain_command.specs.Answers.{book_behind}
+use Rattle.retain_command.specs.Doing.{Goes, IsCause}
+use Rattle.retain_command.specs.Retained.{IsRetainCause, LeavesSwept, RetainEnds}
 use Rattle.retain_command.specs.Sweeping.{EndsSo, IsAhead, SweepsAll, SweepsFirst, left_by}
-use Rattle.retain_command.specs.declared.retain_end.RetainEnd.{RetainEnd}
-use Rattle.retain_command.specs.declared.retain_end.RetainEnd.TheVariants.{BadLine, UnknownSeries, ReadFault, SendFault, InputTooLong, DiskFault, Damaged, NoMemory}
 use Rattle.retain_command.proofs.RuleLemmas.{no_rules}
 
 -- ---- the same of a book that is there otherwise
 
 module _ (IsThere IsThat : List Series → Type 0) (total : ℕ) (book : List Series) (input : List ℕ) (before now : Option (List ℕ)) (so : (after : List Series) → IsThere after → IsThat after) where
-  pub all_so : SweepsAll IsThere total book input before now → SweepsAll IsThat total book input before now
+  all_so : SweepsAll IsThere total book input before now → SweepsAll IsThat total book input before now
   all_so s = record { rules = s.rules; are = s.are; there = so (book_behind total book s.rules) s.there; sent = s.sent }
 
   first_so : SweepsFirst IsThere total book input before now → SweepsFirst IsThat total book input before now
   first_so s = record { first = s.first; there = so (left_by total book input s.first) s.there; sent = s.sent }
 
-  pub ends_so : (left : Option (List ℕ)) (end : RetainEnd) → EndsSo IsThere total book input left before now end → EndsSo IsThat total book input left before now end
+  ends_so : (left : Option (List ℕ)) (end : End) → EndsSo IsThere total book input left before now end → EndsSo IsThat total book input left before now end
   unfolding first_so
-  ends_so left (BadLine at) s = record { swept = first_so s.swept; line = s.line; next = s.next; some = s.some; none = s.none; at_is = s.at_is }
-  ends_so left (UnknownSeries at) s = record { swept = first_so s.swept; line = s.line; next = s.next; rule = s.rule; says_it = s.says_it; unknown = s.unknown; at_is = s.at_is }
-  ends_so left ReadFault s = record { swept = first_so s.swept; whole = s.whole; behind = s.behind }
-  ends_so left SendFault s = record { first = s.first; rule = s.rule; next = s.next; there = so _ s.there; between = s.between; sent = s.sent; part = s.part }
-  ends_so left InputTooLong s = record { swept = first_so s.swept; unended = s.unended; past = s.past }
-  ends_so left DiskFault s = s
-  ends_so left (Damaged page) s = s
+  ends_so left Done s = all_so s
   ends_so left NoMemory (inl s) = inl (first_so s)
   ends_so left NoMemory (inr s) = inr (record { first = s.first; rule = s.rule; next = s.next; done = s.done; few = s.few; there = so _ s.there; sent = s.sent })
+  ends_so left ReadFault s = record { swept = first_so s.swept; whole = s.whole; behind = s.behind }
+  ends_so left SendFault s = record { first = s.first; rule = s.rule; next = s.next; there = so _ s.there; between = s.between; sent = s.sent; part = s.part }
+  ends_so left DiskFault s = s
+  ends_so left (BadInput at) s = record { swept = first_so s.swept; line = s.line; next = s.next; some = s.some; none = s.none; at_is = s.at_is }
+  ends_so left InputTooLong s = record { swept = first_so s.swept; unended = s.unended; past = s.past }
+  ends_so left (NoSeries at) s = record { swept = first_so s.swept; line = s.line; next = s.next; rule = s.rule; says_it = s.says_it; unknown = s.unknown; at_is = s.at_is }
+  ends_so left end s = absurd s
 
-pub ahead_so : (IsThere IsThat : List Series → Type 0) (total : ℕ) (book : List Series) (input : List ℕ) (from sent : ℕ) → ((after : List Series) → IsThere after → IsThat after) → IsAhead IsThere total book input from sent → IsAhead IsThat total book input from sent
+ahead_so : (IsThere IsThat : List Series → Type 0) (total : ℕ) (book : List Series) (input : List ℕ) (from sent : ℕ) → ((after : List Series) → IsThere after → IsThat after) → IsAhead IsThere total book input from sent → IsAhead IsThat total book input from sent
 ahead_so IsThere IsThat total book input from sent so a = record {
   first = a.first;
   state = elim a.state [
@@ -68,7 +79,7 @@ ahead_book pages total book input from sent a = elim a.state [
 ]
 
 -- what is ahead in all pages that a crash may leave is so in each image that it may leave
-pub ahead_on : (total : ℕ) (book : List Series) (input : List ℕ) (from sent count : ℕ) (crash : Image → Type 0) → total ≤ count → ((pages : Image) → PagesOf count crash pages → IsAhead (Stands total pages) total book input from sent) → (image : Image) → crash image → IsAhead (λ after. RecoversTo count image total after) total book input from sent
+ahead_on : (total : ℕ) (book : List Series) (input : List ℕ) (from sent count : ℕ) (crash : Image → Type 0) → total ≤ count → ((pages : Image) → PagesOf count crash pages → IsAhead (Stands total pages) total book input from sent) → (image : Image) → crash image → IsAhead (λ after. RecoversTo count image total after) total book input from sent
 ahead_on total book input from sent count crash within all image left =
     let Q : Image → Type 0 = λ pages. IsAhead (Stands total pages) total book input from sent in
     let total_of : (pages : Image) → Q pages → ℕ = λ pages is. total in
@@ -79,146 +90,130 @@ ahead_on total book input from sent count crash within all image left =
     (lowered_is count crash Q total_of book_of stand all image left)
 
 -- before the first line
-pub ahead_none : (total : ℕ) (book : List Series) (input : List ℕ) (from count : ℕ) (image : Image) → RecoversTo count image total book → IsAhead (λ after. RecoversTo count image total after) total book input from from
+ahead_none : (total : ℕ) (book : List Series) (input : List ℕ) (from count : ℕ) (image : Image) → RecoversTo count image total book → IsAhead (λ after. RecoversTo count image total after) total book input from from
 ahead_none total book input from count image is = record { first = no_rules total book input; state = inl (is, omega arith) }
 
--- ---- the lines of an input over the pages of a disk, which is at rest afterwards unless a call of it failed
-
-module _ (count count' : ℕ) (sound sound' : Bool) (old new : View) (same : count' ≡ count) (told : Honest old → Honest new) (goes : GoesOn old new) (rests : RestsNew count old) where
-  pub done_on : (left before now : Option (List ℕ)) → OfPages count old (λ total book. IfSome left (λ input. SweepsAll (Stands total (pages_of count' new.image)) total book input before now)) → IsClosed new → IfSome left (λ input. RetainsAll count old new input before now)
-  done_on None before now all closed = tt
-  done_on (Some input) before now all closed = λ total book holds.
-      all_so (Stands total (pages_of count' new.image)) (Holds count total new) total book input before now (holds_so count count' old new same told total book holds closed) (all total book holds.honest (stands_held count total book old rests holds))
-
-  end_on : (total : ℕ) (book : List Series) (input : List ℕ) (left before now : Option (List ℕ)) (end : RetainEnd) → HoldsBook count total book old → (end ≢ DiskFault → IsClosed new) → EndsSo (Stands total (pages_of count' new.image)) total book input left before now end → EndsSo (Holds count total new) total book input left before now end
-  end_on total book input left before now DiskFault holds closed s = s
-  end_on total book input left before now (BadLine at) holds closed s = ends_so (Stands total (pages_of count' new.image)) (Holds count total new) total book input before now (holds_so count count' old new same told total book holds (closed (λ is. cc))) left (BadLine at) s
-  end_on total book input left before now (UnknownSeries at) holds closed s = ends_so (Stands total (pages_of count' new.image)) (Holds count total new) total book input before now (holds_so count count' old new same told total book holds (closed (λ is. cc))) left (UnknownSeries at) s
-  end_on total book input left before now ReadFault holds closed s = ends_so (Stands total (pages_of count' new.image)) (Holds count total new) total book input before now (holds_so count count' old new same told total book holds (closed (λ is. cc))) left ReadFault s
-  end_on total book input left before now SendFault holds closed s = ends_so (Stands total (pages_of count' new.image)) (Holds count total new) total book input before now (holds_so count count' old new same told total book holds (closed (λ is. cc))) left SendFault s
-  end_on total book input left before now InputTooLong holds closed s = ends_so (Stands total (pages_of count' new.image)) (Holds count total new) total book input before now (holds_so count count' old new same told total book holds (closed (λ is. cc))) left InputTooLong s
-  end_on total book input left before now (Damaged page) holds closed s = absurd s
-  end_on total book input left before now NoMemory holds closed s = ends_so (Stands total (pages_of count' new.image)) (Holds count total new) total book input before now (holds_so count count' old new same told total book holds (closed (λ is. cc))) left NoMemory s
-
-  pub stops_on : (left left' before now : Option (List ℕ)) (end : RetainEnd) → OfPages count old (λ total book. IfSome left (λ input. EndsSo (Stands total (pages_of count' new.image)) total book input left' before now end)) → (end ≢ DiskFault → IsClosed new) → IfSome left (λ input. StopsAt count old new input left' before now end)
-  stops_on None left' before now end all closed = tt
-  stops_on (Some input) left' before now end all closed = λ total book holds. end_on total book input left' before now end holds closed (all total book holds.honest (stands_held count total book old rests holds))
-
-  pub crash_on : (left before : Option (List ℕ)) → OfPages count old (λ total book. IfSome left (λ input. IfSome before (λ bytes. Since (pages_view count sound old) (pages_view count' sound' new) (λ pages sent. IsAhead (λ after. StandsForBook pages total after) total book input (sent_now (pages_view count sound old)) sent))))
-      → IfSome left (λ input. IfSome before (λ bytes. LeavesSwept count input old new))
-  crash_on None before all = tt
-  crash_on (Some input) None all = tt
-  crash_on (Some input) (Some bytes) all = λ total book holds.
-      let since = all total book holds.honest (stands_held count total book old rests holds) in
-      record {
-        goes = goes;
-        here = λ at image low high left.
-            let P : ℕ → Type 0 = λ c. (pages : Image) → PagesOf c (new.crash at) pages → IsAhead (λ after. StandsForBook pages total after) total book input (sent_now old) (new.sent_by at) in
-            let each : P count' = λ pages found. since.here at pages low high found in
-            ahead_on total book input (sent_now old) (new.sent_by at) count (new.crash at) (within_held count total book old holds) (subst P same each) image left;
-      }
-
--- ---- the store is opened first
-
-module _ (old mid new : View) (opens : Opens (page_count old.size) old mid) (same_faults : mid.faults ≡ old.faults) where
-  done_opened : (left before now : Option (List ℕ)) → IfSome left (λ input. RetainsAll (page_count old.size) mid new input before now) → IfSome left (λ input. RetainsAll (page_count old.size) old new input before now)
-  done_opened None before now all = tt
-  done_opened (Some input) before now all = λ total book holds. all total book (held old mid opens total book holds)
-
-  stops_opened : (left left' before now : Option (List ℕ)) (end : RetainEnd) → IfSome left (λ input. StopsAt (page_count old.size) mid new input left' before now end) → IfSome left (λ input. StopsAt (page_count old.size) old new input left' before now end)
-  stops_opened None left' before now end all = tt
-  stops_opened (Some input) left' before now end all = λ total book holds. all total book (held old mid opens total book holds)
-
-  crash_opened : (left before : Option (List ℕ)) → IfSome left (λ input. IfSome before (λ bytes. LeavesSwept (page_count old.size) input mid new)) → IfSome left (λ input. IfSome before (λ bytes. LeavesSwept (page_count old.size) input old new))
-  crash_opened None before all = tt
-  crash_opened (Some input) None all = tt
-  crash_opened (Some input) (Some bytes) all = λ total book holds.
-      let count = page_count old.size in
-      let IsSo : Image → ℕ → Type 0 = λ image sent. IsAhead (λ after. RecoversTo count image total after) total book input (sent_now old) sent in
-      let P : ℕ → Type 0 = λ from. Since mid new (λ image sent. IsAhead (λ after. RecoversTo count image total after) total book input from sent) in
-      since_both old mid new IsSo (since_opened IsSo old mid total book opens holds (λ image is. ahead_none total book input (sent_now old) count image is))
-      (subst P (opened_quiet old mid opens) (all total book (held old mid opens total book holds)))
-
-  cause_opened : (end : RetainEnd) (reads reads_now sends sends_now : ℕ) → IsEndCause end (page_count old.size) mid new reads reads_now sends sends_now → IsEndCause end (page_count old.size) old new reads reads_now sends sends_now
-  cause_opened (BadLine at) reads reads_now sends sends_now is = tt
-  cause_opened (UnknownSeries at) reads reads_now sends sends_now is = tt
-  cause_opened ReadFault reads reads_now sends sends_now is = is
-  cause_opened SendFault reads reads_now sends sends_now is = is
-  cause_opened InputTooLong reads reads_now sends sends_now is = tt
-  cause_opened DiskFault reads reads_now sends sends_now is = risen_since old.faults mid.faults new.faults same_faults is
-  cause_opened (Damaged page) reads reads_now sends sends_now is = is
-  cause_opened NoMemory reads reads_now sends sends_now is = tt
-
-  pub swept_opened : {T : Type 0} (left left' before now : Option (List ℕ)) (reads reads_now sends sends_now : ℕ) (answer : Result T RetainEnd) → Swept (page_count old.size) mid new left left' before now reads reads_now sends sends_now answer → Swept (page_count old.size) old new left left' before now reads reads_now sends sends_now answer
-  swept_opened {T} left left' before now reads reads_now sends sends_now (Ok v) s = record {
-    done = done_opened left before now s.done;
-    within = s.within;
-    stops = tt;
-    crash = crash_opened left before s.crash;
-    cause = tt;
-    goes_on = goes_then old mid new (opened_goes old mid opens) s.goes_on;
-    faults = omega (arith, opens.faults, s.faults);
-  }
-  swept_opened {T} left left' before now reads reads_now sends sends_now (Err end) s = record {
-    done = tt;
-    within = tt;
-    stops = stops_opened left left' before now end s.stops;
-    crash = crash_opened left before s.crash;
-    cause = cause_opened end reads reads_now sends sends_now s.cause;
-    goes_on = goes_then old mid new (opened_goes old mid opens) s.goes_on;
-    faults = omega (arith, opens.faults, s.faults);
-  }
-
--- ---- all that was done over the store of a disk
+-- ---- a store was opened
 
 abbrev pub disk_side : ℕ → Bool → View → ℕ → ℕ → ℕ → Side
 disk_side count sound disk total reads sends = record { told = Honest disk; view = pages_view count sound disk; under = disk; total = total; read_faults = reads; send_faults = sends }
 
-module _ (count count' : ℕ) (sound sound' : Bool) (old new : View) (same : count' ≡ count) (told : Honest old → Honest new) (goes : GoesOn old new) (rests : RestsNew count old) (total total' reads reads_now sends sends_now : ℕ) (few : total ≤ count') where
-  cause_on : (end : RetainEnd) → IsCause end (disk_side count sound old total reads sends) (disk_side count' sound' new total' reads_now sends_now) → IsEndCause end count old new reads reads_now sends sends_now
-  cause_on (BadLine at) is = tt
-  cause_on (UnknownSeries at) is = tt
-  cause_on ReadFault is = is
-  cause_on SendFault is = is
-  cause_on InputTooLong is = tt
-  cause_on DiskFault is = is
-  cause_on (Damaged page) is = later_bad count count' new page same (omega (arith, is.0, few)) is.1
-  cause_on NoMemory is = tt
+-- Lines were swept over its pages, and its disk is at rest afterwards unless a call of it failed.
+module _ (count count' : ℕ) (sound sound' : Bool) (first old new : View) (total total' : ℕ) (t : Traffic) (goes : Goes (disk_side count sound old total t.reads t.sends) (disk_side count' sound' new total' t.reads_now t.sends_now)) (rests : RestsNew count old) (few : total ≤ count) (counted : count ≡ page_count first.size) (opens : Opens (page_count first.size) first old) (quiet : old.faults ≡ first.faults) where
+  -- the disk holds the book once the store is open
+  held_open : (total : ℕ) (book : List Series) → HoldsBook (page_count first.size) total book first → HoldsBook count total book old
+  held_open total book holds = let C : ℕ → Type 0 = λ n. HoldsBook n total book old in subst C (sym counted) (held first old opens total book holds)
 
-  pub swept_by : {T : Type 0} (answer : Result T RetainEnd) (left left' before now : Option (List ℕ))
-      → ((total : ℕ) (book : List Series) → Honest old → StandsForBook (pages_of count old.image) total book → OnOk answer (IfSome left (λ input. SweepsAll (Stands total (pages_of count' new.image)) total book input before now)))
-      → OnOk answer (IfSome left (λ input. length input ≤ 2 ^ 32))
-      → ((total : ℕ) (book : List Series) → Honest old → StandsForBook (pages_of count old.image) total book → IfErr answer (λ end. IfSome left (λ input. EndsSo (Stands total (pages_of count' new.image)) total book input left' before now end)))
-      → ((total : ℕ) (book : List Series) → Honest old → StandsForBook (pages_of count old.image) total book → IfSome left (λ input. IfSome before (λ bytes. Since (pages_view count sound old) (pages_view count' sound' new) (λ pages sent. IsAhead (λ after. StandsForBook pages total after) total book input (sent_now (pages_view count sound old)) sent))))
-      → IfErr answer (λ end. IsCause end (disk_side count sound old total reads sends) (disk_side count' sound' new total' reads_now sends_now))
-      → (answer ≢ Err DiskFault → IsClosed new) → old.faults ≤ new.faults → Swept count old new left left' before now reads reads_now sends sends_now answer
-  swept_by {T} (Ok v) left left' before now done within stops crash cause closed faults = record {
-    done = done_on count count' sound sound' old new same told goes rests left before now done (closed (λ is. cc));
-    within = within;
-    stops = tt;
-    crash = crash_on count count' sound sound' old new same told goes rests left before crash;
-    cause = tt;
-    goes_on = goes;
-    faults = faults;
-  }
-  swept_by {T} (Err end) left left' before now done within stops crash cause closed faults = record {
-    done = tt;
-    within = tt;
-    stops = stops_on count count' sound sound' old new same told goes rests left left' before now end stops (λ other. closed (λ is. other (cc)));
-    crash = crash_on count count' sound sound' old new same told goes rests left before crash;
-    cause = cause_on end cause;
-    goes_on = goes;
-    faults = faults;
-  }
+  cause_on : (end : End) → (end ≡ Done → IfSome t.left (λ input. length input ≤ 2 ^ 32)) → (end ≢ Done → IsCause end (disk_side count sound old total t.reads t.sends) (disk_side count' sound' new total' t.reads_now t.sends_now)) → IsRetainCause end first new t
+  cause_on Done within cause = within refl
+  cause_on NoMemory within cause = tt
+  cause_on ReadFault within cause = cause (λ is. cc)
+  cause_on SendFault within cause = cause (λ is. cc)
+  cause_on DiskFault within cause = risen_since first.faults old.faults new.faults quiet (cause (λ is. cc))
+  cause_on (DamagedPage page) within cause =
+      let is = cause (λ is. cc) in
+      let C : ℕ → Type 0 = λ n. IsDamagedLater IsBadForRequest n new (block_of page) in
+      subst C counted (later_bad count count' new page goes.size (omega (arith, is.0, few, goes.size)) is.1)
+  cause_on (BadInput at) within cause = tt
+  cause_on InputTooLong within cause = tt
+  cause_on (NoSeries at) within cause = tt
+  cause_on end within cause = absurd (cause (λ is. cc))
 
--- the same of a store that was opened
-pub swept_on : {T : Type 0} (count : ℕ) (old start new : View) (left_start left left' before_start before now : Option (List ℕ)) (reads_start reads reads_now sends_start sends sends_now : ℕ) (answer : Result T RetainEnd) → count ≡ page_count old.size → Opens (page_count old.size) old start → start.faults ≡ old.faults
-    → left_start ≡ left → before_start ≡ before → reads_start ≡ reads → sends_start ≡ sends → Swept count start new left_start left' before_start now reads_start reads_now sends_start sends_now answer
-    → Swept (page_count old.size) old new left left' before now reads reads_now sends sends_now answer
-swept_on {T} count old start new left_start left left' before_start before now reads_start reads reads_now sends_start sends sends_now answer counted opens same_faults same_left same_sent same_reads same_sends s =
-    let C : ℕ → Type 0 = λ n. Swept n start new left_start left' before_start now reads_start reads_now sends_start sends_now answer in
-    let L : Option (List ℕ) → Type 0 = λ l. Swept (page_count old.size) start new l left' before_start now reads_start reads_now sends_start sends_now answer in
-    let B : Option (List ℕ) → Type 0 = λ b. Swept (page_count old.size) start new left left' b now reads_start reads_now sends_start sends_now answer in
-    let D : ℕ → Type 0 = λ n. Swept (page_count old.size) start new left left' before now n reads_now sends_start sends_now answer in
-    let S : ℕ → Type 0 = λ n. Swept (page_count old.size) start new left left' before now reads reads_now n sends_now answer in
-    swept_opened old start new opens same_faults left left' before now reads reads_now sends sends_now answer (subst S same_sends (subst D same_reads (subst B same_sent (subst L same_left (subst C counted s)))))
+  -- the pages of the store
+  abbrev SweptOn : ℕ → List Series → List ℕ → End → Type 0
+  SweptOn total book input end = EndsSo (Stands total (pages_of count' new.image)) total book input t.left_now t.sent t.sent_now end
+
+  abbrev SweptBy : ℕ → ℕ → List Series → List ℕ → End → Type 0
+  SweptBy n total book input end = EndsSo (Holds n total new) total book input t.left_now t.sent t.sent_now end
+
+  end_on : (total : ℕ) (book : List Series) (input : List ℕ) (end : End) → HoldsBook count total book old → (end ≢ DiskFault → IsClosed new) → SweptOn total book input end → SweptBy count total book input end
+  end_on total book input DiskFault holds closed s = s
+  end_on total book input end holds closed s = ends_so (Stands total (pages_of count' new.image)) (Holds count total new) total book input t.sent t.sent_now (holds_so count count' old new goes.size goes.is_told total book holds (closed (λ is. cc))) t.left_now end s
+
+  does_on : (left : Option (List ℕ)) (end : End) → OfPages count old (λ total book. IfSome left (λ input. SweptOn total book input end)) → (end ≢ DiskFault → IsClosed new) → IfSome left (λ input. OfBook (page_count first.size) first (λ total book. SweptBy (page_count first.size) total book input end))
+  does_on None end all closed = tt
+  does_on (Some input) end all closed = λ total book holds.
+      let here = held_open total book holds in
+      let C : ℕ → Type 0 = λ n. SweptBy n total book input end in
+      subst C counted (end_on total book input end here closed (all total book here.honest (stands_held count total book old rests here)))
+
+  crash_on : (left before : Option (List ℕ)) → OfPages count old (λ total book. IfSome left (λ input. IfSome before (λ bytes. Since (pages_view count sound old) (pages_view count' sound' new) (λ pages sent. IsAhead (Stands total pages) total book input (sent_now (pages_view count sound old)) sent))))
+      → IfSome left (λ input. IfSome before (λ bytes. LeavesSwept (page_count first.size) input first new))
+  crash_on None before all = tt
+  crash_on (Some input) None all = tt
+  crash_on (Some input) (Some bytes) all = λ total book holds.
+      let here = held_open total book holds in
+      let since = all total book here.honest (stands_held count total book old rests here) in
+      let Leaves : ℕ → ℕ → Image → ℕ → Type 0 = λ n from image sent. IsAhead (λ after. RecoversTo n image total after) total book input from sent in
+      let later : Since old new (Leaves count (sent_now old)) = record {
+        goes = goes.goes_on;
+        here = λ at image low high left.
+            let P : ℕ → Type 0 = λ c. (pages : Image) → PagesOf c (new.crash at) pages → IsAhead (Stands total pages) total book input (sent_now old) (new.sent_by at) in
+            let each : P count' = λ pages found. since.here at pages low high found in
+            ahead_on total book input (sent_now old) (new.sent_by at) count (new.crash at) (within_held count total book old here) (subst P goes.size each) image left;
+      } in
+      let n = page_count first.size in
+      let C : ℕ → Type 0 = λ m. Since old new (Leaves m (sent_now old)) in
+      let F : ℕ → Type 0 = λ from. Since old new (Leaves n from) in
+      since_both first old new (Leaves n (sent_now first)) (since_opened (Leaves n (sent_now first)) first old total book opens holds (λ image is. ahead_none total book input (sent_now first) n image is))
+      (subst F (opened_quiet first old opens) (subst C counted later))
+
+  next_held : (n total : ℕ) (book : List Series) (input : List ℕ) (end : End) → end ≢ DiskFault → SweptBy n total book input end → (next : List Series) × HoldsBook n total next new
+  next_held n total book input Done other s = (_, s.there)
+  next_held n total book input NoMemory other (inl s) = (_, s.there)
+  next_held n total book input NoMemory other (inr s) = (_, s.there)
+  next_held n total book input ReadFault other s = (_, s.swept.there)
+  next_held n total book input SendFault other s = (_, s.there)
+  next_held n total book input DiskFault other s = absurd (other refl)
+  next_held n total book input (BadInput at) other s = (_, s.swept.there)
+  next_held n total book input InputTooLong other s = (_, s.swept.there)
+  next_held n total book input (NoSeries at) other s = (_, s.swept.there)
+  next_held n total book input end other s = absurd s
+
+  pub retained_by : (end : End) → (end ≡ Done → IfSome t.left (λ input. length input ≤ 2 ^ 32))
+      → (end ≢ Done → IsCause end (disk_side count sound old total t.reads t.sends) (disk_side count' sound' new total' t.reads_now t.sends_now))
+      → OfPages count old (λ total book. IfSome t.left (λ input. SweptOn total book input end))
+      → OfPages count old (λ total book. IfSome t.left (λ input. IfSome t.sent (λ bytes. Since (pages_view count sound old) (pages_view count' sound' new) (λ pages sent. IsAhead (Stands total pages) total book input (sent_now (pages_view count sound old)) sent))))
+      → (end ≢ DiskFault → IsClosed new) → RetainEnds first new t end
+  retained_by end within cause ends crash closed =
+      let n = page_count first.size in
+      let does = does_on t.left end ends closed in
+      record {
+        cause = cause_on end within cause;
+        does = does;
+        holds = λ other. again_told n first new t.left (λ total book input. SweptBy n total book input end) (λ total book input s. next_held n total book input end other s) does;
+        crash = crash_on t.left t.sent crash;
+        goes_on = goes_then first old new (opened_goes first old opens) goes.goes_on;
+      }
+
+-- ---- no store was opened
+
+module _ (old new : View) (t : Traffic) where
+  unopened_cause : (cause : OpeningCause) → IsUnopened old new t.left t.left_now t.sent t.sent_now cause → IsRetainCause (opening_end cause) old new t
+  unopened_cause (opening.TooSmall size) u = (u.prevents.0, omega (arith, u.prevents.0, u.prevents.1))
+  unopened_cause (opening.Damaged block) u = (u.prevents.1, (u.left_is, u.sent_is))
+  unopened_cause opening.DiskFault u = u.prevents
+  unopened_cause opening.NoMemory u = tt
+
+  unopened_does : (input : List ℕ) (cause : OpeningCause) → IsUnopened old new t.left t.left_now t.sent t.sent_now cause → OfBook (page_count old.size) old (λ total book. EndsSo (Holds (page_count old.size) total new) total book input t.left_now t.sent t.sent_now (opening_end cause))
+  unopened_does input (opening.TooSmall size) u = λ total book holds. absurd (too_small size (u.outside total book holds))
+  unopened_does input (opening.Damaged block) u = λ total book holds. absurd (unopened block (u.outside total book holds))
+  unopened_does input opening.DiskFault u = λ total book holds. record { first = no_rules total book input; sent = u.sent_is ∙ sent_none t.sent }
+  unopened_does input opening.NoMemory u = λ total book holds.
+      inl (record { first = no_rules total book input; there = held old new u.opens total book holds; sent = u.sent_is ∙ sent_none t.sent })
+
+  unopened_crash : (input : List ℕ) → Opens (page_count old.size) old new → LeavesSwept (page_count old.size) input old new
+  unopened_crash input opens = λ total book holds.
+      let n = page_count old.size in
+      since_opened (λ image sent. IsAhead (λ after. RecoversTo n image total after) total book input (sent_now old) sent) old new total book opens holds (λ image is. ahead_none total book input (sent_now old) n image is)
+
+  pub unopened_ends : (cause : OpeningCause) (end : End) → end ≡ opening_end cause → IsUnopened old new t.left t.left_now t.sent t.sent_now cause → RetainEnds old new t end
+  unopened_ends cause end same u =
+      let E : End → Type 0 = λ e. RetainEnds old new t e in
+      subst E (sym same) (record {
+        cause = unopened_cause cause u;
+        does = any_told t.left _ (λ input. unopened_does input cause u);
+        holds = λ other. any_told t.left (λ input. HoldsAgain (page_count old.size) old new) (λ input. again_opened old new u.opens);
+        crash = any_told t.left (λ input. IfSome t.sent (λ bytes. LeavesSwept (page_count old.size) input old new)) (λ input. any_told t.sent (λ bytes. LeavesSwept (page_count old.size) input old new) (λ bytes. unopened_crash input u.opens));
+        goes_on = opened_goes old new u.opens;
+      })

@@ -8,6 +8,8 @@ use Rattle.line_runs.specs.MomentLaws.{through_none, through_by, through_so, thr
 use Rattle.line_runs.specs.Moments.{Through}
 use Rattle.gate_pages.proofs.Moving.{sent_same}
 use Rattle.gate_pages.specs.Pages.{Quiet}
+use Rattle.run_ends.specs.declared.ending.End.{End}
+use Rattle.run_ends.specs.declared.ending.End.TheVariants.{NoMemory, SendFault, DiskFault, BadInput, NoSeries}
 use Rattle.series_book.specs.declared.one_series.Series.{Series}
 use Rattle.series_book.specs.EditLists.{after_edits}
 use Rattle.stored_book.specs.Standing.{StandsForBook}
@@ -21,8 +23,6 @@ use Rattle.retention.specs.declared.swept.Swept.{Swept}
 use Rattle.retain_command.specs.Answers.{answer, swept_text}
 use Rattle.retain_command.specs.Doing.{DoesLine, DoesRule, LineMoment, LineStops, RuleMoment, RuleStops, TextStops, Untouched, end_at}
 use Rattle.retain_command.specs.Rules.{Spells, SaysNone}
-use Rattle.retain_command.specs.declared.retain_end.RetainEnd.{RetainEnd}
-use Rattle.retain_command.specs.declared.retain_end.RetainEnd.TheVariants.{BadLine, UnknownSeries, ReadFault, SendFault, InputTooLong, DiskFault, Damaged, NoMemory}
 
 abbrev failed : SweepError → Result Swept SweepError
 failed error = Err error
@@ -73,10 +73,10 @@ module _ (total : ℕ) (book : List Series) (rule : Rule) (at : ℕ) (old new : 
   stop_so (sweep.Damaged page) unknown same stands unsent stops = absurd stops
   stop_so sweep.NoMemory unknown same stands unsent stops = record { there = there_err book rule sweep.NoMemory unknown (λ is. cc); some = stops; unsent = unsent }
 
-  pub rule_stopped : {T : Type 0} (error : SweepError) (end : RetainEnd) → end ≡ end_at at error → (failed error ≡ failed sweep.UnknownSeries) ↔ NamesNone book rule → (failed error ≡ failed sweep.UnknownSeries → new ≡ old) → StandsForBook old.image total book → now ≡ before → StopsSo total book rule new.image error → Passes old new (IsAfterSome total book rule) (Quiet old)
+  pub rule_stopped : {T : Type 0} (error : SweepError) (end : End) → end ≡ end_at at error → (failed error ≡ failed sweep.UnknownSeries) ↔ NamesNone book rule → (failed error ≡ failed sweep.UnknownSeries → new ≡ old) → StandsForBook old.image total book → now ≡ before → StopsSo total book rule new.image error → Passes old new (IsAfterSome total book rule) (Quiet old)
       → DoesRule {T = T} total book rule at (Err end) old new before now
   rule_stopped {T} error end is unknown same stands unsent stops passes =
-      let P : RetainEnd → Type 0 = λ e. RuleStops total book rule at new.image before now e in
+      let P : End → Type 0 = λ e. RuleStops total book rule at new.image before now e in
       record { done = tt; stops = subst P (sym is) (stop_so error unknown same stands unsent stops); moments = stop_moments error unknown same passes }
 
 -- ---- the answer
@@ -106,23 +106,18 @@ module _ (total : ℕ) (book : List Series) (rule : Rule) (at : ℕ) (swept : Sw
         all = λ more. refl;
       }))
 
-  text_stops : (text : List ℕ) → text ≡ answer total book rule → (end : RetainEnd) → TextStops text between now end → RuleStops total book rule at new.image before now end
-  text_stops text is (BadLine place) stops = absurd stops
-  text_stops text is (UnknownSeries place) stops = absurd stops
-  text_stops text is ReadFault stops = absurd stops
+  text_stops : (text : List ℕ) → text ≡ answer total book rule → (end : End) → TextStops text between now end → RuleStops total book rule at new.image before now end
   text_stops text is SendFault stops =
       let P : List ℕ → Type 0 = λ t. Rattle.block_disk.specs.Streams.PartSent t before now in
       let B : Option (List ℕ) → Type 0 = λ b. Rattle.block_disk.specs.Streams.PartSent text b now in
       record { there = there; stands = stands_still; part = subst P is (subst B unsent stops) }
-  text_stops text is InputTooLong stops = absurd stops
-  text_stops text is DiskFault stops = absurd stops
-  text_stops text is (Damaged page) stops = absurd stops
   text_stops text is NoMemory stops =
       let all : take (length (sweeps total book rule)) (sweeps total book rule) ≡ sweeps total book rule = take_all (length (sweeps total book rule)) (sweeps total book rule) (omega arith) in
       let S : List _ → Type 0 = λ edits. StandsForBook new.image total (after_edits total book edits) in
       record { there = there; some = record { done = length (sweeps total book rule); few = omega arith; stands = subst S (sym all) stands_still }; unsent = stops ∙ unsent }
+  text_stops text is end stops = absurd stops
 
-  pub rule_answered : {T : Type 0} (result : Result T RetainEnd) → OnOk result (now ≡ sent_after (swept_text swept.clears swept.used) between) → IfErr result (TextStops (swept_text swept.clears swept.used) between now) → Only mid.image (Now mid) → Passes mid new (Now mid) (λ count. (sent_now mid ≤ count) × (count ≤ sent_now new)) → sent_now new ≤ sent_now mid + length (swept_text swept.clears swept.used)
+  pub rule_answered : {T : Type 0} (result : Result T End) → OnOk result (now ≡ sent_after (swept_text swept.clears swept.used) between) → IfErr result (TextStops (swept_text swept.clears swept.used) between now) → Only mid.image (Now mid) → Passes mid new (Now mid) (λ count. (sent_now mid ≤ count) × (count ≤ sent_now new)) → sent_now new ≤ sent_now mid + length (swept_text swept.clears swept.used)
       → DoesRule total book rule at result old new before now
   rule_answered {T} (Ok v) whole stops only sends most =
       let is = said_so total book rule swept mid.image done in
@@ -147,20 +142,17 @@ swept_there = there_ok
 
 module _ (total : ℕ) (book : List Series) (text : List ℕ) (at : ℕ) (old new : View) (before now : Option (List ℕ)) where
   -- that is a rule
-  rule_stops_line : (rule : Rule) → Spells rule text → (end : RetainEnd) → RuleStops total book rule at new.image before now end → LineStops total book text at new.image before now end
-  rule_stops_line rule spells (BadLine place) stops = absurd stops
-  rule_stops_line rule spells (UnknownSeries place) stops = (rule, spells, stops)
-  rule_stops_line rule spells ReadFault stops = absurd stops
-  rule_stops_line rule spells SendFault stops = (rule, spells, stops)
-  rule_stops_line rule spells InputTooLong stops = absurd stops
-  rule_stops_line rule spells DiskFault stops = stops
-  rule_stops_line rule spells (Damaged page) stops = absurd stops
+  rule_stops_line : (rule : Rule) → Spells rule text → (end : End) → RuleStops total book rule at new.image before now end → LineStops total book text at new.image before now end
   rule_stops_line rule spells NoMemory stops = inr (rule, spells, stops)
+  rule_stops_line rule spells SendFault stops = (rule, spells, stops)
+  rule_stops_line rule spells DiskFault stops = stops
+  rule_stops_line rule spells (NoSeries place) stops = (rule, spells, stops)
+  rule_stops_line rule spells end stops = absurd stops
 
   line_moments : (rule : Rule) → Spells rule text → Through old new (RuleMoment total book rule (sent_now old)) → Through old new (LineMoment total book text (sent_now old))
   line_moments rule spells = through_so old new (RuleMoment total book rule (sent_now old)) (LineMoment total book text (sent_now old)) (λ image count is. (rule, spells, is))
 
-  pub line_of_rule : {T : Type 0} (result : Result T RetainEnd) (rule : Rule) → Spells rule text → DoesRule total book rule at result old new before now → DoesLine total book text at result old new before now
+  pub line_of_rule : {T : Type 0} (result : Result T End) (rule : Rule) → Spells rule text → DoesRule total book rule at result old new before now → DoesLine total book text at result old new before now
   line_of_rule {T} (Ok v) rule spells does = record { done = inr (rule, spells, does.done); stops = tt; moments = line_moments rule spells does.moments }
   line_of_rule {T} (Err end) rule spells does = record { done = tt; stops = rule_stops_line rule spells end does.stops; moments = line_moments rule spells does.moments }
 
@@ -176,7 +168,7 @@ module _ (total : ℕ) (book : List Series) (text : List ℕ) (at : ℕ) (old : 
   line_empty {T} v none = record { done = inl (none, rests); stops = tt; moments = no_moments }
 
   -- that is no rule
-  pub line_bad : {T : Type 0} → 0 < length text → SaysNone (Some text) → DoesLine {T = T} total book text at (Err (BadLine at)) old old before before
+  pub line_bad : {T : Type 0} → 0 < length text → SaysNone (Some text) → DoesLine {T = T} total book text at (Err (BadInput at)) old old before before
   line_bad {T} some none = record { done = tt; stops = record { place_is = refl; some = some; none = none; stays = rests }; moments = no_moments }
 
   -- for which there was no memory

@@ -2,7 +2,6 @@ pub mod SpellLemmas
 pub mod RuleLemmas
 pub mod DoingLemmas
 pub mod DiskLemmas
-pub mod StatusLemmas
 pub mod GoodLemmas
 pub mod Counting
 pub mod WorkLemmas

@@ -1,5 +1,6 @@
 -- What lines of `retain` did, by what a run of lines says.
 use Rattle.std.proofs.Common.{◌≡◌, ◌∙◌, ℕ, ◌+◌, Bool, true, cond, List, [], ◌∷◌, ◌++◌, length, map, Option, Some, None, IfSome, refl, ap, sym, subst, arith, inl, inr}
+use Rattle.std.specs.Prelude.{OnOk, IfErr, Result, Ok, Err}
 use Rattle.std.specs.List.{filter}
 use Rattle.std.proofs.lemmas.List.{append-nil}
 use Rattle.block_disk.specs.SentLaws.{sent_none}
@@ -13,12 +14,15 @@ use Rattle.chart_world.specs.Lines.{lines, split_lines, text_of}
 use Rattle.chart_world.specs.declared.line_answer.LineFault.TheVariants as fault
 use Rattle.line_runs.specs.Carried.{Carries, Done}
 use Rattle.line_runs.specs.CarriedLaws.{carries_both, carries_unpaused}
-use Rattle.line_runs.specs.Given.{AreFirst, Given, IsNext, Line, Pause, End, given_from, given_lines, unpaused}
-use Rattle.line_runs.specs.Given as lines_given
+use Rattle.line_runs.specs.Ends.{run_end}
+use Rattle.line_runs.specs.Given as given
+use Rattle.line_runs.specs.Given.{AreFirst, Given, IsNext, given_from, given_lines, unpaused}
 use Rattle.line_runs.specs.Moments.{Since}
 use Rattle.line_runs.specs.Runs as runs
 use Rattle.line_runs.specs.declared.lines_stop.LinesStop.{LinesStop}
 use Rattle.line_runs.specs.declared.lines_stop.LinesStop.TheVariants as stop
+use Rattle.run_ends.specs.declared.ending.End.{End}
+use Rattle.run_ends.specs.declared.ending.End.TheVariants as ends
 use Rattle.series_book.specs.declared.one_series.Series.{Series}
 use Rattle.stored_book.specs.Standing.{StandsForBook}
 use Rattle.store_commands.specs.Books.{Stands}
@@ -28,9 +32,7 @@ use Rattle.retain_command.specs.Answers.{AreRules, answer, answers, book_behind}
 use Rattle.retain_command.specs.Doing.{Untouched}
 use Rattle.retain_command.specs.Rules.{Says}
 use Rattle.retain_command.specs.Sweeping.{EndsSo, FirstRules, IsAhead, SweepsAll, SweepsFirst, left_by, said_to}
-use Rattle.retain_command.specs.Working.{Held, LineDoes, LineLeaves, LineStopsSo, end_of_stop, held_swept}
-use Rattle.retain_command.specs.declared.retain_end.RetainEnd.{RetainEnd}
-use Rattle.retain_command.specs.declared.retain_end.RetainEnd.TheVariants.{BadLine, UnknownSeries, ReadFault, SendFault, InputTooLong, DiskFault, Damaged, NoMemory}
+use Rattle.retain_command.specs.Working.{Held, LineDoes, LineLeaves, LineStopsSo, held_swept}
 use Rattle.retain_command.proofs.RuleLemmas.{no_rules, spells_some}
 use Rattle.retain_command.proofs.WorkLemmas.{IsHeld}
 
@@ -54,7 +56,7 @@ ruled_from at [] held text behind (none, same) = record { rules = []; are = tt; 
 ruled_from at (part ∷ parts) held text behind follows =
     by (text_of part) follows.does (ruled_from (at + length part + 1) parts follows.between follows.more behind follows.others)
   where
-    by : (line : Option (List ℕ)) → LineDoes held (Line at line) follows.first follows.between
+    by : (line : Option (List ℕ)) → LineDoes held (given.Line at line) follows.first follows.between
         → Ruled follows.between (map text_of parts) follows.more behind → Ruled held (line ∷ map text_of parts) text behind
     by line (inl (empty, none, same)) rest =
         let P : Held → Type 0 = λ h. Ruled h (map text_of parts) follows.more behind in
@@ -85,15 +87,15 @@ unfolding lines given_lines
 ruled_lines front held text behind carries = ruled_from 0 (split_lines front) held text behind carries
 
 -- these lines, with pauses
-ruled : (front : List ℕ) (given : List Given) (held : Held) (text : List ℕ) (behind : Held) → unpaused given ≡ given_lines front
-    → Carries LineDoes held given text behind → Ruled held (lines front) text behind
-ruled front given held text behind are carries =
+ruled : (front : List ℕ) (done : List Given) (held : Held) (text : List ℕ) (behind : Held) → unpaused done ≡ given_lines front
+    → Carries LineDoes held done text behind → Ruled held (lines front) text behind
+ruled front done held text behind are carries =
     let P : List Given → Type 0 = λ l. Carries LineDoes held l text behind in
     ruled_lines front held text behind
-    (subst P are (carries_unpaused LineDoes (λ state none behind is. is) given held text behind carries))
+    (subst P are (carries_unpaused LineDoes (λ state none behind is. is) done held text behind carries))
 
 -- at the end nothing was done
-end_none : (held : Held) (text : List ℕ) (behind : Held) → Carries LineDoes held (End ∷ []) text behind → (text ≡ []) × (behind ≡ held)
+end_none : (held : Held) (text : List ℕ) (behind : Held) → Carries LineDoes held (given.End ∷ []) text behind → (text ≡ []) × (behind ≡ held)
 end_none held text behind f = (f.texts ∙ ap (λ t. t ++ f.more) f.does.0 ∙ f.others.0, f.others.1 ∙ f.does.1)
 
 module _ (total : ℕ) (book : List Series) (input : List ℕ) where
@@ -105,7 +107,7 @@ module _ (total : ℕ) (book : List Series) (input : List ℕ) where
       let done = all.done in
       let P : List Given → Type 0 = λ l. Carries LineDoes (held_by total book) l done.text done.behind in
       let are = all.are in
-      let both = carries_both LineDoes are.earlier (End ∷ []) (held_by total book) done.text done.behind
+      let both = carries_both LineDoes are.earlier (given.End ∷ []) (held_by total book) done.text done.behind
       (subst P are.given_are done.carries) in
       let none = end_none both.between both.more done.behind both.others in
       let r = ruled input are.earlier (held_by total book) both.begin both.between are.lines_are both.begins in
@@ -151,17 +153,17 @@ module _ (total : ℕ) (book : List Series) (input : List ℕ) where
   unended_so rest None is = tt
   unended_so rest (Some l) is = record { partial = is.partial; taken = is.taken; unended = is.unended }
 
-  next_so : (count : ℕ) (rest : List ℕ) (line : Option (List ℕ)) → lines_given.NextLine count rest line → NextLine count rest line
+  next_so : (count : ℕ) (rest : List ℕ) (line : Option (List ℕ)) → given.NextLine count rest line → NextLine count rest line
   next_so count rest line next = record { later = next.later; lines_are = next.lines_are; early = next.early }
 
   -- at a line
   module _ (image : Image) (left before now : Option (List ℕ)) (first : FirstRules total book input) where
     -- it stopped the run
-    abbrev Stopped : Given → RetainEnd → Type 0
+    abbrev Stopped : Given → End → Type 0
     Stopped next end = LineStopsSo (held_by total (left_by total book input first)) next image
         (sent_after (said_to total book input first) before) now end
 
-    abbrev Ended : RetainEnd → Type 0
+    abbrev Ended : End → Type 0
     Ended end = EndsSo (Stands total image) total book input left before now end
 
     abbrev swept : Untouched total (left_by total book input first) image (sent_after (said_to total book input first) before) now
@@ -169,9 +171,9 @@ module _ (total : ℕ) (book : List Series) (input : List ℕ) where
     swept rests = record { first = first; there = rests.stands; sent = rests.unsent }
 
     line_so : (at : ℕ) → at ≡ length first.front → (line : Option (List ℕ)) → NextLine (length first.front) first.rest line
-        → (end : RetainEnd) → Stopped (Line at line) end → Ended end
+        → (end : End) → Stopped (given.Line at line) end → Ended end
     line_so at at_is None next end why =
-        let P : RetainEnd → Type 0 = λ e. Ended e in
+        let P : End → Type 0 = λ e. Ended e in
         subst P (sym why.0) (record {
           swept = swept why.1;
           line = None;
@@ -180,38 +182,8 @@ module _ (total : ℕ) (book : List Series) (input : List ℕ) where
           none = λ rule none. none;
           at_is = at_is;
         })
-    line_so at at_is (Some text) next (BadLine place) bad = record {
-      swept = swept bad.stays;
-      line = Some text;
-      next = next;
-      some = says_text text bad.some;
-      none = bad.none;
-      at_is = bad.place_is ∙ at_is;
-    }
-    line_so at at_is (Some text) next (UnknownSeries place) (rule, spells, why) = record {
-      swept = record { first = first; there = why.1.stands; sent = why.1.unsent };
-      line = Some text;
-      next = next;
-      rule = rule;
-      says_it = spells;
-      unknown = why.1.none;
-      at_is = why.0 ∙ at_is;
-    }
-    line_so at at_is (Some text) next ReadFault none = absurd none
-    line_so at at_is (Some text) next SendFault (rule, spells, cut) = record {
-      first = first;
-      rule = rule;
-      next = record { line = Some text; next = next; says_it = spells; there = cut.there };
-      there = cut.stands;
-      between = sent_after (said_to total book input first) before;
-      sent = refl;
-      part = cut.part;
-    }
-    line_so at at_is (Some text) next InputTooLong none = absurd none
-    line_so at at_is (Some text) next DiskFault unsent = record { first = first; sent = unsent }
-    line_so at at_is (Some text) next (Damaged page) none = absurd none
-    line_so at at_is (Some text) next NoMemory (inl rests) = inl (swept rests)
-    line_so at at_is (Some text) next NoMemory (inr (rule, spells, some)) = inr (record {
+    line_so at at_is (Some text) next ends.NoMemory (inl rests) = inl (swept rests)
+    line_so at at_is (Some text) next ends.NoMemory (inr (rule, spells, some)) = inr (record {
       first = first;
       rule = rule;
       next = record { line = Some text; next = next; says_it = spells; there = some.there };
@@ -220,40 +192,70 @@ module _ (total : ℕ) (book : List Series) (input : List ℕ) where
       there = some.some.stands;
       sent = some.unsent;
     })
+    line_so at at_is (Some text) next ends.SendFault (rule, spells, cut) = record {
+      first = first;
+      rule = rule;
+      next = record { line = Some text; next = next; says_it = spells; there = cut.there };
+      there = cut.stands;
+      between = sent_after (said_to total book input first) before;
+      sent = refl;
+      part = cut.part;
+    }
+    line_so at at_is (Some text) next ends.DiskFault unsent = record { first = first; sent = unsent }
+    line_so at at_is (Some text) next (ends.BadInput place) bad = record {
+      swept = swept bad.stays;
+      line = Some text;
+      next = next;
+      some = says_text text bad.some;
+      none = bad.none;
+      at_is = bad.place_is ∙ at_is;
+    }
+    line_so at at_is (Some text) next (ends.NoSeries place) (rule, spells, why) = record {
+      swept = record { first = first; there = why.1.stands; sent = why.1.unsent };
+      line = Some text;
+      next = next;
+      rule = rule;
+      says_it = spells;
+      unknown = why.1.none;
+      at_is = why.0 ∙ at_is;
+    }
+    line_so at at_is (Some text) next end none = absurd none
 
-    next_stops : (next : Given) → IsNext (length first.front) first.rest next → (end : RetainEnd) → Stopped next end → Ended end
-    next_stops (Line at line) (at_is, next) end why = line_so at at_is line (next_so (length first.front) first.rest line next) end why
-    next_stops Pause any end why = absurd why
-    next_stops End none end why = absurd why
+    next_stops : (next : Given) → IsNext (length first.front) first.rest next → (end : End) → Stopped next end → Ended end
+    next_stops (given.Line at line) (at_is, next) end why = line_so at at_is line (next_so (length first.front) first.rest line next) end why
+    next_stops given.Pause any end why = absurd why
+    next_stops given.End none end why = absurd why
 
-  stops_so : (Told : Type 0) (image : Image) (left before now : Option (List ℕ)) (pieces pieces' : ℕ) (e : LinesStop RetainEnd)
-      → runs.StopsSo LineDoes (λ held it end was. LineStopsSo held it image was now end) (IsHeld Told image) (held_by total book)
-      (Some input) left before now pieces pieces' e
-      → EndsSo (Stands total image) total book input left before now (end_of_stop e)
-  stops_so Told image left before now pieces pieces' (stop.Fault fault.ReadFault) is = record {
+  -- how the run ended
+  ends_so : {T : Type 0} (Told : Type 0) (image : Image) (left before now : Option (List ℕ)) (pieces pieces' : ℕ) (answer : Result T (LinesStop End))
+      → OnOk answer (runs.Runs LineDoes (held_by total book) (runs.AreAll pieces pieces') (IsHeld Told image) (Some input) before now)
+      → IfErr answer (runs.StopsSo LineDoes (λ held it end was. LineStopsSo held it image was now end) (IsHeld Told image) (held_by total book) (Some input) left before now pieces pieces')
+      → EndsSo (Stands total image) total book input left before now (run_end answer)
+  ends_so {T} Told image left before now pieces pieces' (Ok done) all is = all_so Told image before now pieces pieces' all
+  ends_so {T} Told image left before now pieces pieces' (Err (stop.Fault fault.ReadFault)) all is = record {
     swept = first_so Told image before now is.done.text is.done.behind (firsts is.done is.are.first) is.stands is.sent;
     whole = is.are.whole;
     behind = unended_so is.are.first.rest left is.are.behind;
   }
-  stops_so Told image left before now pieces pieces' (stop.Fault fault.InputTooLong) is = record {
+  ends_so {T} Told image left before now pieces pieces' (Err (stop.Fault fault.InputTooLong)) all is = record {
     swept = first_so Told image before now is.done.text is.done.behind (firsts is.done is.are.first) is.stands is.sent;
     unended = is.are.unended;
     past = is.are.past;
   }
-  stops_so Told image left before now pieces pieces' (stop.Work end) is =
+  ends_so {T} Told image left before now pieces pieces' (Err (stop.Work end)) all is =
       let f = firsts is.done is.are.first in
       let H : Held → Type 0 = λ h. LineStopsSo h is.next image (sent_after is.done.text before) now end in
-      let T : List ℕ → Type 0 = λ t.
+      let T' : List ℕ → Type 0 = λ t.
       LineStopsSo (held_by total (left_by total book input f.first)) is.next image (sent_after t before) now end in
-      next_stops image left before now f.first is.next is.are.next_is end (subst T f.text_is (subst H f.behind_is is.why))
+      next_stops image left before now f.first is.next is.are.next_is end (subst T' f.text_is (subst H f.behind_is is.why))
 
   -- at each moment
   next_leaves : (from begun sent : ℕ) (image : Image) (first : FirstRules total book input)
       → begun ≡ from + length (said_to total book input first) → (next : Given) → IsNext (length first.front) first.rest next
       → LineLeaves (held_by total (left_by total book input first)) next begun image sent
       → IsAhead (Stands total image) total book input from sent
-  next_leaves from begun sent image first begun_is (Line at None) next none = absurd none
-  next_leaves from begun sent image first begun_is (Line at (Some text)) (at_is, next) (rule, spells, m) = record {
+  next_leaves from begun sent image first begun_is (given.Line at None) next none = absurd none
+  next_leaves from begun sent image first begun_is (given.Line at (Some text)) (at_is, next) (rule, spells, m) = record {
     first = first;
     state = inr (record {
       rule = rule;
@@ -271,8 +273,8 @@ module _ (total : ℕ) (book : List Series) (input : List ℕ) where
       all = λ more. m.all (omega (arith, more, begun_is));
     });
   }
-  next_leaves from begun sent image first begun_is Pause next none = absurd none
-  next_leaves from begun sent image first begun_is End next none = absurd none
+  next_leaves from begun sent image first begun_is given.Pause next none = absurd none
+  next_leaves from begun sent image first begun_is given.End next none = absurd none
 
   ahead_so : (bytes : List ℕ) (from : ℕ) (image : Image) (sent : ℕ)
       → runs.IsAhead LineDoes (λ held i. StandsForBook i held.total held.book) LineLeaves (held_by total book) (Some input)
@@ -294,19 +296,13 @@ module _ (total : ℕ) (book : List Series) (input : List ℕ) where
 
 -- the same of an input that may be told
 module _ (total : ℕ) (book : List Series) where
-  pub all_told : (Told : Type 0) (image : Image) (o before now : Option (List ℕ)) (pieces pieces' : ℕ)
-      → runs.Runs LineDoes (held_by total book) (runs.AreAll pieces pieces') (IsHeld Told image) o before now
-      → IfSome o (λ input. SweepsAll (Stands total image) total book input before now)
-  all_told Told image None before now pieces pieces' all = tt
-  all_told Told image (Some input) before now pieces pieces' all = all_so total book input Told image before now pieces pieces' all
-
-  pub stops_told : (Told : Type 0) (image : Image) (o left before now : Option (List ℕ)) (pieces pieces' : ℕ) (e : LinesStop RetainEnd)
-      → runs.StopsSo LineDoes (λ held it end was. LineStopsSo held it image was now end) (IsHeld Told image) (held_by total book) o left
-      before now pieces pieces' e
-      → IfSome o (λ input. EndsSo (Stands total image) total book input left before now (end_of_stop e))
-  stops_told Told image None left before now pieces pieces' e is = tt
-  stops_told Told image (Some input) left before now pieces pieces' e is =
-      stops_so total book input Told image left before now pieces pieces' e is
+  pub ends_told : {T : Type 0} (Told : Type 0) (image : Image) (o left before now : Option (List ℕ)) (pieces pieces' : ℕ) (answer : Result T (LinesStop End))
+      → OnOk answer (runs.Runs LineDoes (held_by total book) (runs.AreAll pieces pieces') (IsHeld Told image) o before now)
+      → IfErr answer (runs.StopsSo LineDoes (λ held it end was. LineStopsSo held it image was now end) (IsHeld Told image) (held_by total book) o left before now pieces pieces')
+      → IfSome o (λ input. EndsSo (Stands total image) total book input left before now (run_end answer))
+  ends_told {T} Told image None left before now pieces pieces' answer all is = tt
+  ends_told {T} Told image (Some input) left before now pieces pieces' answer all is =
+      ends_so total book input Told image left before now pieces pieces' answer all is
 
   abbrev Lasts : Option (List ℕ) → Option (List ℕ) → View → View → Type 0
   Lasts o before old new = IfSome o (λ input. IfSome before (λ bytes.
@@ -335,7 +331,7 @@ module _ (total : ℕ) (book : List Series) where
       (λ image left. record { first = no_rules total book input; state = inl (subst S (sym (only image left)) stands, omega arith) })
 
   pub none_swept : (o left before : Option (List ℕ)) (image : Image) → StandsForBook image total book
-      → IfSome o (λ input. EndsSo (Stands total image) total book input left before before NoMemory)
+      → IfSome o (λ input. EndsSo (Stands total image) total book input left before before ends.NoMemory)
   none_swept None left before image stands = tt
   none_swept (Some input) left before image stands =
       inl (record { first = no_rules total book input; there = stands; sent = sent_none before })

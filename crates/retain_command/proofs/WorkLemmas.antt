@@ -5,11 +5,11 @@ use Rattle.block_disk.specs.SentLaws.{sent_none}
 use Rattle.block_disk.specs.View.{Image, View}
 use Rattle.line_runs.specs.Carried.{DoesOne}
 use Rattle.line_runs.specs.Given.{Line}
+use Rattle.run_ends.specs.declared.ending.End.{End}
 use Rattle.stored_book.specs.Standing.{StandsForBook}
 use Rattle.retain_command.specs.Answers.{answer}
 use Rattle.retain_command.specs.Doing.{DoesLine, LineDone}
 use Rattle.retain_command.specs.Working.{Held, LineDoes, LineStopsSo, held_swept}
-use Rattle.retain_command.specs.declared.retain_end.RetainEnd.{RetainEnd}
 
 -- the pages of this image stand for it
 abbrev pub IsHeld : Type 0 → Image → Held → Type 0
@@ -34,12 +34,12 @@ module _ (held : Held) (text : List ℕ) (at : ℕ) (old new : View) (before now
     sent = done.sent;
   }
 
-  pub work_done : {T : Type 0} (Told : Type 0) (result : Result T RetainEnd) → Told → DoesLine held.total held.book text at result old
+  pub work_done : {T : Type 0} (Told : Type 0) (result : Result T End) → Told → DoesLine held.total held.book text at result old
       new before now → OnOk result (DoesOne LineDoes (IsHeld Told new.image) held (Line at (Some text)) before now)
   work_done {T} Told (Ok v) told does = line_done Told told does.done
   work_done {T} Told (Err e) told does = tt
 
-  pub work_stops : {T : Type 0} (result : Result T RetainEnd) → DoesLine held.total held.book text at result old new before now
+  pub work_stops : {T : Type 0} (result : Result T End) → DoesLine held.total held.book text at result old new before now
       → IfErr result (λ end. LineStopsSo held (Line at (Some text)) new.image before now end)
   work_stops {T} (Ok v) does = tt
   work_stops {T} (Err e) does = does.stops

@@ -3,11 +3,11 @@ use Rattle.std.specs.Prelude.{◌≡◌, ℕ, ◌+◌, ◌<◌, ◌≤◌, ◌�
 use Rattle.block_disk.specs.Counts.{HasRisen}
 use Rattle.block_disk.specs.Streams.{sent_after, PartSent}
 use Rattle.block_disk.specs.View.{Image, View, sent_now}
-use Rattle.chart_world.specs.declared.line_answer.LineFault.{LineFault}
-use Rattle.chart_world.specs.declared.line_answer.LineFault.TheVariants as fault
 use Rattle.gate_pages.specs.Pages.{GoesOn}
 use Rattle.gate_pages.specs.declared.pages.Pages.{Ghosts}
 use Rattle.line_runs.specs.Moments.{Through}
+use Rattle.run_ends.specs.declared.ending.End.{End}
+use Rattle.run_ends.specs.declared.ending.End.TheVariants.{NoMemory, ReadFault, SendFault, DiskFault, DamagedPage, BadInput, InputTooLong, NoSeries}
 use Rattle.series_book.specs.declared.one_series.Series.{Series}
 use Rattle.series_book.specs.EditLists.{after_edits}
 use Rattle.series_store.specs.Shown as shown
@@ -23,31 +23,19 @@ use Rattle.retention.specs.declared.sweep_error.SweepError.{SweepError}
 use Rattle.retention.specs.declared.sweep_error.SweepError.TheVariants as sweep
 use Rattle.retain_command.specs.Answers.{answer}
 use Rattle.retain_command.specs.Rules.{Spells, SaysNone}
-use Rattle.retain_command.specs.declared.retain_end.RetainEnd.{RetainEnd}
-use Rattle.retain_command.specs.declared.retain_end.RetainEnd.TheVariants.{BadLine, UnknownSeries, ReadFault, SendFault, InputTooLong, DiskFault, Damaged, NoMemory}
 
 -- what an error of a sweep is for the line at this offset
-abbrev pub end_at : ℕ → SweepError → RetainEnd
-end_at at sweep.UnknownSeries = UnknownSeries at
+abbrev pub end_at : ℕ → SweepError → End
+end_at at sweep.UnknownSeries = NoSeries at
 end_at at sweep.DiskFault = DiskFault
-end_at at (sweep.Damaged page) = Damaged page
+end_at at (sweep.Damaged page) = DamagedPage page
 end_at at sweep.NoMemory = NoMemory
 
--- and what a fault of the lines is
-abbrev pub end_of : LineFault → RetainEnd
-end_of fault.ReadFault = ReadFault
-end_of fault.InputTooLong = InputTooLong
-
 -- the text of an answer wasn't sent, or not all of it
-abbrev pub TextStops : List ℕ → Option (List ℕ) → Option (List ℕ) → RetainEnd → Type 0
-TextStops text before now (BadLine at) = ⊥
-TextStops text before now (UnknownSeries at) = ⊥
-TextStops text before now ReadFault = ⊥
-TextStops text before now SendFault = PartSent text before now
-TextStops text before now InputTooLong = ⊥
-TextStops text before now DiskFault = ⊥
-TextStops text before now (Damaged page) = ⊥
+abbrev pub TextStops : List ℕ → Option (List ℕ) → Option (List ℕ) → End → Type 0
 TextStops text before now NoMemory = now ≡ before
+TextStops text before now SendFault = PartSent text before now
+TextStops text before now end = ⊥
 
 -- ---- one rule
 
@@ -76,15 +64,12 @@ pub record RuleUnknown (total : ℕ) (book : List Series) (rule : Rule) (image :
   pub unsent : now ≡ before
 
 -- why it wasn't answered
-abbrev pub RuleStops : ℕ → List Series → Rule → ℕ → Image → Option (List ℕ) → Option (List ℕ) → RetainEnd → Type 0
-RuleStops total book rule at image before now (BadLine place) = ⊥
-RuleStops total book rule at image before now (UnknownSeries place) = (place ≡ at) × RuleUnknown total book rule image before now
-RuleStops total book rule at image before now ReadFault = ⊥
-RuleStops total book rule at image before now SendFault = RuleCut total book rule image before now
-RuleStops total book rule at image before now InputTooLong = ⊥
-RuleStops total book rule at image before now DiskFault = now ≡ before
-RuleStops total book rule at image before now (Damaged page) = ⊥
+abbrev pub RuleStops : ℕ → List Series → Rule → ℕ → Image → Option (List ℕ) → Option (List ℕ) → End → Type 0
 RuleStops total book rule at image before now NoMemory = RuleSome total book rule image before now
+RuleStops total book rule at image before now SendFault = RuleCut total book rule image before now
+RuleStops total book rule at image before now DiskFault = now ≡ before
+RuleStops total book rule at image before now (NoSeries place) = (place ≡ at) × RuleUnknown total book rule image before now
+RuleStops total book rule at image before now end = ⊥
 
 -- what a crash leaves meanwhile, and how many bytes were sent
 pub record RuleMoment (total : ℕ) (book : List Series) (rule : Rule) (from : ℕ) (image : Image) (sent : ℕ) : Type 0 where
@@ -97,7 +82,7 @@ pub record RuleMoment (total : ℕ) (book : List Series) (rule : Rule) (from : �
   pub all : from < sent → done ≡ length (sweeps total book rule)
 
 -- what a call does that answers a rule
-pub record DoesRule {T : Type 0} (total : ℕ) (book : List Series) (rule : Rule) (at : ℕ) (result : Result T RetainEnd) (old new : View) (before now : Option (List ℕ)) : Type 0 where
+pub record DoesRule {T : Type 0} (total : ℕ) (book : List Series) (rule : Rule) (at : ℕ) (result : Result T End) (old new : View) (before now : Option (List ℕ)) : Type 0 where
   pub done : OnOk result (RuleDone total book rule new.image before now)
   pub stops : IfErr result (RuleStops total book rule at new.image before now)
   pub moments : Through old new (RuleMoment total book rule (sent_now old))
@@ -122,25 +107,23 @@ pub record LineBad (total : ℕ) (book : List Series) (text : List ℕ) (at plac
   pub stays : Untouched total book image before now
 
 -- it is a rule that wasn't answered for this reason
-abbrev pub SpelledStops : ℕ → List Series → List ℕ → ℕ → Image → Option (List ℕ) → Option (List ℕ) → RetainEnd → Type 0
+abbrev pub SpelledStops : ℕ → List Series → List ℕ → ℕ → Image → Option (List ℕ) → Option (List ℕ) → End → Type 0
 SpelledStops total book text at image before now end = (rule : Rule) × Spells rule text × RuleStops total book rule at image before now end
 
-abbrev pub LineStops : ℕ → List Series → List ℕ → ℕ → Image → Option (List ℕ) → Option (List ℕ) → RetainEnd → Type 0
-LineStops total book text at image before now (BadLine place) = LineBad total book text at place image before now
-LineStops total book text at image before now (UnknownSeries place) = SpelledStops total book text at image before now (UnknownSeries place)
-LineStops total book text at image before now ReadFault = ⊥
-LineStops total book text at image before now SendFault = SpelledStops total book text at image before now SendFault
-LineStops total book text at image before now InputTooLong = ⊥
-LineStops total book text at image before now DiskFault = now ≡ before
-LineStops total book text at image before now (Damaged page) = ⊥
+abbrev pub LineStops : ℕ → List Series → List ℕ → ℕ → Image → Option (List ℕ) → Option (List ℕ) → End → Type 0
 LineStops total book text at image before now NoMemory = Untouched total book image before now ⊎ SpelledStops total book text at image before now NoMemory
+LineStops total book text at image before now SendFault = SpelledStops total book text at image before now SendFault
+LineStops total book text at image before now DiskFault = now ≡ before
+LineStops total book text at image before now (BadInput place) = LineBad total book text at place image before now
+LineStops total book text at image before now (NoSeries place) = SpelledStops total book text at image before now (NoSeries place)
+LineStops total book text at image before now end = ⊥
 
 -- what a crash leaves meanwhile
 abbrev pub LineMoment : ℕ → List Series → List ℕ → ℕ → Image → ℕ → Type 0
 LineMoment total book text from image sent = (rule : Rule) × Spells rule text × RuleMoment total book rule from image sent
 
 -- what a call does that answers a line
-pub record DoesLine {T : Type 0} (total : ℕ) (book : List Series) (text : List ℕ) (at : ℕ) (result : Result T RetainEnd) (old new : View) (before now : Option (List ℕ)) : Type 0 where
+pub record DoesLine {T : Type 0} (total : ℕ) (book : List Series) (text : List ℕ) (at : ℕ) (result : Result T End) (old new : View) (before now : Option (List ℕ)) : Type 0 where
   pub done : OnOk result (LineDone total book text new.image before now)
   pub stops : IfErr result (LineStops total book text at new.image before now)
   pub moments : Through old new (LineMoment total book text (sent_now old))
@@ -148,10 +131,10 @@ pub record DoesLine {T : Type 0} (total : ℕ) (book : List Series) (text : List
 -- ---- the same over a store
 
 module _ {P : Type 0} {g : Ghosts P} {T : Type 0} (sent : P → Option (List ℕ)) where
-  abbrev pub DoesRuleOn : Rule → ℕ → Result T RetainEnd → Store P g → Store P g → ℕ → List Series → Type 0
+  abbrev pub DoesRuleOn : Rule → ℕ → Result T End → Store P g → Store P g → ℕ → List Series → Type 0
   DoesRuleOn rule at result old new total book = DoesRule total book rule at result (shown.view old) (shown.view new) (sent (shown.pages old)) (sent (shown.pages new))
 
-  abbrev pub DoesLineOn : List ℕ → ℕ → Result T RetainEnd → Store P g → Store P g → ℕ → List Series → Type 0
+  abbrev pub DoesLineOn : List ℕ → ℕ → Result T End → Store P g → Store P g → ℕ → List Series → Type 0
   DoesLineOn text at result old new total book = DoesLine total book text at result (shown.view old) (shown.view new) (sent (shown.pages old)) (sent (shown.pages new))
 
 -- ---- what calls move, whatever the pages are
@@ -168,12 +151,13 @@ pub record Goes (old new : Side) : Type 0 where
   pub sends : old.send_faults ≤ new.send_faults
 
 -- why lines weren't swept. A page that is called damaged is one of the store's, and is so where reads give what the pages are.
-abbrev pub IsCause : RetainEnd → Side → Side → Type 0
-IsCause (BadLine at) old new = ⊤
-IsCause (UnknownSeries at) old new = ⊤
+abbrev pub IsCause : End → Side → Side → Type 0
+IsCause NoMemory old new = ⊤
 IsCause ReadFault old new = HasRisen old.read_faults new.read_faults
 IsCause SendFault old new = HasRisen old.send_faults new.send_faults
-IsCause InputTooLong old new = ⊤
 IsCause DiskFault old new = HasRisen old.view.faults new.view.faults
-IsCause (Damaged page) old new = (page < old.total) × (new.told → IsBadForRequest new.view.size new.view.image page)
-IsCause NoMemory old new = ⊤
+IsCause (DamagedPage page) old new = (page < old.total) × (new.told → IsBadForRequest new.view.size new.view.image page)
+IsCause (BadInput at) old new = ⊤
+IsCause InputTooLong old new = ⊤
+IsCause (NoSeries at) old new = ⊤
+IsCause end old new = ⊥

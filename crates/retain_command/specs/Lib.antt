@@ -4,7 +4,5 @@ pub mod Sweeping
 pub mod Doing
 pub mod Shown
 pub mod Retained
-pub mod Retaining
-pub mod Faults
 pub mod Working
 pub mod WorkLaws

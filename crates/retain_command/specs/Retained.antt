@@ -1,5 +1,5 @@
--- How `retain` ends over the store of a disk, by its status.
-use Rattle.std.specs.Prelude.{◌≡◌, ◌≢◌, ℕ, ◌<◌, ◌≤◌, ◌⊎◌, ◌^◌, List, [], ◌∷◌, length, Contains, Option, IfSome}
+-- How `retain` ends over the store of a disk.
+use Rattle.std.specs.Prelude.{◌≡◌, ◌≢◌, ℕ, ◌<◌, ◌≤◌, ◌^◌, List, length, Option, IfSome, ⊤}
 use Rattle.block_disk.specs.Counts.{HasRisen}
 use Rattle.block_disk.specs.View.{View, sent_now}
 use Rattle.chart_service.specs.Moments.{Since}
@@ -7,11 +7,14 @@ use Rattle.gate_pages.specs.Journal.{page_count}
 use Rattle.gate_pages.specs.Pages.{GoesOn}
 use Rattle.stored_book.specs.Damage.{IsBadForRequest}
 use Rattle.stored_book.specs.Standing.{RecoversTo}
-use Rattle.store_commands.specs.Books.{HoldsAgain, Never, OfBook, Holds}
+use Rattle.store_commands.specs.Books.{HoldsAgain, OfBook, Holds}
 use Rattle.store_commands.specs.Damaged.{IsDamagedAtFirst, IsDamagedLater}
 use Rattle.store_commands.specs.Traffic.{Traffic}
-use Rattle.run_ends.specs.declared.status.Status.{Status}
-use Rattle.retain_command.specs.Sweeping.{IsAhead, SweepsAll, SweepsLines, SweepsPart, SweepsSome, SweepsTaken, SweepsToBad, SweepsToUnknown, SweepsWithin}
+use Rattle.run_ends.specs.Statuses.{block_of}
+use Rattle.run_ends.specs.declared.ending.End.{End}
+use Rattle.run_ends.specs.declared.ending.End.TheVariants.{Done, NoMemory, ReadFault, SendFault, DiskFault, DamagedBlock, DamagedPage}
+use Rattle.run_ends.specs.declared.ending.End.TheVariants.{BadInput, InputTooLong, TooSmall, NoSeries}
+use Rattle.retain_command.specs.Sweeping.{EndsSo, IsAhead, SweepsAll, SweepsLines, SweepsPart, SweepsSome, SweepsTaken, SweepsToBad, SweepsToUnknown, SweepsWithin}
 
 -- all lines of the input are rules, they were swept, and their answers were sent
 abbrev pub RetainsAll : ℕ → View → View → List ℕ → Option (List ℕ) → Option (List ℕ) → Type 0
@@ -51,35 +54,26 @@ abbrev pub LeavesSwept : ℕ → List ℕ → View → View → Type 0
 LeavesSwept count input old new =
     OfBook count old (λ total book. Since old new (λ image sent. IsAhead (λ after. RecoversTo count image total after) total book input (sent_now old) sent))
 
--- The block at this place was found damaged at the opening, and then no input was taken and nothing was sent; or it is a
--- page that a sweep found so.
-abbrev pub FindsDamaged : View → View → Option (List ℕ) → Option (List ℕ) → Option (List ℕ) → Option (List ℕ) → ℕ → Type 0
-FindsDamaged old new left left' before now place =
-    (IsDamagedAtFirst old place × ((left' ≡ left) × (now ≡ before))) ⊎ IsDamagedLater IsBadForRequest (page_count old.size) new place
+-- Why `retain` ended, whatever the disk holds. Where its store wasn't opened no input was taken and nothing was sent.
+abbrev pub IsRetainCause : End → View → View → Traffic → Type 0
+IsRetainCause Done old new t = IfSome t.left (λ input. length input ≤ 2 ^ 32)
+IsRetainCause NoMemory old new t = ⊤
+IsRetainCause ReadFault old new t = HasRisen t.reads t.reads_now
+IsRetainCause SendFault old new t = HasRisen t.sends t.sends_now
+IsRetainCause DiskFault old new t = HasRisen old.faults new.faults
+IsRetainCause (DamagedBlock block) old new t = IsDamagedAtFirst old block × ((t.left_now ≡ t.left) × (t.sent_now ≡ t.sent))
+IsRetainCause (DamagedPage page) old new t = IsDamagedLater IsBadForRequest (page_count old.size) new (block_of page)
+IsRetainCause (BadInput at) old new t = ⊤
+IsRetainCause InputTooLong old new t = ⊤
+IsRetainCause (TooSmall blocks) old new t = (blocks ≡ old.size) × (old.size < 128)
+IsRetainCause (NoSeries at) old new t = ⊤
+IsRetainCause end old new t = ⊥
 
--- What `retain` did, sent and left, and why it ended, by the status.
-pub record RetainEnds (old new : View) (left left' before now : Option (List ℕ)) (reads reads_now sends sends_now code place : ℕ) : Type 0 where
-  pub codes : Contains (0 ∷ 3 ∷ 4 ∷ 5 ∷ 6 ∷ 7 ∷ 8 ∷ 9 ∷ 12 ∷ 17 ∷ []) code
-  pub done : code ≡ 0 → IfSome left (λ input. RetainsAll (page_count old.size) old new input before now)
-  pub within : code ≡ 0 → IfSome left (λ input. length input ≤ 2 ^ 32)
-  pub memory : code ≡ 3 → IfSome left (λ input. RetainsSome (page_count old.size) old new input before now)
-  pub read : code ≡ 4 → HasRisen reads reads_now
-  pub stopped : code ≡ 4 → IfSome left (λ input. RetainsTaken (page_count old.size) old new input left' before now)
-  pub send : code ≡ 5 → HasRisen sends sends_now
-  pub part : code ≡ 5 → IfSome left (λ input. RetainsPart (page_count old.size) old new input before now)
-  pub fault : code ≡ 6 → HasRisen old.faults new.faults
-  pub faulted : code ≡ 6 → IfSome left (λ input. RetainsLines (page_count old.size) old input before now)
-  pub damaged : code ≡ 7 → FindsDamaged old new left left' before now place
-  pub undamaged : code ≡ 7 → IfSome left (λ input. Never (page_count old.size) old)
-  pub bad : code ≡ 8 → IfSome left (λ input. RetainsToBad (page_count old.size) old new input place before now)
-  pub much : code ≡ 9 → IfSome left (λ input. (place ≡ 2 ^ 32) × RetainsWithin (page_count old.size) old new input before now)
-  pub small : code ≡ 12 → (place ≡ old.size) × (old.size < 128)
-  pub unknown : code ≡ 17 → IfSome left (λ input. RetainsToUnknown (page_count old.size) old new input place before now)
-  pub zero_place : Contains (0 ∷ 3 ∷ 4 ∷ 5 ∷ 6 ∷ []) code → place ≡ 0
-  pub holds : code ≢ 6 → IfSome left (λ input. HoldsAgain (page_count old.size) old new)
-  pub crash : IfSome left (λ input. IfSome before (λ bytes. LeavesSwept (page_count old.size) input old new))
+-- Why `retain` ended, what it did and sent by the book that the disk held, and what the disk holds: but for a fault of the
+-- disk, of which the moments tell, a book again.
+pub record RetainEnds (old new : View) (t : Traffic) (end : End) : Type 0 where
+  pub cause : IsRetainCause end old new t
+  pub does : IfSome t.left (λ input. OfBook (page_count old.size) old (λ total book. EndsSo (Holds (page_count old.size) total new) total book input t.left_now t.sent t.sent_now end))
+  pub holds : end ≢ DiskFault → IfSome t.left (λ input. HoldsAgain (page_count old.size) old new)
+  pub crash : IfSome t.left (λ input. IfSome t.sent (λ bytes. LeavesSwept (page_count old.size) input old new))
   pub goes_on : GoesOn old new
-
--- the same by the status of the command, and by what passed through the streams
-abbrev pub EndsRetain : View → View → Traffic → Status → Type 0
-EndsRetain old new t end = RetainEnds old new t.left t.left_now t.sent t.sent_now t.reads t.reads_now t.sends t.sends_now end.code end.place

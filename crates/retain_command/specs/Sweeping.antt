@@ -5,6 +5,8 @@ use Rattle.block_disk.specs.Streams.{sent_after, PartSent}
 use Rattle.chart_service.specs.Serving.{told}
 use Rattle.chart_world.specs.Fronts.{says, BeginsWith, IsWhole}
 use Rattle.chart_world.specs.Lines.{NoLineFeed}
+use Rattle.run_ends.specs.declared.ending.End.{End}
+use Rattle.run_ends.specs.declared.ending.End.TheVariants.{Done, NoMemory, ReadFault, SendFault, DiskFault, BadInput, InputTooLong, NoSeries}
 use Rattle.series_book.specs.declared.one_series.Series.{Series}
 use Rattle.series_book.specs.EditLists.{after_edits}
 use Rattle.retention.specs.declared.rule.Rule.{Rule}
@@ -13,8 +15,6 @@ use Rattle.retention.specs.Sweeps.{NamesNone, sweeps}
 use Rattle.store_commands.specs.InputLines.{NextLine, Unended}
 use Rattle.retain_command.specs.Answers.{AreRules, answer, answers, book_behind}
 use Rattle.retain_command.specs.Rules.{Says, SaysNone}
-use Rattle.retain_command.specs.declared.retain_end.RetainEnd.{RetainEnd}
-use Rattle.retain_command.specs.declared.retain_end.RetainEnd.TheVariants.{BadLine, UnknownSeries, ReadFault, SendFault, InputTooLong, DiskFault, Damaged, NoMemory}
 
 -- ---- the lines
 
@@ -117,16 +117,17 @@ module _ (IsThere : List Series → Type 0) (total : ℕ) (book : List Series) (
   abbrev pub SweepsSome : Type 0
   SweepsSome = SweepsFirst ⊎ SweepsAmid
 
--- why not all lines were swept, what was done and what was sent
-abbrev pub EndsSo : (List Series → Type 0) → ℕ → List Series → List ℕ → Option (List ℕ) → Option (List ℕ) → Option (List ℕ) → RetainEnd → Type 0
-EndsSo IsThere total book input left before now (BadLine at) = SweepsToBad IsThere total book input before now at
-EndsSo IsThere total book input left before now (UnknownSeries at) = SweepsToUnknown IsThere total book input before now at
+-- what was done and what was sent, by how a run ended that sweeps this book
+abbrev pub EndsSo : (List Series → Type 0) → ℕ → List Series → List ℕ → Option (List ℕ) → Option (List ℕ) → Option (List ℕ) → End → Type 0
+EndsSo IsThere total book input left before now Done = SweepsAll IsThere total book input before now
+EndsSo IsThere total book input left before now NoMemory = SweepsSome IsThere total book input before now
 EndsSo IsThere total book input left before now ReadFault = SweepsTaken IsThere total book input before now left
 EndsSo IsThere total book input left before now SendFault = SweepsPart IsThere total book input before now
-EndsSo IsThere total book input left before now InputTooLong = SweepsWithin IsThere total book input before now
 EndsSo IsThere total book input left before now DiskFault = SweepsLines total book input before now
-EndsSo IsThere total book input left before now (Damaged page) = ⊥
-EndsSo IsThere total book input left before now NoMemory = SweepsSome IsThere total book input before now
+EndsSo IsThere total book input left before now (BadInput at) = SweepsToBad IsThere total book input before now at
+EndsSo IsThere total book input left before now InputTooLong = SweepsWithin IsThere total book input before now
+EndsSo IsThere total book input left before now (NoSeries at) = SweepsToUnknown IsThere total book input before now at
+EndsSo IsThere total book input left before now end = ⊥
 
 -- ---- crashes
 

@@ -7,12 +7,12 @@ use Rattle.chart_world.specs.Faults.{CountsFault}
 use Rattle.gate_pages.specs.GateLaws.{goes_none, goes_then as goes_on_then}
 use Rattle.gate_pages.specs.Pages.{GoesOn}
 use Rattle.page_space.specs.declared.superblock.Superblock.{Superblock}
+use Rattle.run_ends.specs.declared.ending.End.{End}
+use Rattle.run_ends.specs.declared.ending.End.TheVariants.{NoMemory, ReadFault, SendFault, DiskFault, DamagedPage, BadInput, InputTooLong, NoSeries}
 use Rattle.stored_book.specs.Standing.{StandsForBook}
 use Rattle.store_commands.specs.Sides.{Side, AreBeside}
 use Rattle.retain_command.specs.Doing.{Goes, IsCause}
 use Rattle.retain_command.specs.Working.{Held}
-use Rattle.retain_command.specs.declared.retain_end.RetainEnd.{RetainEnd}
-use Rattle.retain_command.specs.declared.retain_end.RetainEnd.TheVariants.{BadLine, UnknownSeries, ReadFault, SendFault, InputTooLong, DiskFault, Damaged, NoMemory}
 
 pub stands_kept : (held : Held) (old new : View) → DiskKept old new → StandsForBook old.image held.total held.book
     → StandsForBook new.image held.total held.book
@@ -76,14 +76,15 @@ goes_streams old new kept told was_told on total_is reads sends = record {
 -- why a later call ended is why all ended, where no fault was counted before
 module _ (old mid new : Side) (was : AreBeside old.view old.read_faults old.send_faults)
     (are : AreBeside mid.view mid.read_faults mid.send_faults) (quiet : CountsFault None old.view mid.view) where
-  pub cause_later : (end : RetainEnd) → Goes old mid → IsCause end mid new → IsCause end old new
-  cause_later (BadLine at) goes is = tt
-  cause_later (UnknownSeries at) goes is = tt
+  pub cause_later : (end : End) → Goes old mid → IsCause end mid new → IsCause end old new
+  cause_later NoMemory goes is = tt
   cause_later ReadFault goes is = risen_since old.read_faults mid.read_faults new.read_faults
       (sym are.reads_are ∙ takes_stay old.view mid.view quiet ∙ was.reads_are) is
   cause_later SendFault goes is = risen_since old.send_faults mid.send_faults new.send_faults
       (sym are.sends_are ∙ sends_stay old.view mid.view quiet ∙ was.sends_are) is
-  cause_later InputTooLong goes is = tt
   cause_later DiskFault goes is = risen_since old.view.faults mid.view.faults new.view.faults (disk_stays old.view mid.view quiet) is
-  cause_later (Damaged page) goes is = (omega (arith, is.0, goes.total_is), is.1)
-  cause_later NoMemory goes is = tt
+  cause_later (DamagedPage page) goes is = (omega (arith, is.0, goes.total_is), is.1)
+  cause_later (BadInput at) goes is = tt
+  cause_later InputTooLong goes is = tt
+  cause_later (NoSeries at) goes is = tt
+  cause_later end goes is = absurd is

@@ -6,13 +6,11 @@ use Rattle.retention.specs.Drops.{book_swept}
 use Rattle.retention.specs.Sweeps.{NamesNone}
 use Rattle.retention.specs.declared.rule.Rule.{Rule}
 use Rattle.retain_command.specs.Answers.{answer}
-use Rattle.line_runs.specs.Given.{Given, Line, Pause, End}
-use Rattle.line_runs.specs.declared.lines_stop.LinesStop.{LinesStop}
-use Rattle.line_runs.specs.declared.lines_stop.LinesStop.TheVariants as stop
-use Rattle.retain_command.specs.Doing.{end_of, LineMoment, LineStops, Untouched}
+use Rattle.line_runs.specs.Given as given
+use Rattle.run_ends.specs.declared.ending.End.{End}
+use Rattle.run_ends.specs.declared.ending.End.TheVariants.{BadInput, DiskFault}
+use Rattle.retain_command.specs.Doing.{LineMoment, LineStops, Untouched}
 use Rattle.retain_command.specs.Rules.{Says}
-use Rattle.retain_command.specs.declared.retain_end.RetainEnd.{RetainEnd}
-use Rattle.retain_command.specs.declared.retain_end.RetainEnd.TheVariants.{BadLine, DiskFault}
 
 -- the book that the pages stand for
 pub record Held : Type 0 where
@@ -32,30 +30,25 @@ pub record RuleDoes (held : Held) (line : Option (List ℕ)) (text : List ℕ) (
   pub behind_is : behind ≡ held_swept held rule
 
 -- a line is empty, or such a rule; at a pause and at the end nothing is done
-abbrev pub LineDoes : Held → Given → List ℕ → Held → Type 0
-LineDoes held (Line at line) text behind = ((line ≡ Some []) × (text ≡ []) × (behind ≡ held)) ⊎ RuleDoes held line text behind
-LineDoes held Pause text behind = (text ≡ []) × (behind ≡ held)
-LineDoes held End text behind = (text ≡ []) × (behind ≡ held)
+abbrev pub LineDoes : Held → given.Given → List ℕ → Held → Type 0
+LineDoes held (given.Line at line) text behind = ((line ≡ Some []) × (text ≡ []) × (behind ≡ held)) ⊎ RuleDoes held line text behind
+LineDoes held given.Pause text behind = (text ≡ []) × (behind ≡ held)
+LineDoes held given.End text behind = (text ≡ []) × (behind ≡ held)
 
 -- why it stopped the run
-abbrev pub LineStopsSo : Held → Given → Image → Option (List ℕ) → Option (List ℕ) → RetainEnd → Type 0
-LineStopsSo held (Line at None) image before now end = (end ≡ BadLine at) × Untouched held.total held.book image before now
-LineStopsSo held (Line at (Some text)) image before now end = LineStops held.total held.book text at image before now end
-LineStopsSo held Pause image before now end = ⊥
-LineStopsSo held End image before now end = ⊥
+abbrev pub LineStopsSo : Held → given.Given → Image → Option (List ℕ) → Option (List ℕ) → End → Type 0
+LineStopsSo held (given.Line at None) image before now end = (end ≡ BadInput at) × Untouched held.total held.book image before now
+LineStopsSo held (given.Line at (Some text)) image before now end = LineStops held.total held.book text at image before now end
+LineStopsSo held given.Pause image before now end = ⊥
+LineStopsSo held given.End image before now end = ⊥
 
 -- after it no line may be given
-abbrev pub Harms : RetainEnd → Type 0
+abbrev pub Harms : End → Type 0
 Harms end = end ≡ DiskFault
 
 -- what a crash leaves meanwhile
-abbrev pub LineLeaves : Held → Given → ℕ → Image → ℕ → Type 0
-LineLeaves held (Line at None) from image sent = ⊥
-LineLeaves held (Line at (Some text)) from image sent = LineMoment held.total held.book text from image sent
-LineLeaves held Pause from image sent = ⊥
-LineLeaves held End from image sent = ⊥
-
--- what a stop of the lines is
-abbrev pub end_of_stop : LinesStop RetainEnd → RetainEnd
-end_of_stop (stop.Fault why) = end_of why
-end_of_stop (stop.Work end) = end
+abbrev pub LineLeaves : Held → given.Given → ℕ → Image → ℕ → Type 0
+LineLeaves held (given.Line at None) from image sent = ⊥
+LineLeaves held (given.Line at (Some text)) from image sent = LineMoment held.total held.book text from image sent
+LineLeaves held given.Pause from image sent = ⊥
+LineLeaves held given.End from image sent = ⊥

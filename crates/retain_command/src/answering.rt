@@ -3,30 +3,30 @@ ghost use Rattle.std.specs.Prelude.{◌≡◌, ◌≢◌, ◌≤◌, Err, length
 ghost use Rattle.block_disk.specs.Counts.{HasRisen};
 ghost use Rattle.block_disk.specs.Streams.{sent_after};
 ghost use Rattle.chart_world.specs.Faults.{CountsFault, fault_in};
+ghost use Rattle.run_ends.specs.Faults.{end_fault};
 ghost use Rattle.series_store.specs.Shown as shown;
 ghost use Rattle.retain_command.specs.Answers.{swept_text};
 ghost use Rattle.store_commands.specs.Sides.{side_of};
 ghost use Rattle.retain_command.specs.Doing.{DoesLineOn, DoesRuleOn, Goes, IsCause, TextStops, end_at};
-ghost use Rattle.retain_command.specs.Faults.{retain_fault};
 
-use crate::retain_end::RetainEnd;
 use crate::rule_error::RuleError;
 use crate::rules::rule_of;
 use block_disk::Streams;
 use gate_pages::PageWorld;
 use retention::{Rule, SweepError, Swept, sweep};
+use run_ends::End;
 use series_store::Store;
 use std::alloc::{AllocError, Global};
 
 /// What an error of a sweep is for the line at this offset.
-fn end_at(at: u32, error: SweepError) -> RetainEnd
+fn end_at(at: u32, error: SweepError) -> End
     ensures { result ≡ end_at at error }
 {
     match error {
-        SweepError::UnknownSeries => RetainEnd::UnknownSeries { at },
-        SweepError::DiskFault => RetainEnd::DiskFault,
-        SweepError::Damaged { page } => RetainEnd::Damaged { page },
-        SweepError::NoMemory => RetainEnd::NoMemory,
+        SweepError::UnknownSeries => End::NoSeries { at },
+        SweepError::DiskFault => End::DiskFault,
+        SweepError::Damaged { page } => End::DamagedPage { page },
+        SweepError::NoMemory => End::NoMemory,
     }
 }
 
@@ -38,15 +38,11 @@ fn swept_text(alloc: Global, swept: Swept) -> Result<Vec<u8>, AllocError>
 }
 
 /// Sends what is said of a sweep.
-fn send_swept<P: PageWorld>(
-    alloc: Global,
-    store: &mut Store<P>,
-    swept: Swept,
-) -> Result<(), RetainEnd>
+fn send_swept<P: PageWorld>(alloc: Global, store: &mut Store<P>, swept: Swept) -> Result<(), End>
     ensures whole { OnOk result (P.sent (shown.pages store.new) ≡ sent_after (swept_text swept.clears swept.used) (P.sent (shown.pages store.old))) }
     ensures stops { IfErr result (TextStops (swept_text swept.clears swept.used) (P.sent (shown.pages store.old)) (P.sent (shown.pages store.new))) }
-    ensures cause { result ≡ Err RetainEnd.SendFault → HasRisen (P.send_faults (shown.pages store.old)) (P.send_faults (shown.pages store.new)) }
-    ensures faults { CountsFault (fault_in retain_fault result) (shown.view store.old) (shown.view store.new) }
+    ensures cause { result ≡ Err End.SendFault → HasRisen (P.send_faults (shown.pages store.old)) (P.send_faults (shown.pages store.new)) }
+    ensures faults { CountsFault (fault_in end_fault result) (shown.view store.old) (shown.view store.new) }
     ensures send_faults { P.send_faults (shown.pages store.old) ≤ P.send_faults (shown.pages store.new) }
     ensures left { P.left (shown.pages store.new) ≡ P.left (shown.pages store.old) }
     ensures pieces { P.pieces (shown.pages store.new) ≡ P.pieces (shown.pages store.old) }
@@ -54,11 +50,11 @@ fn send_swept<P: PageWorld>(
     ensures beside { shown.Keeps (P.sends (length (swept_text swept.clears swept.used)) (shown.pages store.old) (shown.pages store.new)) store.old store.new }
 {
     let Ok(text) = swept_text(alloc, swept) else {
-        return Err(RetainEnd::NoMemory);
+        return Err(End::NoMemory);
     };
     match store.send(text.as_slice()) {
         Ok(()) => Ok(()),
-        Err(_) => Err(RetainEnd::SendFault),
+        Err(_) => Err(End::SendFault),
     }
 }
 
@@ -68,13 +64,13 @@ fn answer_rule<P: PageWorld>(
     store: &mut Store<P>,
     at: u32,
     rule: &Rule,
-) -> Result<(), RetainEnd>
+) -> Result<(), End>
     requires sound { shown.IsSound store.old }
     ensures does { shown.ForBook store.old (DoesRuleOn P.sent rule.now at result store.old store.new) }
     ensures goes { Goes (side_of P.Streams store.old) (side_of P.Streams store.new) }
     ensures cause { IfErr result (λ e. IsCause e (side_of P.Streams store.old) (side_of P.Streams store.new)) }
-    ensures faults { CountsFault (fault_in retain_fault result) (shown.view store.old) (shown.view store.new) }
-    ensures sound { result ≢ Err RetainEnd.DiskFault → shown.IsSound store.new }
+    ensures faults { CountsFault (fault_in end_fault result) (shown.view store.old) (shown.view store.new) }
+    ensures sound { result ≢ Err End.DiskFault → shown.IsSound store.new }
     ensures left { P.left (shown.pages store.new) ≡ P.left (shown.pages store.old) }
     ensures pieces { P.pieces (shown.pages store.new) ≡ P.pieces (shown.pages store.old) }
 {
@@ -90,13 +86,13 @@ pub(crate) fn answer_line<P: PageWorld>(
     store: &mut Store<P>,
     at: u32,
     line: &[u8],
-) -> Result<(), RetainEnd>
+) -> Result<(), End>
     requires sound { shown.IsSound store.old }
     ensures does { shown.ForBook store.old (DoesLineOn P.sent line.now at result store.old store.new) }
     ensures goes { Goes (side_of P.Streams store.old) (side_of P.Streams store.new) }
     ensures cause { IfErr result (λ e. IsCause e (side_of P.Streams store.old) (side_of P.Streams store.new)) }
-    ensures faults { CountsFault (fault_in retain_fault result) (shown.view store.old) (shown.view store.new) }
-    ensures sound { result ≢ Err RetainEnd.DiskFault → shown.IsSound store.new }
+    ensures faults { CountsFault (fault_in end_fault result) (shown.view store.old) (shown.view store.new) }
+    ensures sound { result ≢ Err End.DiskFault → shown.IsSound store.new }
     ensures left { P.left (shown.pages store.new) ≡ P.left (shown.pages store.old) }
     ensures pieces { P.pieces (shown.pages store.new) ≡ P.pieces (shown.pages store.old) }
 {
@@ -105,7 +101,7 @@ pub(crate) fn answer_line<P: PageWorld>(
     }
     match rule_of(alloc, line) {
         Ok(rule) => answer_rule(alloc, store, at, &rule),
-        Err(RuleError::NoRule) => Err(RetainEnd::BadLine { at }),
-        Err(RuleError::NoMemory) => Err(RetainEnd::NoMemory),
+        Err(RuleError::NoRule) => Err(End::BadInput { at: u64::from(at) }),
+        Err(RuleError::NoMemory) => Err(End::NoMemory),
     }
 }

@@ -1,17 +1,17 @@
 //! The work of `retain`: each line is a rule.
 ghost use Rattle.std.specs.Prelude.{⊤};
+ghost use Rattle.run_ends.specs.Faults.{end_fault};
 ghost use Rattle.series_store.specs.Shown as shown;
 ghost use Rattle.stored_book.specs.Standing.{StandsForBook};
 ghost use Rattle.store_commands.specs.Sides.{side_of};
 ghost use Rattle.retain_command.specs.Doing.{Goes, IsCause};
-ghost use Rattle.retain_command.specs.Faults.{retain_fault};
 ghost use Rattle.retain_command.specs.Working.{Harms, Held, LineDoes, LineLeaves, LineStopsSo};
 ghost use Rattle.retain_command.specs.WorkLaws.{besides, cause_later, goes_further, goes_nowhere, goes_streams, no_less, now_stands, same_total, stands_kept};
 
 use crate::answering::answer_line;
-use crate::retain_end::RetainEnd;
 use gate_pages::PageWorld;
 use line_runs::LineWork;
+use run_ends::End;
 use series_store::Store;
 use std::alloc::Global;
 
@@ -21,7 +21,7 @@ pub(crate) struct RuleWork {
     pub(crate) alloc: Global,
 }
 
-impl<P: PageWorld> LineWork<Store<P>, RetainEnd> for RuleWork {
+impl<P: PageWorld> LineWork<Store<P>, End> for RuleWork {
     ghost State = { Held };
 
     ghost view = { λ store. shown.view store };
@@ -46,21 +46,21 @@ impl<P: PageWorld> LineWork<Store<P>, RetainEnd> for RuleWork {
 
     ghost harms = { Harms };
 
-    ghost fault = { retain_fault };
+    ghost fault = { end_fault };
 
-    fn line(&mut self, from: &mut Store<P>, at: u32, line: &[u8]) -> Result<(), RetainEnd> {
+    fn line(&mut self, from: &mut Store<P>, at: u32, line: &[u8]) -> Result<(), End> {
         answer_line(self.alloc, from, at, line)
     }
 
-    fn long_line(&mut self, from: &mut Store<P>, at: u32) -> Result<(), RetainEnd> {
-        Err(RetainEnd::BadLine { at })
+    fn long_line(&mut self, from: &mut Store<P>, at: u32) -> Result<(), End> {
+        Err(End::BadInput { at: u64::from(at) })
     }
 
-    fn pause(&mut self, from: &mut Store<P>) -> Result<(), RetainEnd> {
+    fn pause(&mut self, from: &mut Store<P>) -> Result<(), End> {
         Ok(())
     }
 
-    fn finish(&mut self, from: &mut Store<P>) -> Result<(), RetainEnd> {
+    fn finish(&mut self, from: &mut Store<P>) -> Result<(), End> {
         Ok(())
     }
 

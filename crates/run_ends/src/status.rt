@@ -1,5 +1,5 @@
-ghost use Rattle.std.specs.Prelude.{◌≡◌, ◌+◌, ◌*◌};
-ghost use Rattle.run_ends.specs.Statuses.{code_of, place_of, status, status_of};
+ghost use Rattle.std.specs.Prelude.{◌≡◌};
+ghost use Rattle.run_ends.specs.Statuses.{block_of, code_of, place_of, refused_at, status, status_of};
 
 use crate::codes::{
     BAD_COEFFICIENT, BAD_INPUT, DAMAGED, DISK_FAULT, DONE, IS_STORE, MISSING, NO_MEMORY, NO_SERIES,
@@ -40,14 +40,14 @@ pub fn status_of(end: End) -> Status
         End::SendFault => told(SEND_FAULT, 0),
         End::DiskFault => told(DISK_FAULT, 0),
         End::DamagedBlock { block } => told(DAMAGED, block),
-        End::DamagedPage { page } => told(DAMAGED, FIRST_PAGE + u64::from(page)),
+        End::DamagedPage { page } => told(DAMAGED, block_of(page)),
         End::BadInput { at } => told(BAD_INPUT, at),
         End::InputTooLong => told(TOO_MUCH, MOST_BYTES),
         End::TooManySlots { most } => told(TOO_MUCH, most),
         End::Missing { key } => told(MISSING, key),
         End::BadCoefficient { key } => told(BAD_COEFFICIENT, key),
         End::TooSmall { blocks } => told(TOO_SMALL, u64::from(blocks)),
-        End::IsStore => told(IS_STORE, FIRST_PAGE),
+        End::IsStore => told(IS_STORE, block_of(0)),
         End::UnknownSeries => told(REFUSED, UNKNOWN_SERIES),
         End::Refused { at, refusal } => told(REFUSED, refused_at(at, refusal)),
         End::UnknownSession { session } => told(UNKNOWN_SESSION, u64::from(session)),
@@ -63,9 +63,16 @@ fn told(code: u8, place: u64) -> Status
     Status { code, place }
 }
 
+/// The block of a page of the store.
+fn block_of(page: u32) -> u64
+    ensures { result ≡ block_of page }
+{
+    FIRST_PAGE + u64::from(page)
+}
+
 /// The place of a refusal: 256 times the offset of the line, and its number.
 fn refused_at(at: u32, refusal: u8) -> u64
-    ensures { result ≡ 256 * at + refusal }
+    ensures { result ≡ refused_at at refusal }
 {
     256 * u64::from(at) + u64::from(refusal)
 }

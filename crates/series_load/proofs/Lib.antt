@@ -10,3 +10,5 @@ pub mod Knowing
 pub mod Counting
 pub mod WorkLemmas
 pub mod Reached
+pub mod FirstLemmas
+pub mod GroupLemmas

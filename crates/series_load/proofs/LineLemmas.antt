@@ -1,11 +1,11 @@
 -- What a line more does to what was read.
 use Rattle.std.proofs.Common.{◌≡◌, ℕ, ℤ, ◌+◌, ◌<◌, ◌^◌, Bool, true, false, cond, List, [], ◌∷◌, ◌++◌, length, Option, None, Some, Result, Ok, Err, IsSomeAnd, refl, ap, subst, inl, inr, sym, ◌∙◌, arith, unsigned_abs}
 use Rattle.std.proofs.lemmas.List.{append-nil}
-use Rattle.std.specs.Prelude.{count_by, is_some, IsErrAnd, ◌==◌}
+use Rattle.std.specs.Prelude.{count_by, is_some, IsErrAnd, OnOk, ◌==◌}
 use Rattle.std.proofs.lemmas.Bool.{eqb-true}
 use Rattle.std.proofs.lemmas.List.Sums.{sum_by-append}
-use Rattle.block_disk.specs.View.{View}
-use Rattle.block_disk.proofs.Passing.{passes_none}
+use Rattle.block_disk.specs.View.{View, Passes}
+use Rattle.block_disk.proofs.Passing.{passes_none, passes_weaker}
 use Rattle.gate_pages.specs.Pages.{Quiet}
 use Rattle.series_book.specs.declared.one_series.Series.{Series}
 use Rattle.stored_book.specs.Standing.{StandsForBook}
@@ -15,15 +15,17 @@ use Rattle.csv_load.specs.declared.row.Row.TheVariants as row
 use Rattle.series_load.specs.Fronts.{PlacedLine}
 use Rattle.series_load.specs.Rows.{Reading, IsRow, AreTable, IsBad}
 use Rattle.series_load.specs.Runs.{Run, Cut}
-use Rattle.series_load.specs.Steps.{closed, Closes, Adds, Read, if_told, LineAdds, LineEnds, SaysSo, Keeps, NoBad, BadDone, TooLongDone, IsEither, Does}
+use Rattle.series_load.specs.Steps.{Adds, Does, DoesLine, IsAtLine, IsAtText, KeepsRuns, LineAdds, LineLeaves, LineRuns, NoBad, Read, SaysSo, StopsSo, Took, closed, if_told}
 use Rattle.series_load.specs.declared.load_end.LoadEnd.{LoadEnd}
+use Rattle.series_load.specs.Sets.{AreSets, IsPartDone}
+use Rattle.series_load.specs.declared.load_end.LoadEnd.TheVariants.{UnknownSeries, BadLine, Refused, ReadFault, InputTooLong, DiskFault, Damaged, NoMemory}
+use Rattle.series_load.specs.declared.kept_sets.KeptSets.{KeptSets}
 use Rattle.series_load.specs.declared.open_run.OpenRun.{OpenRun}
 use Rattle.series_load.specs.declared.open_run.Reading.{Reading as Kept}
 use Rattle.series_load.specs.declared.said.Said.{Said}
 use Rattle.series_load.specs.declared.said.Said.TheVariants.{Header, Point, Gap, Bad}
 use Rattle.series_load.proofs.RunLemmas.{adds_gap}
-use Rattle.series_load.proofs.Carrying.{does_less, err_less}
-use Rattle.series_load.proofs.SetLemmas.{after_none}
+use Rattle.series_load.proofs.SetLemmas.{after_none, part_none, stops_more}
 use Rattle.series_load.proofs.RowLemmas.{table_more, no_rows, table_header}
 
 -- one for a row with a reading
@@ -67,14 +69,6 @@ adds_row scale step at text first old points row ends new some is adds = λ line
     let P : List PlacedLine → Type 0 = λ l. Read scale step (lines ++ l) (runs ++ ends) false new (points + one_if row) in
     subst P (sym (told_one at text some)) (read_row scale step at text first old points row ends new lines runs is adds read)
 
-pub ends_row : (scale step at : ℕ) (text : List ℕ) (first : Bool) (old : Option Run) (points : ℕ) (row : Option Reading) (ends : List Run) (new : Option Run) → 0 < length text → IsRow scale (placed at text) row → Adds step old row ends new → LineEnds scale step at text first old points ends
-ends_row scale step at text first old points row ends new some is adds = λ lines runs read.
-    let P : List PlacedLine → Type 0 = λ l. AreTable scale (lines ++ l) (read.rows ++ row ∷ []) in
-    record {
-      rows = read.rows ++ row ∷ [];
-      ended = inl (subst P (sym (told_one at text some)) (table_more scale lines read.rows (placed at text) row read.table is), (new, adds read.rows runs read.cut));
-    }
-
 -- the header is read
 pub adds_header : (scale step at : ℕ) (text : List ℕ) (first : Bool) (old : Option Run) (points : ℕ) → 0 < length text → SaysSo scale first text Header → LineAdds scale step at text first old points [] false old points
 adds_header scale step at text first old points some says = λ lines runs read.
@@ -104,15 +98,6 @@ pub is_bad : (scale : ℕ) (text : List ℕ) (first : Bool) (lines : List Placed
 is_bad scale text first lines some (inl fails) = inl fails
 is_bad scale text first lines some (inr late) = inr (some late.0, late.1)
 
--- a bad line ends the run that stands open
-pub ends_bad : (scale step at : ℕ) (text : List ℕ) (first : Bool) (old : Option Run) (points : ℕ) (ends : List Run) (new : Option Run) → 0 < length text → SaysSo scale first text Bad → Closes old ends new → LineEnds scale step at text first old points ends
-ends_bad scale step at text first old points ends new some bad closes = λ lines runs read.
-    let P : List Run → Type 0 = λ e. Cut step (read.rows ++ None ∷ []) (runs ++ e) None in
-    record {
-      rows = read.rows;
-      ended = inr (some, is_bad scale text first lines read.some_yet bad, read.table, (None, subst P (sym closes.0) (adds_gap step old read.rows runs read.cut)));
-    }
-
 near_of : (scale : ℕ) (fields : Option Fields) (time value : ℤ) → IsSomeAnd fields (λ f. FieldsSay scale f (row.Point time value)) → unsigned_abs time < 10 ^ 19
 near_of scale None time value says = absurd says
 near_of scale (Some f) time value says = says.0.1
@@ -138,63 +123,103 @@ some_text_of b (byte ∷ bytes) tests is = omega arith
 abbrev pub adds_at : ℕ → ℕ → ℕ → List ℕ → Bool → Option Run → ℕ → Bool → ℕ → List Run → Option Run → Type 0
 adds_at scale step at text first old points first' points' ends new = LineAdds scale step at text first old points ends first' new points'
 
-abbrev pub ends_at : ℕ → ℕ → ℕ → List ℕ → Bool → Option Run → ℕ → List Run → Option Run → Type 0
-ends_at scale step at text first old points ends new = LineEnds scale step at text first old points ends
-
--- nothing is stored
-pub does_nothing : {T : Type 0} (G H : List Run → Option Run → Type 0) (B : ℕ → Type 0) (total : ℕ) (name : List ℕ) (book : List Series) (old : Option Run) (v : T) (kept : OpenRun) (at : View) → G [] old → Keeps old kept → StandsForBook at.image total book → Does G H B total name book (Ok v) kept at at
-does_nothing G H B total name book old v kept at gives keeps stands = record {
-  done = record { ends = []; new = old; gives = gives; keeps = keeps; after = after_none total name book at.image stands };
-  stops = tt;
-  moments = passes_none at (IsEither H total name book) (Quiet at);
-}
+-- no run ends
+pub took_nothing : (G : List Run → Option Run → Type 0) (name : List ℕ) (waiting : List Run) (old : Option Run) (kept : KeptSets) (run : OpenRun) → G [] old → KeepsRuns name waiting old kept run → Took G name waiting kept run
+took_nothing G name waiting old kept run gives keeps =
+    let P : List Run → Type 0 = λ l. AreSets name l kept.sets.items kept.ats.items in
+    record { ends = []; new = old; gives = gives; keeps = record { sets = subst P (sym (append-nil waiting)) keeps.sets; still = keeps.still } }
 
 -- a row of either kind was taken
-row_does : {T : Type 0} (scale step at : ℕ) (text : List ℕ) (first : Bool) (points points' : ℕ) (row : Option Reading) (total : ℕ) (name : List ℕ) (book : List Series) (old : Option Run) (result : Result T LoadEnd) (kept : OpenRun) (before now : View) → 0 < length text → IsRow scale (placed at text) row → points' ≡ points + one_if row
-    → Does (Adds step old row) (Adds step old row) NoBad total name book result kept before now
-    → Does (adds_at scale step at text first old points false points') (ends_at scale step at text first old points) (BadDone scale at first text total name book old now.image) total name book result kept before now
-row_does scale step at text first points points' row total name book old result kept before now some is count does =
-    let P : ℕ → Type 0 = λ n. Does (adds_at scale step at text first old points false n) (ends_at scale step at text first old points) (BadDone scale at first text total name book old now.image) total name book result kept before now in
-    subst P (sym count) (does_less (Adds step old row) (Adds step old row) (adds_at scale step at text first old points false (points + one_if row)) (ends_at scale step at text first old points) NoBad (BadDone scale at first text total name book old now.image) total name book result kept before now
-    (λ ends new adds. adds_row scale step at text first old points row ends new some is adds) (λ ends new adds. (new, ends_row scale step at text first old points row ends new some is adds)) (λ place no_line. absurd no_line) does)
+row_took : {T : Type 0} (scale step at : ℕ) (text : List ℕ) (first first' : Bool) (points points' : ℕ) (row : Option Reading) (name : List ℕ) (waiting : List Run) (old : Option Run) (result : Result T LoadEnd) (kept : KeptSets) (run : OpenRun) → 0 < length text → IsRow scale (placed at text) row → first' ≡ false → points' ≡ points + one_if row
+    → OnOk result (Took (Adds step old row) name waiting kept run) → OnOk result (Took (adds_at scale step at text first old points first' points') name waiting kept run)
+row_took {T} scale step at text first first' points points' row name waiting old (Ok v) kept run some is named count took =
+    let N : ℕ → Type 0 = λ n. LineAdds scale step at text first old points took.ends false took.new n in
+    let F : Bool → Type 0 = λ b. LineAdds scale step at text first old points took.ends b took.new points' in
+    record { ends = took.ends; new = took.new; gives = subst F (sym named) (subst N (sym count) (adds_row scale step at text first old points row took.ends took.new some is took.gives)); keeps = took.keeps }
+row_took {T} scale step at text first first' points points' row name waiting old (Err e) kept run some is named count took = tt
 
--- where the state after the call is named
-named_so : {T : Type 0} (scale step at : ℕ) (text : List ℕ) (first : Bool) (points : ℕ) (first' : Bool) (points' : ℕ) (total : ℕ) (name : List ℕ) (book : List Series) (old : Option Run) (result : Result T LoadEnd) (kept : OpenRun) (before now : View) → first' ≡ false
-    → Does (adds_at scale step at text first old points false points') (ends_at scale step at text first old points) (BadDone scale at first text total name book old now.image) total name book result kept before now
-    → Does (adds_at scale step at text first old points first' points') (ends_at scale step at text first old points) (BadDone scale at first text total name book old now.image) total name book result kept before now
-named_so scale step at text first points first' points' total name book old result kept before now is =
-    let P : Bool → Type 0 = λ b. Does (adds_at scale step at text first old points b points') (ends_at scale step at text first old points) (BadDone scale at first text total name book old now.image) total name book result kept before now in
-    subst P (sym is)
-
-pub point_does : {T : Type 0} (scale step at : ℕ) (text : List ℕ) (first first' : Bool) (points points' : ℕ) (time value : ℤ) (total : ℕ) (name : List ℕ) (book : List Series) (old : Option Run) (result : Result T LoadEnd) (kept : OpenRun) (before now : View) → 0 < length text → Says scale text (row.Point time value) → first' ≡ false → points' ≡ points + 1
-    → Does (Adds step old (Some (record { at = at; time = time; value = value }))) (Adds step old (Some (record { at = at; time = time; value = value }))) NoBad total name book result kept before now
-    → Does (adds_at scale step at text first old points first' points') (ends_at scale step at text first old points) (BadDone scale at first text total name book old now.image) total name book result kept before now
-point_does scale step at text first first' points points' time value total name book old result kept before now some says is count does =
-    named_so scale step at text first points first' points' total name book old result kept before now is
-    (row_does scale step at text first points points' (Some (record { at = at; time = time; value = value })) total name book old result kept before now some (refl, says) count does)
+pub point_took : {T : Type 0} (scale step at : ℕ) (text : List ℕ) (first first' : Bool) (points points' : ℕ) (time value : ℤ) (name : List ℕ) (waiting : List Run) (old : Option Run) (result : Result T LoadEnd) (kept : KeptSets) (run : OpenRun) → 0 < length text → Says scale text (row.Point time value) → first' ≡ false → points' ≡ points + 1
+    → OnOk result (Took (Adds step old (Some (record { at = at; time = time; value = value }))) name waiting kept run) → OnOk result (Took (adds_at scale step at text first old points first' points') name waiting kept run)
+point_took scale step at text first first' points points' time value name waiting old result kept run some says is count took =
+    row_took scale step at text first first' points points' (Some (record { at = at; time = time; value = value })) name waiting old result kept run some (refl, says) is count took
 
 gap_row : (scale at : ℕ) (text : List ℕ) → ((time : ℤ) × Says scale text (row.Skip time)) → IsRow scale (placed at text) None
 gap_row scale at text says = says
 
-closes_adds : (step : ℕ) (old : Option Run) (ends : List Run) (new : Option Run) → Closes old ends new → Adds step old None ends new
-closes_adds step old ends new closes =
-    let E : List Run → Type 0 = λ e. Adds step old None e new in
-    let N : Option Run → Type 0 = λ n. Adds step old None (closed old) n in
-    subst E (sym closes.0) (subst N (sym closes.1) (adds_gap step old))
+pub gap_took : {T : Type 0} (scale step at : ℕ) (text : List ℕ) (first first' : Bool) (points points' : ℕ) (name : List ℕ) (waiting : List Run) (old : Option Run) (result : Result T LoadEnd) (kept : KeptSets) (run : OpenRun) → 0 < length text → SaysSo scale first text Gap → first' ≡ false → points' ≡ points
+    → OnOk result (KeepsRuns name (waiting ++ closed old) None kept run) → OnOk result (Took (adds_at scale step at text first old points first' points') name waiting kept run)
+gap_took {T} scale step at text first first' points points' name waiting old (Ok v) kept run some says is count ended =
+    row_took {T = T} scale step at text first first' points points' None name waiting old (Ok v) kept run some (gap_row scale at text says) is (count ∙ omega arith)
+    (record { ends = closed old; new = None; gives = adds_gap step old; keeps = ended })
+gap_took {T} scale step at text first first' points points' name waiting old (Err e) kept run some says is count ended = tt
 
-pub gap_does : {T : Type 0} (scale step at : ℕ) (text : List ℕ) (first first' : Bool) (points points' : ℕ) (total : ℕ) (name : List ℕ) (book : List Series) (old : Option Run) (result : Result T LoadEnd) (kept : OpenRun) (before now : View) → 0 < length text → SaysSo scale first text Gap → first' ≡ false → points' ≡ points
-    → Does (Closes old) (Closes old) NoBad total name book result kept before now
-    → Does (adds_at scale step at text first old points first' points') (ends_at scale step at text first old points) (BadDone scale at first text total name book old now.image) total name book result kept before now
-gap_does scale step at text first first' points points' total name book old result kept before now some says is count does =
-    named_so scale step at text first points first' points' total name book old result kept before now is
-    (row_does scale step at text first points points' None total name book old result kept before now some (gap_row scale at text says) (count ∙ omega arith)
-    (does_less (Closes old) (Closes old) (Adds step old None) (Adds step old None) NoBad NoBad total name book result kept before now
-    (λ ends new closes. closes_adds step old ends new closes) (λ ends new closes. (new, closes_adds step old ends new closes)) (λ place no_line. no_line) does))
+-- ---- with the store
 
-pub bad_does : {T U : Type 0} (scale step at : ℕ) (text : List ℕ) (first first' : Bool) (points points' : ℕ) (total : ℕ) (name : List ℕ) (book : List Series) (old : Option Run) (e : LoadEnd) (result : Result U LoadEnd) (kept kept' : OpenRun) (before now : View) → 0 < length text → SaysSo scale first text Bad → IsErrAnd result (λ x. x ≡ e)
-    → Does {T = T} (Closes old) (Closes old) (TooLongDone at total name book old now.image) total name book (Err e) kept before now
-    → Does (adds_at scale step at text first old points first' points') (ends_at scale step at text first old points) (BadDone scale at first text total name book old now.image) total name book result kept' before now
-bad_does {T} scale step at text first first' points points' total name book old e result kept kept' before now some says is does =
-    err_less {T = T} (Closes old) (Closes old) (adds_at scale step at text first old points first' points') (ends_at scale step at text first old points) (TooLongDone at total name book old now.image) (BadDone scale at first text total name book old now.image) total name book e result kept kept' before now is
-    (λ ends new closes. (new, ends_bad scale step at text first old points ends new some says closes))
-    (λ place done. record { at_is = done.at_is; some = some; bad = says; after = done.after }) does
+module _ (scale step at : ℕ) (text : List ℕ) (first : Bool) (points total : ℕ) (name : List ℕ) (book : List Series) (waiting : List Run) (open_run : Option Run) where
+  abbrev Line : {T : Type 0} → Result T LoadEnd → Bool → ℕ → KeptSets → OpenRun → View → View → Type 0
+  Line {T} result first' points' kept run old new = DoesLine scale step at text first points total name book waiting open_run result first' points' kept run old new
+
+  -- nothing was stored
+  pub line_kept : {T : Type 0} (v : T) (first' : Bool) (points' : ℕ) (kept : KeptSets) (run : OpenRun) (now : View) → StandsForBook now.image total book → Took (adds_at scale step at text first open_run points first' points') name waiting kept run
+      → Line (Ok v) first' points' kept run now now
+  line_kept {T} v first' points' kept run now stands took = record {
+    took = record { ends = took.ends; new = took.new; adds = took.gives; done = []; later = waiting ++ took.ends; split = refl; after = after_none total name book now.image stands; keeps = took.keeps };
+    stops = tt;
+    moments = passes_none now (LineLeaves scale step at text first points total name book waiting open_run) (Quiet now);
+  }
+
+  pub line_starved : {T : Type 0} (e : LoadEnd) (result : Result T LoadEnd) (first' : Bool) (points' : ℕ) (kept : KeptSets) (run : OpenRun) (now : View) → IsErrAnd result (λ x. x ≡ e) → e ≡ NoMemory → StandsForBook now.image total book → Line result first' points' kept run now now
+  line_starved {T} e (Ok v) first' points' kept run now is none stands = absurd is
+  line_starved {T} e (Err x) first' points' kept run now is none stands =
+      let P : LoadEnd → Type 0 = λ y. StopsSo (IsAtText scale at text first total name book (waiting ++ closed open_run) now.image) total name book waiting now.image y in
+      record {
+        took = tt;
+        stops = record { runs = waiting; are = inl refl; why = subst P (sym (is ∙ none)) (part_none total name book waiting now.image stands) };
+        moments = passes_none now (LineLeaves scale step at text first points total name book waiting open_run) (Quiet now);
+      }
+
+  -- the sets that were kept were done
+  pub line_committed : (result : Result (Unit {0}) LoadEnd) (first' : Bool) (points' : ℕ) (kept kept' : KeptSets) (run run' : OpenRun) (old new : View) → (took : Took (adds_at scale step at text first open_run points first' points') name waiting kept run) → run' ≡ run
+      → Does NoBad total name book (waiting ++ took.ends) result old new → OnOk result (KeepsRuns name [] took.new kept' run') → Line result first' points' kept' run' old new
+  line_committed result first' points' kept kept' run run' old new took same does keeps =
+      let runs = waiting ++ took.ends in
+      let are : LineRuns scale step at text first points waiting open_run runs = inr (inl (record { ends = took.ends; first' = first'; new = took.new; points' = points'; adds = took.gives; runs_are = refl })) in
+      by result does keeps (passes_weaker old new (IsPartDone total name book runs) (LineLeaves scale step at text first points total name book waiting open_run) (Quiet old) (Quiet old)
+      (λ image part. record { runs = runs; are = are; part = part }) (λ count quiet. quiet) does.moments) are
+    where
+      by : (r : Result (Unit {0}) LoadEnd) → Does NoBad total name book (waiting ++ took.ends) r old new → OnOk r (KeepsRuns name [] took.new kept' run')
+          → Passes old new (LineLeaves scale step at text first points total name book waiting open_run) (Quiet old) → LineRuns scale step at text first points waiting open_run (waiting ++ took.ends) → Line r first' points' kept' run' old new
+      by (Ok v) does keeps time are = record {
+        took = record { ends = took.ends; new = took.new; adds = took.gives; done = waiting ++ took.ends; later = []; split = sym (append-nil (waiting ++ took.ends)); after = does.done; keeps = keeps };
+        stops = tt;
+        moments = time;
+      }
+      by (Err e) does keeps time are = record {
+        took = tt;
+        stops = record { runs = waiting ++ took.ends; are = are; why = stops_more (IsAtText scale at text first total name book (waiting ++ closed open_run) new.image) total name book (waiting ++ took.ends) new.image e does.stops };
+        moments = time;
+      }
+
+  -- at a bad line
+  pub line_stopped : {T U : Type 0} (e : LoadEnd) (first' : Bool) (points' : ℕ) (kept : KeptSets) (run : OpenRun) (old new : View) → 0 < length text → SaysSo scale first text Bad
+      → Does {T = U} (IsAtLine at total name book (waiting ++ closed open_run) new.image) total name book (waiting ++ closed open_run) (Err e) old new → Line {T = T} (Err e) first' points' kept run old new
+  line_stopped {T} {U} e first' points' kept run old new some bad does =
+      let runs = waiting ++ closed open_run in
+      let are : LineRuns scale step at text first points waiting open_run runs = inr (inr (record { some = some; bad = bad; runs_are = refl })) in
+      record {
+        took = tt;
+        stops = record { runs = runs; are = are; why = at_text e does.stops };
+        moments = passes_weaker old new (IsPartDone total name book runs) (LineLeaves scale step at text first points total name book waiting open_run) (Quiet old) (Quiet old)
+            (λ image part. record { runs = runs; are = are; part = part }) (λ count quiet. quiet) does.moments;
+      }
+    where
+      at_text : (e : LoadEnd) → StopsSo (IsAtLine at total name book (waiting ++ closed open_run) new.image) total name book (waiting ++ closed open_run) new.image e
+          → StopsSo (IsAtText scale at text first total name book (waiting ++ closed open_run) new.image) total name book (waiting ++ closed open_run) new.image e
+      at_text UnknownSeries why = why
+      at_text (BadLine place) why = record { at_line = why; some = some; bad = bad }
+      at_text (Refused place refusal) why = why
+      at_text ReadFault why = why
+      at_text InputTooLong why = why
+      at_text DiskFault why = why
+      at_text (Damaged page) why = why
+      at_text NoMemory why = why

@@ -11,7 +11,7 @@ use Rattle.chart_world.specs.Lines.{is_line_feed, lines, split_lines, text_of}
 use Rattle.chart_world.specs.declared.line_answer.LineFault.TheVariants as fault
 use Rattle.gate_pages.specs.Pages.{Quiet}
 use Rattle.line_runs.specs.Carried.{Carries, Done}
-use Rattle.line_runs.specs.CarriedLaws.{carries_both, carries_unpaused}
+use Rattle.line_runs.specs.CarriedLaws.{carries_both}
 use Rattle.line_runs.specs.Given.{AreBefore, Given, Line, Pause, End, given_from, given_lines, unpaused}
 use Rattle.line_runs.specs.Given as lines_given
 use Rattle.line_runs.specs.Moments.{Since}
@@ -22,17 +22,18 @@ use Rattle.series_book.specs.declared.one_series.Series.{Series}
 use Rattle.stored_book.specs.Standing.{StandsForBook}
 use Rattle.series_load.specs.Ends.{EndsLoad, Finished, IsAtBad, IsLoaded, KeepsSome, Stopped}
 use Rattle.series_load.specs.Fronts.{PlacedLine, placed_from, told}
-use Rattle.series_load.specs.Loading.{BadBy, EndsBy, Held, LoadDoes, LoadLeaves, LoadStops, NoneSent, StandsSo, end_of_stop, moved}
-use Rattle.series_load.specs.Rows.{AreTable, BadEarly}
+use Rattle.series_load.specs.Loading.{BadBy, Held, LoadDoes, LoadLeaves, LoadStops, NoneSent, RunsBy, StandsSo, end_of_stop, moved}
+use Rattle.series_load.specs.Rows.{AreTable, BadEarly, Stops}
 use Rattle.series_load.specs.Runs.{AllRuns, AreFirst, Run, nothing}
-use Rattle.series_load.specs.Sets.{AreFirstOf, IsAfter, IsAfterSome, Loads}
-use Rattle.series_load.specs.Steps.{Closes, IsEither, LineEnds, Read, SaysSo, StopsSo, closed, if_told}
+use Rattle.series_load.specs.Sets.{AreFirstOf, IsAfter, IsAfterSome, IsPartDone, Loads}
+use Rattle.series_load.specs.Steps.{LineAdds, Read, SaysSo, StopsSo, closed, if_told}
 use Rattle.series_load.specs.declared.load_end.LoadEnd.{LoadEnd}
 use Rattle.series_load.specs.declared.load_end.LoadEnd.TheVariants.{UnknownSeries, BadLine, Refused, ReadFault, InputTooLong, DiskFault, Damaged, NoMemory}
 use Rattle.series_load.specs.declared.loader.Loader.{Loader}
 use Rattle.series_load.specs.declared.said.Said.TheVariants.{Bad}
+use Rattle.series_load.proofs.FirstLemmas.{first_of}
 use Rattle.series_load.proofs.Joined.{told_joined}
-use Rattle.series_load.proofs.LineLemmas.{ends_bad, is_bad}
+use Rattle.series_load.proofs.LineLemmas.{is_bad}
 use Rattle.series_load.proofs.RunLemmas.{adds_gap}
 use Rattle.series_load.proofs.SetLemmas.{after_then, loads_then}
 
@@ -48,7 +49,7 @@ told_of (End ∷ later) = told_of later
 abbrev AreLines : List Given → Type 0
 AreLines [] = Unit {0}
 AreLines (Line at line ∷ later) = AreLines later
-AreLines (Pause ∷ later) = ⊥
+AreLines (Pause ∷ later) = AreLines later
 AreLines (End ∷ later) = ⊥
 
 told_from : (at : ℕ) (parts : List (List ℕ)) → told_of (given_from at parts) ≡ filter (λ (line : PlacedLine). says line.text)
@@ -72,27 +73,52 @@ only_lines : (front : List ℕ) → AreLines (given_lines front)
 unfolding given_lines
 only_lines front = lines_from 0 (split_lines front)
 
+-- pauses say nothing
+told_unpaused : (given : List Given) → told_of given ≡ told_of (unpaused given)
+told_unpaused [] = refl
+told_unpaused (Line at line ∷ later) = ap (λ l. if_told at line ++ l) (told_unpaused later)
+told_unpaused (Pause ∷ later) = told_unpaused later
+told_unpaused (End ∷ later) = told_unpaused later
+
+lines_unpaused : (given : List Given) → AreLines (unpaused given) → AreLines given
+lines_unpaused [] only = tt
+lines_unpaused (Line at line ∷ later) only = lines_unpaused later only
+lines_unpaused (Pause ∷ later) only = lines_unpaused later only
+lines_unpaused (End ∷ later) only = only
+
 -- ---- what was done of them
 
+-- runs ended, the sets of the first were done, and the others wait
 pub record Reached (held : Held) (given : List Given) (behind : Held) : Type 0 where
   pub runs : List Run
+  pub done : List Run
   pub book : List Series
+  pub waiting : List Run
   pub first : Bool
   pub open_run : Option Run
   pub points : ℕ
-  pub loads : Loads held.total held.name held.book runs book
+  pub split : held.waiting ++ runs ≡ done ++ waiting
+  pub loads : Loads held.total held.name held.book done book
   pub reads : AreLines given → (before : List PlacedLine) (others : List Run) → Read held.scale held.step before others held.first
       held.open_run held.points → Read held.scale held.step (before ++ told_of given) (others ++ runs) first open_run points
-  pub behind_is : behind ≡ moved held book first open_run points
+  pub behind_is : behind ≡ moved held book waiting first open_run points
+
+-- runs end, and then others
+split_then : (was ends runs done waiting done' waiting' : List Run) → was ++ ends ≡ done ++ waiting → waiting ++ runs ≡ done' ++ waiting' → was ++ (ends ++ runs) ≡ (done ++ done') ++ waiting'
+split_then was ends runs done waiting done' waiting' first second =
+    sym (append_assoc was ends runs) ∙ ap (λ l. l ++ runs) first ∙ append_assoc done waiting runs ∙ ap (λ l. done ++ l) second ∙ sym (append_assoc done done' waiting')
 
 reached : (given : List Given) (held : Held) (text : List ℕ) (behind : Held) → Carries LoadDoes held given text behind
     → Reached held given behind
 reached [] held text behind (none, same) = record {
   runs = [];
+  done = [];
   book = held.book;
+  waiting = held.waiting;
   first = held.first;
   open_run = held.open_run;
   points = held.points;
+  split = append-nil held.waiting;
   loads = refl;
   reads = λ only before others read.
       let P : List PlacedLine → Type 0 = λ l. Read held.scale held.step l (others ++ []) held.first held.open_run held.points in
@@ -104,15 +130,18 @@ reached (Line at None ∷ later) held text behind follows = absurd follows.does
 reached (Line at (Some line) ∷ later) held text behind follows =
     let did = follows.does in
     let P : Held → Type 0 = λ h. Reached h later behind in
-    let rest : Reached (moved held did.book did.first did.open_run did.points) later behind = subst P did.behind_is
+    let rest : Reached (moved held did.book did.waiting did.first did.open_run did.points) later behind = subst P did.behind_is
     (reached later follows.between follows.more behind follows.others) in
     record {
       runs = did.ends ++ rest.runs;
+      done = did.done ++ rest.done;
       book = rest.book;
+      waiting = rest.waiting;
       first = rest.first;
       open_run = rest.open_run;
       points = rest.points;
-      loads = loads_then held.total held.name held.book did.book rest.book did.ends rest.runs did.loads rest.loads;
+      split = split_then held.waiting did.ends rest.runs did.done did.waiting rest.done rest.waiting did.split rest.split;
+      loads = loads_then held.total held.name held.book did.book rest.book did.done rest.done did.loads rest.loads;
       reads = λ only before others read.
           let L : List PlacedLine → Type 0 = λ l. Read held.scale held.step l (others ++ (did.ends ++ rest.runs)) rest.first
           rest.open_run rest.points in
@@ -123,30 +152,39 @@ reached (Line at (Some line) ∷ later) held text behind follows =
       behind_is = rest.behind_is;
     }
 reached (Pause ∷ later) held text behind follows =
+    let did = follows.does in
     let P : Held → Type 0 = λ h. Reached h later behind in
-    let rest : Reached held later behind = subst P follows.does.1 (reached later follows.between follows.more behind follows.others) in
+    let rest : Reached (moved held did.book [] held.first held.open_run held.points) later behind = subst P did.behind_is
+    (reached later follows.between follows.more behind follows.others) in
     record {
       runs = rest.runs;
+      done = held.waiting ++ rest.done;
       book = rest.book;
+      waiting = rest.waiting;
       first = rest.first;
       open_run = rest.open_run;
       points = rest.points;
-      loads = rest.loads;
-      reads = λ only. absurd only;
+      split = ap (λ l. held.waiting ++ l) rest.split ∙ sym (append_assoc held.waiting rest.done rest.waiting);
+      loads = loads_then held.total held.name held.book did.book rest.book held.waiting rest.done did.loads rest.loads;
+      reads = rest.reads;
       behind_is = rest.behind_is;
     }
 reached (End ∷ later) held text behind follows =
     let did = follows.does in
     let P : Held → Type 0 = λ h. Reached h later behind in
-    let rest : Reached (moved held did.book held.first None held.points) later behind = subst P did.behind_is
+    let rest : Reached (moved held did.book [] held.first None held.points) later behind = subst P did.behind_is
     (reached later follows.between follows.more behind follows.others) in
     record {
       runs = closed held.open_run ++ rest.runs;
+      done = (held.waiting ++ closed held.open_run) ++ rest.done;
       book = rest.book;
+      waiting = rest.waiting;
       first = rest.first;
       open_run = rest.open_run;
       points = rest.points;
-      loads = loads_then held.total held.name held.book did.book rest.book (closed held.open_run) rest.runs did.loads rest.loads;
+      split = split_then held.waiting (closed held.open_run) rest.runs (held.waiting ++ closed held.open_run) [] rest.done rest.waiting
+          (sym (append-nil (held.waiting ++ closed held.open_run))) rest.split;
+      loads = loads_then held.total held.name held.book did.book rest.book (held.waiting ++ closed held.open_run) rest.done did.loads rest.loads;
       reads = λ only. absurd only;
       behind_is = rest.behind_is;
     }
@@ -203,19 +241,16 @@ module _ (scale step : ℕ) (input : List ℕ) (ended : List Run) (first : Bool)
     ended = inl (open_run, h.read.cut);
   }
 
-  -- and so are those that end where the input stops
-  stop_first : (Rattle.series_load.specs.Rows.Stops scale h.front h.rest) → (ends : List Run) (new : Option Run)
-      → Closes open_run ends new → AreFirst scale step input (ended ++ ends)
-  stop_first stops ends new closes =
-      let A : List Run → Type 0 = λ e. AreFirst scale step input (ended ++ e) in
-      subst A (sym closes.0) (record {
-        front = h.front;
-        rest = h.rest;
-        early = h.early;
-        rows = h.read.rows;
-        reads = record { begins = h.begins; table = h.read.table };
-        ended = inr (stops, all_runs);
-      })
+  -- and so is that which stands open where the input stops
+  stop_first : Stops scale h.front h.rest → AreFirst scale step input (ended ++ closed open_run)
+  stop_first stops = record {
+    front = h.front;
+    rest = h.rest;
+    early = h.early;
+    rows = h.read.rows;
+    reads = record { begins = h.begins; table = h.read.table };
+    ended = inr (stops, all_runs);
+  }
 
   bad_long : NextOf h.front h.rest None → BadEarly scale h.front h.rest
   bad_long next = record {
@@ -236,46 +271,25 @@ module _ (scale step : ℕ) (input : List ℕ) (ended : List Run) (first : Bool)
     early = next.early;
   }
 
-  line_first : (at : ℕ) (text : List ℕ) (ends : List Run) → at ≡ length h.front → NextOf h.front h.rest (Some text)
-      → LineEnds scale step at text first open_run points ends → AreFirst scale step input (ended ++ ends)
-  line_first at text ends at_is next so =
-      let A : ℕ → Type 0 = λ a. LineEnds scale step a text first open_run points ends in
-      let e = (subst A at_is so) (told h.front) ended h.read in
+  -- those that end with the next line
+  line_first : (at : ℕ) (text : List ℕ) (ends : List Run) (first' : Bool) (new : Option Run) (points' : ℕ) → at ≡ length h.front → NextOf h.front h.rest (Some text)
+      → LineAdds scale step at text first open_run points ends first' new points' → AreFirst scale step input (ended ++ ends)
+  line_first at text ends first' new points' at_is next adds =
+      let A : ℕ → Type 0 = λ a. LineAdds scale step a text first open_run points ends first' new points' in
+      let e = (subst A at_is adds) (told h.front) ended h.read in
       let P : List PlacedLine → Type 0 = λ l. AreTable scale l e.rows in
-      elim e.ended [
-        | inl t ↦ record {
-          front = h.front ++ first_piece h.rest;
-          rest = after_first is_line_feed h.rest;
-          early = next.early;
-          rows = e.rows;
-          reads = record {
-            begins = begins_more input h.front h.rest h.begins next.some;
-            table = subst P (sym
-                (told_joined h.front (first_piece h.rest) (Some text) next.whole (piece_line h.rest (Some text) next.lines_are))) t.0;
-          };
-          ended = inl t.1;
-        }
-        | inr b ↦ record {
-          front = h.front;
-          rest = h.rest;
-          early = h.early;
-          rows = e.rows;
-          reads = record { begins = h.begins; table = b.2 };
-          ended = inr (
-            inr (record {
-              bad = record {
-                line = Some text;
-                later = lines (after_first is_line_feed h.rest);
-                lines_are = next.lines_are;
-                some = some_text text b.0;
-                bad = b.1;
-              };
-              early = next.early;
-            }),
-            b.3,
-          );
-        }
-      ]
+      record {
+        front = h.front ++ first_piece h.rest;
+        rest = after_first is_line_feed h.rest;
+        early = next.early;
+        rows = e.rows;
+        reads = record {
+          begins = begins_more input h.front h.rest h.begins next.some;
+          table = subst P (sym
+              (told_joined h.front (first_piece h.rest) (Some text) next.whole (piece_line h.rest (Some text) next.lines_are))) e.table;
+        };
+        ended = inl (new, e.cut);
+      }
 
 -- ---- a load
 
@@ -287,6 +301,7 @@ module _ (total : ℕ) (name : List ℕ) (book : List Series) (series : Series) 
     scale = series.scale;
     step = series.step;
     book = book;
+    waiting = [];
     first = true;
     open_run = None;
     points = 0;
@@ -295,12 +310,11 @@ module _ (total : ℕ) (name : List ℕ) (book : List Series) (series : Series) 
   }
 
   module _ (done : Done LoadDoes start) where
-    abbrev r : Reached start (unpaused done.given) done.behind
-    r = reached (unpaused done.given) start done.text done.behind
-        (carries_unpaused LoadDoes (λ state none behind is. is) done.given start done.text done.behind done.carries)
+    abbrev r : Reached start done.given done.behind
+    r = reached done.given start done.text done.behind done.carries
 
     abbrev there : Held
-    there = moved start r.book r.first r.open_run r.points
+    there = moved start r.book r.waiting r.first r.open_run r.points
 
     abbrev HeardOf : List ℕ → Type 0
     HeardOf input = Heard series.scale series.step input r.runs r.first r.open_run r.points
@@ -311,78 +325,114 @@ module _ (total : ℕ) (name : List ℕ) (book : List Series) (series : Series) 
     read_of : (input : List ℕ) → (f : lines_given.AreFirst input done.given) → Read series.scale series.step (told f.front) r.runs
         r.first r.open_run r.points
     read_of input f =
-        let only = subst AreLines (sym f.given_are) (only_lines f.front) in
+        let only = lines_unpaused done.given (subst AreLines (sym f.given_are) (only_lines f.front)) in
         let P : List PlacedLine → Type 0 = λ l. Read series.scale series.step l r.runs r.first r.open_run r.points in
-        subst P (ap told_of f.given_are ∙ told_given f.front) (r.reads only [] [] read_start)
+        subst P (told_unpaused done.given ∙ ap told_of f.given_are ∙ told_given f.front) (r.reads only [] [] read_start)
 
     abbrev heard : (input : List ℕ) → lines_given.AreFirst input done.given → HeardOf input
     heard input f = record { front = f.front; rest = f.rest; begins = f.begins; early = f.early; read = read_of input f }
 
-    firsts_of : (o : Option (List ℕ)) → IfSome o (λ input. lines_given.AreFirst input done.given)
-        → AreFirstOf series.scale series.step o r.runs
-    firsts_of None are = tt
-    firsts_of (Some input) are = heard_first series.scale series.step input r.runs r.first r.open_run r.points (heard input are)
+    -- what ended is what was done and what waits
+    ended_is : (more : List Run) → r.runs ++ more ≡ r.done ++ (r.waiting ++ more)
+    ended_is more = ap (λ l. l ++ more) r.split ∙ append_assoc r.done r.waiting more
 
-    next_first : (it : Given) (input : List ℕ) → AreBefore input done.given it → (ends : List Run) (new : Option Run)
-        → EndsBy there it ends new → AreFirst series.scale series.step input (r.runs ++ ends)
-    next_first (Line at None) input b ends new closes =
+    some_first : (o : Option (List ℕ)) (runs later : List Run) → AreFirstOf series.scale series.step o (runs ++ later) → AreFirstOf series.scale series.step o runs
+    some_first None runs later first = tt
+    some_first (Some input) runs later first = first_of series.scale series.step input runs later first
+
+    ended_first : (o : Option (List ℕ)) → IfSome o (λ input. lines_given.AreFirst input done.given)
+        → AreFirstOf series.scale series.step o r.runs
+    ended_first None are = tt
+    ended_first (Some input) are = heard_first series.scale series.step input r.runs r.first r.open_run r.points (heard input are)
+
+    firsts_of : (o : Option (List ℕ)) → IfSome o (λ input. lines_given.AreFirst input done.given)
+        → AreFirstOf series.scale series.step o r.done
+    firsts_of o are =
+        let P : List Run → Type 0 = AreFirstOf series.scale series.step o in
+        some_first o r.done r.waiting (subst P r.split (ended_first o are))
+
+    as_waiting : (input : List ℕ) (runs : List Run) → runs ≡ r.waiting → AreFirst series.scale series.step input r.runs → AreFirst series.scale series.step input (r.done ++ runs)
+    as_waiting input runs waits first =
+        let P : List Run → Type 0 = AreFirst series.scale series.step input in
+        subst P (r.split ∙ ap (λ l. r.done ++ l) (sym waits)) first
+
+    with_open : (input : List ℕ) (runs : List Run) → runs ≡ r.waiting ++ closed r.open_run → AreFirst series.scale series.step input (r.runs ++ closed r.open_run) → AreFirst series.scale series.step input (r.done ++ runs)
+    with_open input runs are first =
+        let P : List Run → Type 0 = AreFirst series.scale series.step input in
+        subst P (ended_is (closed r.open_run) ∙ ap (λ l. r.done ++ l) (sym are)) first
+
+    next_first : (it : Given) (input : List ℕ) → AreBefore input done.given it → (runs : List Run)
+        → RunsBy there it runs → AreFirst series.scale series.step input (r.done ++ runs)
+    next_first (Line at None) input b runs are =
         let h = heard input b.first in
         let next = next_of input h.front h.rest None h.begins b.next_is.1 in
-        stop_first series.scale series.step input r.runs r.first r.open_run r.points h
-        (inr (bad_long series.scale series.step input r.runs r.first r.open_run r.points h next)) ends new closes
-    next_first (Line at (Some text)) input b ends new so =
+        with_open input runs are (stop_first series.scale series.step input r.runs r.first r.open_run r.points h
+        (inr (bad_long series.scale series.step input r.runs r.first r.open_run r.points h next)))
+    next_first (Line at (Some text)) input b runs are =
         let h = heard input b.first in
         let next = next_of input h.front h.rest (Some text) h.begins b.next_is.1 in
-        line_first series.scale series.step input r.runs r.first r.open_run r.points h at text ends b.next_is.0 next so
-    next_first Pause input b ends new none = absurd none
-    next_first End input b ends new closes =
+        elim are [
+          | inl waits ↦ as_waiting input runs waits (heard_first series.scale series.step input r.runs r.first r.open_run r.points h)
+          | inr either ↦ elim either [
+            | inl line ↦
+                let P : List Run → Type 0 = AreFirst series.scale series.step input in
+                subst P (ended_is line.ends ∙ ap (λ l. r.done ++ l) (sym line.runs_are))
+                (line_first series.scale series.step input r.runs r.first r.open_run r.points h at text line.ends line.first' line.new line.points' b.next_is.0 next line.adds)
+            | inr bad ↦ with_open input runs bad.runs_are (stop_first series.scale series.step input r.runs r.first r.open_run r.points h
+                (inr (bad_text series.scale series.step input r.runs r.first r.open_run r.points h text next bad.some bad.bad)))
+          ]
+        ]
+    next_first Pause input b runs are = as_waiting input runs are (heard_first series.scale series.step input r.runs r.first r.open_run r.points (heard input b.first))
+    next_first End input b runs are =
         let h = heard input b.first in
-        stop_first series.scale series.step input r.runs r.first r.open_run r.points h (inl b.next_is) ends new closes
+        with_open input runs are (stop_first series.scale series.step input r.runs r.first r.open_run r.points h (inl b.next_is))
 
     next_firsts : (it : Given) (o : Option (List ℕ)) → IfSome o (λ input. AreBefore input done.given it)
-        → (ends : List Run) (new : Option Run) → EndsBy there it ends new → AreFirstOf series.scale series.step o (r.runs ++ ends)
-    next_firsts it None are ends new so = tt
-    next_firsts it (Some input) are ends new so = next_first it input are ends new so
+        → (runs : List Run) → RunsBy there it runs → AreFirstOf series.scale series.step o (r.done ++ runs)
+    next_firsts it None are runs so = tt
+    next_firsts it (Some input) are runs so = next_first it input are runs so
 
     -- what stands behind the lines
-    some_so : (o : Option (List ℕ)) (image : Image) → AreFirstOf series.scale series.step o r.runs → StandsForBook image total r.book
+    some_so : (o : Option (List ℕ)) (image : Image) → AreFirstOf series.scale series.step o r.done → StandsForBook image total r.book
         → IsAfterSome total name book series o image
     some_so o image first stands = record
-        { runs = r.runs; first = first; after = record { new = r.book; loads = r.loads; stands = stands } }
+        { runs = r.done; first = first; after = record { new = r.book; loads = r.loads; stands = stands } }
 
-    ended_so : (o : Option (List ℕ)) (image : Image) (ends : List Run) → AreFirstOf series.scale series.step o (r.runs ++ ends)
-        → IsAfter total name r.book ends image → IsAfterSome total name book series o image
-    ended_so o image ends first after = record
-        { runs = r.runs ++ ends; first = first; after = after_then total name book r.book r.runs ends image r.loads after }
+    ended_so : (o : Option (List ℕ)) (image : Image) (runs : List Run) → AreFirstOf series.scale series.step o (r.done ++ runs)
+        → IsAfter total name r.book runs image → IsAfterSome total name book series o image
+    ended_so o image runs first after = record
+        { runs = r.done ++ runs; first = first; after = after_then total name book r.book r.done runs image r.loads after }
 
-    either_so : (it : Given) (o : Option (List ℕ)) (image : Image) → IfSome o (λ input. AreBefore input done.given it)
-        → AreFirstOf series.scale series.step o r.runs → IsEither (EndsBy there it) total name r.book image
-        → IsAfterSome total name book series o image
-    either_so it o image are first (inl stands) = some_so o image first stands
-    either_so it o image are first (inr after) = ended_so o image after.ends (next_firsts it o are after.ends after.new after.gives)
-        after.after
+    part_so : (o : Option (List ℕ)) (image : Image) (runs : List Run) → AreFirstOf series.scale series.step o (r.done ++ runs)
+        → IsPartDone total name r.book runs image → IsAfterSome total name book series o image
+    part_so o image runs first part =
+        let P : List Run → Type 0 = AreFirstOf series.scale series.step o in
+        ended_so o image part.done (some_first o (r.done ++ part.done) part.later
+        (subst P (ap (λ l. r.done ++ l) part.split ∙ sym (append_assoc r.done part.done part.later)) first)) part.after
 
     before_first : (it : Given) (o : Option (List ℕ)) → IfSome o (λ input. AreBefore input done.given it)
-        → AreFirstOf series.scale series.step o r.runs
+        → AreFirstOf series.scale series.step o r.done
     before_first it None are = tt
     before_first it (Some input) are = firsts_of (Some input) are.first
 
     -- a bad line
     bad_at : (input : List ℕ) (place : ℕ) (image : Image) (h : HeardOf input) → place ≡ length h.front
-        → BadEarly series.scale h.front h.rest → IsAfter total name r.book (closed r.open_run) image
+        → BadEarly series.scale h.front h.rest → IsAfter total name r.book (r.waiting ++ closed r.open_run) image
         → IsAtBad total name book series input place image
-    bad_at input place image h at_is bad after = record {
-      front = h.front;
-      rest = h.rest;
-      rows = h.read.rows;
-      reads = record { begins = h.begins; table = h.read.table };
-      bad = bad.bad;
-      early = bad.early;
-      at_is = at_is;
-      runs = r.runs ++ closed r.open_run;
-      all = all_runs series.scale series.step input r.runs r.first r.open_run r.points h;
-      after = after_then total name book r.book r.runs (closed r.open_run) image r.loads after;
-    }
+    bad_at input place image h at_is bad after =
+        let P : List Run → Type 0 = λ l. IsAfter total name book l image in
+        record {
+          front = h.front;
+          rest = h.rest;
+          rows = h.read.rows;
+          reads = record { begins = h.begins; table = h.read.table };
+          bad = bad.bad;
+          early = bad.early;
+          at_is = at_is;
+          runs = r.runs ++ closed r.open_run;
+          all = all_runs series.scale series.step input r.runs r.first r.open_run r.points h;
+          after = subst P (sym (ended_is (closed r.open_run))) (after_then total name book r.book r.done (r.waiting ++ closed r.open_run) image r.loads after);
+        }
 
     next_bad : (it : Given) (input : List ℕ) (place : ℕ) (image : Image) → AreBefore input done.given it → BadBy there it image place
         → IsAtBad total name book series input place image
@@ -394,54 +444,68 @@ module _ (total : ℕ) (name : List ℕ) (book : List Series) (series : Series) 
     next_bad (Line at (Some text)) input place image b bad =
         let h = heard input b.first in
         let next = next_of input h.front h.rest (Some text) h.begins b.next_is.1 in
-        bad_at input place image h (bad.at_is ∙ b.next_is.0)
-        (bad_text series.scale series.step input r.runs r.first r.open_run r.points h text next bad.some bad.bad) bad.after
+        bad_at input place image h (bad.at_line.at_is ∙ b.next_is.0)
+        (bad_text series.scale series.step input r.runs r.first r.open_run r.points h text next bad.some bad.bad) bad.at_line.after
     next_bad Pause input place image b bad = absurd bad
     next_bad End input place image b bad = absurd bad
 
     bad_some : (it : Given) (o : Option (List ℕ)) (place : ℕ) (image : Image) → IfSome o (λ input. AreBefore input done.given it)
         → BadBy there it image place → IsAfterSome total name book series o image
-    bad_some (Line at None) o place image are bad = ended_so o image (closed r.open_run)
-        (next_firsts (Line at None) o are (closed r.open_run) None (refl, refl)) bad.after
+    bad_some (Line at None) o place image are bad = ended_so o image (r.waiting ++ closed r.open_run)
+        (next_firsts (Line at None) o are (r.waiting ++ closed r.open_run) refl) bad.after
     bad_some (Line at (Some text)) o place image are bad =
-        ended_so o image (closed r.open_run) (next_firsts (Line at (Some text)) o are (closed r.open_run) None
-        (ends_bad series.scale series.step at text r.first r.open_run r.points (closed r.open_run) None bad.some bad.bad (refl, refl)))
-        bad.after
+        ended_so o image (r.waiting ++ closed r.open_run) (next_firsts (Line at (Some text)) o are (r.waiting ++ closed r.open_run)
+        (inr (inr (record { some = bad.some; bad = bad.bad; runs_are = refl })))) bad.at_line.after
     bad_some Pause o place image are bad = absurd bad
     bad_some End o place image are bad = absurd bad
 
     -- where the work stopped
-    keeps_so : (it : Given) (o : Option (List ℕ)) (image : Image) (end : LoadEnd) → IfSome o (λ input. AreBefore input done.given it)
-        → StopsSo (EndsBy there it) (BadBy there it image) total name r.book image end → KeepsSome total name book series o image end
-    keeps_so it o image UnknownSeries are why = absurd why
-    keeps_so it o image (BadLine at) are why = bad_some it o at image are why
-    keeps_so it o image (Refused at refusal) are why = some_so o image (before_first it o are) why.stands
-    keeps_so it o image ReadFault are why = absurd why
-    keeps_so it o image InputTooLong are why = absurd why
-    keeps_so it o image DiskFault are why = tt
-    keeps_so it o image (Damaged page) are why = absurd why
-    keeps_so it o image NoMemory are why = either_so it o image are (before_first it o are) why
+    keeps_so : (it : Given) (o : Option (List ℕ)) (runs : List Run) (image : Image) (end : LoadEnd) → IfSome o (λ input. AreBefore input done.given it)
+        → RunsBy there it runs → StopsSo (BadBy there it image) total name r.book runs image end → KeepsSome total name book series o image end
+    keeps_so it o runs image UnknownSeries are by why = absurd why
+    keeps_so it o runs image (BadLine at) are by why = bad_some it o at image are why
+    keeps_so it o runs image (Refused at refusal) are by why =
+        part_so o image runs (next_firsts it o are runs by)
+        (record { done = why.done; later = why.run ∷ why.later; split = why.split; after = record { new = why.new; loads = why.loads; stands = why.stands } })
+    keeps_so it o runs image ReadFault are by why = absurd why
+    keeps_so it o runs image InputTooLong are by why = absurd why
+    keeps_so it o runs image DiskFault are by why = tt
+    keeps_so it o runs image (Damaged page) are by why = absurd why
+    keeps_so it o runs image NoMemory are by why = part_so o image runs (next_firsts it o are runs by) why
 
-    ends_so : (it : Given) (input : List ℕ) (left : Option (List ℕ)) (image : Image) (end : LoadEnd) → AreBefore input done.given it
-        → StopsSo (EndsBy there it) (BadBy there it image) total name r.book image end → EndsLoad total name book series input left image
+    ends_so : (it : Given) (input : List ℕ) (left : Option (List ℕ)) (runs : List Run) (image : Image) (end : LoadEnd) → AreBefore input done.given it
+        → RunsBy there it runs → StopsSo (BadBy there it image) total name r.book runs image end → EndsLoad total name book series input left image
         end
-    ends_so it input left image UnknownSeries are why = absurd why
-    ends_so it input left image (BadLine at) are why = next_bad it input at image are why
-    ends_so it input left image (Refused at refusal) are why = record {
-      runs = r.runs;
-      run = why.run;
-      first = next_first it input are (why.run ∷ []) why.new why.gives;
-      at_is = why.at_is;
-      new = r.book;
-      loads = r.loads;
-      refused = why.refused;
-      stands = why.stands;
-    }
-    ends_so it input left image ReadFault are why = absurd why
-    ends_so it input left image InputTooLong are why = absurd why
-    ends_so it input left image DiskFault are why = tt
-    ends_so it input left image (Damaged page) are why = absurd why
-    ends_so it input left image NoMemory are why = tt
+    ends_so it input left runs image UnknownSeries are by why = absurd why
+    ends_so it input left runs image (BadLine at) are by why = next_bad it input at image are why
+    ends_so it input left runs image (Refused at refusal) are by why =
+        let P : List Run → Type 0 = AreFirst series.scale series.step input in
+        record {
+          runs = r.done ++ why.done;
+          run = why.run;
+          first = first_of series.scale series.step input ((r.done ++ why.done) ++ why.run ∷ []) why.later
+              (subst P (ap (λ l. r.done ++ l) why.split ∙ sym (append_assoc r.done why.done (why.run ∷ why.later)) ∙ sym (append_assoc (r.done ++ why.done) (why.run ∷ []) why.later))
+              (next_first it input are runs by));
+          at_is = why.at_is;
+          new = why.new;
+          loads = loads_then total name book r.book why.new r.done why.done r.loads why.loads;
+          refused = why.refused;
+          stands = why.stands;
+        }
+    ends_so it input left runs image ReadFault are by why = absurd why
+    ends_so it input left runs image InputTooLong are by why = absurd why
+    ends_so it input left runs image DiskFault are by why = tt
+    ends_so it input left runs image (Damaged page) are by why = absurd why
+    ends_so it input left runs image NoMemory are by why = tt
+
+    -- behind a pause no run waits
+    none_waits : lines_given.EndsPaused done.given → r.runs ≡ r.done
+    none_waits paused =
+        let P : List Given → Type 0 = λ l. Carries LoadDoes start l done.text done.behind in
+        let both = carries_both LoadDoes paused.earlier (Pause ∷ []) start done.text done.behind (subst P paused.given_are done.carries) in
+        let did = both.others.does in
+        let none : r.waiting ≡ [] = ap (λ (h : Held). h.waiting) (sym r.behind_is ∙ both.others.others.1 ∙ did.behind_is) in
+        r.split ∙ ap (λ l. r.done ++ l) none ∙ append-nil r.done
 
     -- at a fault of the input
     taken_so : (input : List ℕ) (left : Option (List ℕ)) (pieces pieces' : ℕ) (image : Image) → StandsForBook image total r.book
@@ -449,6 +513,7 @@ module _ (total : ℕ) (name : List ℕ) (book : List Series) (series : Series) 
     taken_so input None pieces pieces' image stands t = tt
     taken_so input (Some l) pieces pieces' image stands t =
         let h = heard input t.first in
+        let A : List Run → Type 0 = λ l. IsAfter total name book l image in
         let R : List ℕ → Type 0 = λ rest. Rattle.series_load.specs.Rows.ReadsRows series.scale input h.front rest h.read.rows in
         record {
           front = h.front;
@@ -459,13 +524,14 @@ module _ (total : ℕ) (name : List ℕ) (book : List Series) (series : Series) 
           unended = t.behind.unended;
           runs = r.runs;
           ended = (r.open_run, h.read.cut);
-          after = record { new = r.book; loads = r.loads; stands = stands };
+          after = subst A (sym (none_waits t.paused)) (record { new = r.book; loads = r.loads; stands = stands });
         }
 
     within_so : (input : List ℕ) (left : Option (List ℕ)) (pieces pieces' : ℕ) (image : Image) → StandsForBook image total r.book
         → runs.AreWithin pieces pieces' input done.given → EndsLoad total name book series input left image InputTooLong
     within_so input left pieces pieces' image stands w =
         let h = heard input w.first in
+        let A : List Run → Type 0 = λ l. IsAfter total name book l image in
         record {
           front = h.front;
           rest = h.rest;
@@ -476,7 +542,7 @@ module _ (total : ℕ) (name : List ℕ) (book : List Series) (series : Series) 
           past = w.past;
           runs = r.runs;
           ended = (r.open_run, h.read.cut);
-          after = record { new = r.book; loads = r.loads; stands = stands };
+          after = subst A (sym (none_waits w.paused)) (record { new = r.book; loads = r.loads; stands = stands });
         }
 
   -- ---- by what a run of lines says
@@ -491,8 +557,9 @@ module _ (total : ℕ) (name : List ℕ) (book : List Series) (series : Series) 
   ahead_so o before image sent ahead = elim ahead.is [
     | inl rests ↦ some_so ahead.done o image (firsts_of ahead.done o rests.are)
         (transport ahead.done (λ h. StandsForBook image h.total h.book) rests.rests_so)
-    | inr amid ↦ either_so ahead.done amid.next o image amid.are (before_first ahead.done amid.next o amid.are)
-        (transport ahead.done (λ h. LoadLeaves h amid.next amid.begun image sent) amid.leaves_so)
+    | inr amid ↦
+        let leaves = transport ahead.done (λ h. LoadLeaves h amid.next amid.begun image sent) amid.leaves_so in
+        part_so ahead.done o image leaves.runs (next_firsts ahead.done amid.next o amid.are leaves.runs leaves.are) leaves.part
   ]
 
   moments_so : (o before : Option (List ℕ)) (old new : View) → since ≡ old.clock → count ≡ sent_now old → NoneSent since count new
@@ -541,18 +608,19 @@ module _ (total : ℕ) (name : List ℕ) (book : List Series) (series : Series) 
         let did = last.does in
         let S : Held → Type 0 = λ b. StandsForBook image b.total b.book × (b.points ≡ points) in
         let is = subst S (last.others.1 ∙ did.behind_is) (stands all.done.behind all.stands) in
-        let after : IsAfter total name at.book (closed at.open_run) image = record { new = did.book; loads = did.loads; stands = is.0 } in (
+        let after : IsAfter total name at.book (at.waiting ++ closed at.open_run) image = record { new = did.book; loads = did.loads; stands = is.0 } in
+        let A : List Run → Type 0 = λ l. IsAfter total name book l image in (
           record {
             rows = h.read.rows;
             reads = record { begins = f.begins; table = h.read.table };
             runs = at.runs ++ closed at.open_run;
             all = all_runs series.scale series.step input at.runs at.first at.open_run at.points h;
-            after = after_then total name book at.book at.runs (closed at.open_run) image at.loads after;
+            after = subst A (sym (ended_is done (closed at.open_run))) (after_then total name book at.book at.done (at.waiting ++ closed at.open_run) image at.loads after);
             counted = sym is.1 ∙ h.read.counted;
           },
-          ended_so done (Some input) image (closed at.open_run)
-              (stop_first series.scale series.step input at.runs at.first at.open_run at.points h (inl refl) (closed at.open_run) None
-              (refl, refl)) after,
+          ended_so done (Some input) image (at.waiting ++ closed at.open_run)
+              (with_open done input (at.waiting ++ closed at.open_run) refl
+              (stop_first series.scale series.step input at.runs at.first at.open_run at.points h (inl refl))) after,
         )
 
     pub loaded_so : (o : Option (List ℕ)) → IfSome o (λ input. length input ≤ 2 ^ 32) → All o
@@ -614,20 +682,20 @@ module _ (total : ℕ) (name : List ℕ) (book : List Series) (series : Series) 
       record {
         ends = told_so (λ input. AreBefore input is.done.given is.next)
             (λ input. EndsLoad total name book series input left new.image end) o
-            (λ input b. ends_so is.done is.next input left new.image end b stops.why) is.are;
-        some = keeps_so is.done is.next o new.image end is.are stops.why;
+            (λ input b. ends_so is.done is.next input left stops.runs new.image end b stops.are stops.why) is.are;
+        some = keeps_so is.done is.next o stops.runs new.image end is.are stops.are stops.why;
         moments = moments_so o before old new since_is count_is stops.quiet lasts;
       }
 
 -- before the first line
 pub start_stands : (told : Type 0) (total : ℕ) (book : List Series) (series : Series) (loader : Loader) (at : View) → told
-    → StandsForBook at.image total book → loader.run.values.items ≡ [] → loader.first ≡ true → loader.points ≡ 0
+    → StandsForBook at.image total book → loader.run.values.items ≡ [] → loader.kept.sets.items ≡ [] → loader.kept.ats.items ≡ [] → loader.first ≡ true → loader.points ≡ 0
     → loader.step ≡ series.step → loader.scale ≡ series.scale
     → StandsSo told at loader (start total loader.name book series at.clock (sent_now at))
-start_stands told total book series loader at is stands none first points step scale = record {
+start_stands told total book series loader at is stands none sets ats first points step scale = record {
   is_told = is;
   stands = stands;
-  keeps = none;
+  keeps = record { sets = record { sets_are = sets; ats_are = ats }; still = none };
   quiet = record {
     later = omega arith;
     here = λ time low high. let same : time ≡ at.clock = omega (arith, low, high)
@@ -639,6 +707,7 @@ start_stands told total book series loader at is stands none first points step s
     scale = sym scale i;
     step = sym step i;
     book = book;
+    waiting = [];
     first = sym first i;
     open_run = None;
     points = sym points i;

@@ -62,7 +62,7 @@ run_is_more step run next is few follows = record {
   few = omega (arith, length_more run next, few);
 }
 
-one_is_run : (step : ℕ) (next : Reading) → IsRun step (one_run next)
+pub one_is_run : (step : ℕ) (next : Reading) → IsRun step (one_run next)
 one_is_run step next = record { steady = tt; few = omega arith }
 
 -- a row without a reading ends the run that stands open

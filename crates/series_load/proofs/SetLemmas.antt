@@ -1,28 +1,33 @@
 -- Sets, one after the other.
-use Rattle.std.proofs.Common.{◌≡◌, ◌≢◌, ℕ, ℤ, ◌==◌, Bool, true, false, List, [], ◌∷◌, ◌++◌, length, map, Option, None, Some, Ok, Err, refl, ap, subst, inl, inr, sym, ◌∙◌, arith}
+use Rattle.std.proofs.Common.{◌≡◌, ◌≢◌, ℕ, zero, suc, ℤ, ◌==◌, Bool, true, false, List, [], ◌∷◌, ◌++◌, length, map, take, drop, Option, None, Some, Result, Ok, Err, refl, ap, ap₂, subst, sym, ◌∙◌, arith, append_assoc, length-drop, take_all, ◌-◌}
 use Rattle.std.specs.Option.{IsSome}
+use Rattle.std.specs.Prelude.{IsErrAnd, OnOk, IfErr}
+use Rattle.std.proofs.lemmas.List.{append-nil, length-map, map-append, take-append-drop}
+use Rattle.std.proofs.lemmas.Bool.{eqb-true}
 use Rattle.std.proofs.lemmas.List.Elements.{All-map}
 use Rattle.block_disk.specs.View.{Image, View, Passes}
 use Rattle.block_disk.proofs.Passing.{passes_none, passes_weaker}
+use Rattle.gate_pages.proofs.Moving.{time_then}
 use Rattle.gate_pages.specs.Pages.{Quiet}
 use Rattle.series_book.specs.declared.one_series.Series.{Series}
 use Rattle.series_book.specs.declared.edits.Edit.{Edit}
 use Rattle.series_book.specs.declared.edits.Edit.TheVariants.{Set}
-use Rattle.series_book.specs.declared.outcomes.Outcome.{Outcome}
+use Rattle.series_book.specs.declared.refusals.Refusal.{Refusal}
 use Rattle.series_book.specs.Edits.{IsEdit}
 use Rattle.page_space.specs.declared.superblock.Superblock.{Superblock}
 use Rattle.page_space.specs.Layout.{Keeps as KeepsPage}
 use Rattle.stored_book.specs.Damage.{IsBadForEdit}
 use Rattle.stored_book.specs.Standing.{StandsForBook}
-use Rattle.series_store.specs.Results.{IsDone, IsRefusedWith, IsBeforeOrAfter, IsUnchangedFor, IsEditCause}
+use Rattle.series_store.specs.Results.{IsUnchangedFor, IsEditCause}
 use Rattle.series_store.specs.declared.errors.StoreError.{StoreError}
 use Rattle.series_store.specs.declared.errors.StoreError.TheVariants as store
 use Rattle.series_load.specs.Rows.{Reading}
 use Rattle.series_load.specs.Runs.{Run, readings}
-use Rattle.series_load.specs.Sets.{set_of, Loads, IsAfter}
-use Rattle.series_load.specs.Steps.{KeepsRun, Keeps, Closes, IsEither, StopsSo, NoBad, TooLongDone, Does, IsSetCause, end_at}
+use Rattle.series_load.specs.Sets.{AreEdits, AreSets, IsAfter, IsPartDone, IsRefusedIn, Loads, set_of}
+use Rattle.series_load.specs.Steps.{Does, DoesFirst, IsAtLine, IsSetCause, Keeps, KeepsRun, KeepsRuns, NoBad, StopsSo, closed, end_at}
 use Rattle.series_load.specs.declared.load_end.LoadEnd.{LoadEnd}
-use Rattle.series_load.specs.declared.load_end.LoadEnd.TheVariants.{BadLine}
+use Rattle.series_load.specs.declared.load_end.LoadEnd.TheVariants.{UnknownSeries, BadLine, Refused, ReadFault, InputTooLong, DiskFault, Damaged, NoMemory}
+use Rattle.series_load.specs.declared.kept_sets.KeptSets.{KeptSets}
 use Rattle.series_load.specs.declared.open_run.OpenRun.{OpenRun}
 
 -- sets behind sets
@@ -51,70 +56,26 @@ set_is name run kept edit keeps is =
     let P : ℤ → Type 0 = λ t. edit ≡ Set name t (map Some kept.values.items) in
     subst P keeps.time_is is ∙ ap (λ v. Set name run.first.time (map Some v)) keeps.values_are ∙ ap (λ v. Set name run.first.time v) (all_there (readings run))
 
-set_done : (total : ℕ) (name : List ℕ) (book : List Series) (run : Run) (edit : Edit) (outcome : Outcome) (image : Image) → edit ≡ set_of name run → IsDone total book edit outcome image → IsAfter total name book (run ∷ []) image
-set_done total name book run edit outcome image is done =
-    let P : Edit → Type 0 = λ e. IsDone total book e outcome image in
-    let as_set = subst P is done in
-    record { new = as_set.edited.book; loads = (as_set.edited, as_set.accepted, refl); stands = as_set.stands }
-
--- at each moment the set is done or not
-set_moments : (total : ℕ) (name : List ℕ) (book : List Series) (run : Run) (edit : Edit) (old new : View) → edit ≡ set_of name run → Passes old new (IsBeforeOrAfter total book edit) (Quiet old) → Passes old new (IsEither (Closes (Some run)) total name book) (Quiet old)
-set_moments total name book run edit old new is time =
-    let P : Edit → Type 0 = λ e. Passes old new (IsBeforeOrAfter total book e) (Quiet old) in
-    passes_weaker old new (IsBeforeOrAfter total book (set_of name run)) (IsEither (Closes (Some run)) total name book) (Quiet old) (Quiet old)
-    (λ image either. elim either [
-      | inl before ↦ inl before
-      | inr after ↦ inr (record {
-        ends = run ∷ [];
-        new = None;
-        gives = (refl, refl);
-        after = record { new = after.edited.book; loads = (after.edited, after.accepted, refl); stands = after.stands };
-      })
-    ]) (λ count quiet. quiet) (subst P is time)
-
-set_stops : (total : ℕ) (name : List ℕ) (book : List Series) (run : Run) (at : ℕ) (told : Type 0) (old new : View) (e : StoreError) → at ≡ run.first.at → told → StandsForBook old.image total book → IsRefusedWith total book (set_of name run) e → IsUnchangedFor e told old new → StopsSo (Closes (Some run)) NoBad total name book new.image (end_at at e)
-set_stops total name book run at told old new (store.Refused refusal) place says stands refused same =
-    let P : Image → Type 0 = λ i. StandsForBook i total book in
-    record { run = run; new = None; gives = (refl, refl); at_is = place; refused = refused; stands = subst P (sym (same.image says)) stands }
-set_stops total name book run at told old new store.NotAStore place says stands refused same = absurd refused
-set_stops total name book run at told old new store.DiskFault place says stands refused same = tt
-set_stops total name book run at told old new (store.Damaged page) place says stands refused same = absurd refused
-set_stops total name book run at told old new store.NoMemory place says stands refused same =
-    let P : Image → Type 0 = λ i. StandsForBook i total book in
-    inl (subst P (sym (same.image says)) stands)
-
--- where no run stands open
-pub none_open : {T : Type 0} (total : ℕ) (name : List ℕ) (book : List Series) (old : Option Run) (kept : OpenRun) (v : T) (at : View) → kept.values.items ≡ [] → Keeps old kept → StandsForBook at.image total book → Does (Closes old) (Closes old) NoBad total name book (Ok v) kept at at
-none_open total name book None kept v at none keeps stands = record {
-  done = record { ends = []; new = None; gives = (refl, refl); keeps = none; after = after_none total name book at.image stands };
-  stops = tt;
-  moments = passes_none at (IsEither (Closes None) total name book) (Quiet at);
+-- a set more is kept
+pub sets_more : (name : List ℕ) (runs : List Run) (run : Run) (sets sets' : List Edit) (ats ats' : List ℕ) (set : Edit) (at : ℕ) → AreSets name runs sets ats → set ≡ set_of name run → at ≡ run.first.at → sets' ≡ sets ++ set ∷ [] → ats' ≡ ats ++ at ∷ [] → AreSets name (runs ++ run ∷ []) sets' ats'
+sets_more name runs run sets sets' ats ats' set at are is place sets_are ats_are = record {
+  sets_are = sets_are ∙ ap₂ (λ xs x. xs ++ x ∷ []) are.sets_are is ∙ sym (map-append (set_of name) runs (run ∷ []));
+  ats_are = ats_are ∙ ap₂ (λ xs x. xs ++ x ∷ []) are.ats_are place ∙ sym (map-append (λ (run : Run). run.first.at) runs (run ∷ []));
 }
-none_open total name book (Some run) kept v at none keeps stands = let is : map (λ r. r.value) (readings run) ≡ [] = sym keeps.values_are ∙ none in cc
 
--- where one does, its set is done
-pub set_does : {T : Type 0} (total : ℕ) (name : List ℕ) (book : List Series) (old : Option Run) (kept kept' : OpenRun) (edit : Edit) (outcome : Outcome) (v : T) (before now : View) → kept.values.items ≢ [] → Keeps old kept → edit ≡ Set name kept.time (map Some kept.values.items) → kept'.values.items ≡ [] → IsDone total book edit outcome now.image → Passes before now (IsBeforeOrAfter total book edit) (Quiet before) → Does (Closes old) (Closes old) NoBad total name book (Ok v) kept' before now
-set_does total name book None kept kept' edit outcome v before now some keeps is none done time = absurd (some keeps)
-set_does total name book (Some run) kept kept' edit outcome v before now some keeps is none done time =
-    let as_set = set_is name run kept edit keeps is in
-    record {
-      done = record { ends = run ∷ []; new = None; gives = (refl, refl); keeps = none; after = set_done total name book run edit outcome now.image as_set done };
-      stops = tt;
-      moments = set_moments total name book run edit before now as_set time;
-    }
+-- the run that stands open ends: where there is one, its set is kept
+pub keeps_none : (name : List ℕ) (waiting : List Run) (old : Option Run) (kept : KeptSets) (run : OpenRun) → run.values.items ≡ [] → KeepsRuns name waiting old kept run → KeepsRuns name (waiting ++ closed old) None kept run
+keeps_none name waiting None kept run none keeps =
+    let P : List Run → Type 0 = λ w. AreSets name w kept.sets.items kept.ats.items in
+    record { sets = subst P (sym (append-nil waiting)) keeps.sets; still = none }
+keeps_none name waiting (Some open_run) kept run none keeps = let is : map (λ r. r.value) (readings open_run) ≡ [] = sym keeps.still.values_are ∙ none in cc
 
--- or isn't
-pub set_fails : {T : Type 0} (total : ℕ) (name : List ℕ) (book : List Series) (old : Option Run) (kept kept' : OpenRun) (edit : Edit) (error : StoreError) (end : LoadEnd) (told : Type 0) (before now : View) → kept.values.items ≢ [] → Keeps old kept → edit ≡ Set name kept.time (map Some kept.values.items) → end ≡ end_at kept.at error → told → StandsForBook before.image total book → IsRefusedWith total book edit error → IsUnchangedFor error told before now → Passes before now (IsBeforeOrAfter total book edit) (Quiet before) → Does {T = T} (Closes old) (Closes old) NoBad total name book (Err end) kept' before now
-set_fails total name book None kept kept' edit error end told before now some keeps is ends says stands refused same time = absurd (some keeps)
-set_fails total name book (Some run) kept kept' edit error end told before now some keeps is ends says stands refused same time =
-    let as_set = set_is name run kept edit keeps is in
-    let P : Edit → Type 0 = λ e. IsRefusedWith total book e error in
-    let Q : LoadEnd → Type 0 = λ e. StopsSo (Closes (Some run)) NoBad total name book now.image e in
-    record {
-      done = tt;
-      stops = subst Q (sym ends) (set_stops total name book run kept.at told before now error keeps.at_is says stands (subst P as_set refused) same);
-      moments = set_moments total name book run edit before now as_set time;
-    }
+pub keeps_set : (name : List ℕ) (waiting : List Run) (old : Option Run) (kept kept' : KeptSets) (run run' : OpenRun) (set : Edit) → run.values.items ≢ [] → KeepsRuns name waiting old kept run → set ≡ Set name run.time (map Some run.values.items) → kept'.sets.items ≡ kept.sets.items ++ set ∷ [] → kept'.ats.items ≡ kept.ats.items ++ run.at ∷ [] → run'.values.items ≡ [] → KeepsRuns name (waiting ++ closed old) None kept' run'
+keeps_set name waiting None kept kept' run run' set some keeps is sets ats none = absurd (some keeps.still)
+keeps_set name waiting (Some open_run) kept kept' run run' set some keeps is sets ats none = record {
+  sets = sets_more name waiting open_run kept.sets.items kept'.sets.items kept.ats.items kept'.ats.items set run.at keeps.sets (set_is name open_run run set keeps.still is) keeps.still.at_is sets ats;
+  still = none;
+}
 
 -- why an edit wasn't done is why a set wasn't; the pages are as they were
 pub cause_of : (at : ℕ) (e : StoreError) (told told' : Type 0) (s : Superblock) (old new : View) → (told' → told) → new.size ≡ old.size → (told → KeepsPage old.size s (old.image 0)) → IsUnchangedFor e told old new → IsEditCause e told s old new
@@ -135,6 +96,12 @@ some_items n [] b count tests is none =
     cc
 some_items n (v ∷ vs) b count tests is none = cc
 
+pub none_items : (n : ℕ) (values : List ℤ) (b : Bool) → n ≡ length values → b ≡ (n == 0) → b ≡ true → values ≡ []
+none_items n [] b count tests is = refl
+none_items n (v ∷ vs) b count tests is =
+    let none : length (v ∷ vs) ≡ 0 = eqb-true (length (v ∷ vs)) 0 (sym (ap (λ k. k == 0) count) ∙ sym tests ∙ is) in
+    absurd (omega (arith, none))
+
 -- so the set is one that a book can be asked
 pub set_is_edit : (edit : Edit) (name : List ℕ) (time : ℤ) (values : List ℤ) → edit ≡ Set name time (map Some values) → values ≢ [] → IsEdit edit
 set_is_edit edit name time [] is some = absurd (some refl)
@@ -142,8 +109,138 @@ set_is_edit edit name time (v ∷ vs) is some =
     let P : Edit → Type 0 = IsEdit in
     subst P (sym is) (omega arith, All-map (λ value. IsSome value) Some (v ∷ vs) (λ k d below. refl))
 
--- the run that stood open before a bad line was stored
-pub stopped : {T U : Type 0} (at total : ℕ) (name : List ℕ) (book : List Series) (old : Option Run) (v : T) (kept : OpenRun) (before now : View) → Does (Closes old) (Closes old) NoBad total name book (Ok v) kept before now → Does {T = U} (Closes old) (Closes old) (TooLongDone at total name book old now.image) total name book (Err (BadLine at)) kept before now
-stopped at total name book old v kept before now does =
-    let P : List Run → Type 0 = λ e. IsAfter total name book e now.image in
-    record { done = tt; stops = record { at_is = refl; after = subst P does.done.gives.0 does.done.after }; moments = does.moments }
+-- ---- sets of some first runs
+
+pub part_none : (total : ℕ) (name : List ℕ) (book : List Series) (runs : List Run) (image : Image) → StandsForBook image total book → IsPartDone total name book runs image
+part_none total name book runs image stands = record { done = []; later = runs; split = refl; after = after_none total name book image stands }
+
+pub part_all : (total : ℕ) (name : List ℕ) (book : List Series) (runs : List Run) (image : Image) → IsAfter total name book runs image → IsPartDone total name book runs image
+part_all total name book runs image after = record { done = runs; later = []; split = sym (append-nil runs); after = after }
+
+pub part_then : (total : ℕ) (name : List ℕ) (book mid : List Series) (first second : List Run) (image : Image) → Loads total name book first mid → IsPartDone total name mid second image → IsPartDone total name book (first ++ second) image
+part_then total name book mid first second image loads part = record {
+  done = first ++ part.done;
+  later = part.later;
+  split = ap (λ l. first ++ l) part.split ∙ sym (append_assoc first part.done part.later);
+  after = after_then total name book mid first part.done image loads part.after;
+}
+
+pub refused_then : (total : ℕ) (name : List ℕ) (book mid : List Series) (first second : List Run) (at : ℕ) (refusal : Refusal) (image : Image) → Loads total name book first mid → IsRefusedIn total name mid second at refusal image → IsRefusedIn total name book (first ++ second) at refusal image
+refused_then total name book mid first second at refusal image loads is = record {
+  done = first ++ is.done;
+  run = is.run;
+  later = is.later;
+  split = ap (λ l. first ++ l) is.split ∙ sym (append_assoc first is.done (is.run ∷ is.later));
+  at_is = is.at_is;
+  new = is.new;
+  loads = loads_then total name book mid is.new first is.done loads is.loads;
+  refused = is.refused;
+  stands = is.stands;
+}
+
+pub stops_then : (total : ℕ) (name : List ℕ) (book mid : List Series) (first second : List Run) (image : Image) (e : LoadEnd) → Loads total name book first mid → StopsSo NoBad total name mid second image e → StopsSo NoBad total name book (first ++ second) image e
+stops_then total name book mid first second image UnknownSeries loads why = why
+stops_then total name book mid first second image (BadLine at) loads why = why
+stops_then total name book mid first second image (Refused at refusal) loads why = refused_then total name book mid first second at refusal image loads why
+stops_then total name book mid first second image ReadFault loads why = why
+stops_then total name book mid first second image InputTooLong loads why = why
+stops_then total name book mid first second image DiskFault loads why = why
+stops_then total name book mid first second image (Damaged page) loads why = why
+stops_then total name book mid first second image NoMemory loads why = part_then total name book mid first second image loads why
+
+part_moments : (total : ℕ) (name : List ℕ) (book mid_book : List Series) (first second : List Run) (old new : View) → Loads total name book first mid_book → Passes old new (IsPartDone total name mid_book second) (Quiet old) → Passes old new (IsPartDone total name book (first ++ second)) (Quiet old)
+part_moments total name book mid_book first second old new loads time =
+    passes_weaker old new (IsPartDone total name mid_book second) (IsPartDone total name book (first ++ second)) (Quiet old) (Quiet old)
+    (λ image part. part_then total name book mid_book first second image loads part) (λ count quiet. quiet) time
+
+-- some first sets, and then the others
+pub does_then : (total : ℕ) (name : List ℕ) (book : List Series) (runs : List Run) (count : ℕ) (result : Result (Unit {0}) LoadEnd) (old mid new : View) → (first : DoesFirst total name book runs (Ok count) old mid) → Does NoBad total name first.done.new (drop count runs) result mid new → Does NoBad total name book runs result old new
+does_then total name book runs count result old mid new first second =
+    let all : List Run = take count runs ++ drop count runs in
+    let P : List Run → Type 0 = λ r. Does NoBad total name book r result old new in
+    let Q : List Run → Type 0 = λ r. Passes old mid (IsPartDone total name book r) (Quiet old) in
+    let same : all ≡ runs = take-append-drop count runs in
+    subst P same (by result second.done second.stops (time_then old mid new (IsPartDone total name book all) (subst Q (sym same) first.moments)
+    (part_moments total name book first.done.new (take count runs) (drop count runs) mid new first.done.loads second.moments)))
+  where
+    by : (r : Result (Unit {0}) LoadEnd) → OnOk r (IsAfter total name first.done.new (drop count runs) new.image) → IfErr r (λ e. StopsSo NoBad total name first.done.new (drop count runs) new.image e)
+        → Passes old new (IsPartDone total name book (take count runs ++ drop count runs)) (Quiet old) → Does NoBad total name book (take count runs ++ drop count runs) r old new
+    by (Ok v) done stops time = record { done = after_then total name book first.done.new (take count runs) (drop count runs) new.image first.done.loads done; stops = tt; moments = time }
+    by (Err e) done stops time = record { done = tt; stops = stops_then total name book first.done.new (take count runs) (drop count runs) new.image e first.done.loads stops; moments = time }
+
+pub does_none : (total : ℕ) (name : List ℕ) (book : List Series) (runs : List Run) (v : Unit {0}) (at : View) → length runs ≡ 0 → StandsForBook at.image total book → Does NoBad total name book runs (Ok v) at at
+does_none total name book [] v at none stands = record { done = after_none total name book at.image stands; stops = tt; moments = passes_none at (IsPartDone total name book []) (Quiet at) }
+does_none total name book (run ∷ runs) v at none stands = absurd (omega (arith, none))
+
+-- an error that is passed on
+pub err_passes : (total : ℕ) (name : List ℕ) (book : List Series) (runs : List Run) (e : LoadEnd) (result : Result (Unit {0}) LoadEnd) (old new : View) → IsErrAnd result (λ x. x ≡ e) → StopsSo NoBad total name book runs new.image e → Passes old new (IsPartDone total name book runs) (Quiet old) → Does NoBad total name book runs result old new
+err_passes total name book runs e (Ok v) old new is stops time = absurd is
+err_passes total name book runs e (Err x) old new is stops time =
+    let P : LoadEnd → Type 0 = λ y. StopsSo NoBad total name book runs new.image y in
+    record { done = tt; stops = subst P (sym is) stops; moments = time }
+
+-- want of memory before a set was done
+pub no_memory_does : {T : Type 0} (B : ℕ → Type 0) (total : ℕ) (name : List ℕ) (book : List Series) (runs : List Run) (e : LoadEnd) (result : Result T LoadEnd) (at : View) → IsErrAnd result (λ x. x ≡ e) → e ≡ NoMemory → StandsForBook at.image total book → Does B total name book runs result at at
+no_memory_does {T} B total name book runs e (Ok v) at is none stands = absurd is
+no_memory_does {T} B total name book runs e (Err x) at is none stands =
+    let P : LoadEnd → Type 0 = λ y. StopsSo B total name book runs at.image y in
+    record { done = tt; stops = subst P (sym (is ∙ none)) (part_none total name book runs at.image stands); moments = passes_none at (IsPartDone total name book runs) (Quiet at) }
+
+-- the runs before a bad line were stored
+pub stopped : {T U : Type 0} (at total : ℕ) (name : List ℕ) (book : List Series) (runs : List Run) (v : T) (before now : View) → Does NoBad total name book runs (Ok v) before now → Does {T = U} (IsAtLine at total name book runs now.image) total name book runs (Err (BadLine at)) before now
+stopped at total name book runs v before now does = record { done = tt; stops = record { at_is = refl; after = does.done }; moments = does.moments }
+
+pub stops_more : (B : ℕ → Type 0) (total : ℕ) (name : List ℕ) (book : List Series) (runs : List Run) (image : Image) (e : LoadEnd) → StopsSo NoBad total name book runs image e → StopsSo B total name book runs image e
+stops_more B total name book runs image UnknownSeries why = why
+stops_more B total name book runs image (BadLine at) why = absurd why
+stops_more B total name book runs image (Refused at refusal) why = why
+stops_more B total name book runs image ReadFault why = why
+stops_more B total name book runs image InputTooLong why = why
+stops_more B total name book runs image DiskFault why = why
+stops_more B total name book runs image (Damaged page) why = why
+stops_more B total name book runs image NoMemory why = why
+
+pub not_stopped : {T U : Type 0} (B : ℕ → Type 0) (total : ℕ) (name : List ℕ) (book : List Series) (runs : List Run) (e : LoadEnd) (before now : View) → Does {T = T} NoBad total name book runs (Err e) before now → Does {T = U} B total name book runs (Err e) before now
+not_stopped {T} {U} B total name book runs e before now does = record { done = tt; stops = stops_more B total name book runs now.image e does.stops; moments = does.moments }
+
+-- the list of sets is cleared
+pub keeps_cleared : (name : List ℕ) (old : Option Run) (kept : KeptSets) (run : OpenRun) → kept.sets.items ≡ [] → kept.ats.items ≡ [] → Keeps old run → KeepsRuns name [] old kept run
+keeps_cleared name old kept run sets ats still = record { sets = record { sets_are = sets; ats_are = ats }; still = still }
+
+pub edits_none : (sets : List Edit) (ats : List ℕ) → sets ≡ [] → AreEdits sets ats
+edits_none [] ats none = record { edits = λ k d within. absurd (omega (arith, within)); placed = omega arith }
+edits_none (set ∷ sets) ats none = cc
+
+-- the sets behind the first ones
+drop_map : {X Y : Type 0} (f : X → Y) (n : ℕ) (xs : List X) → drop n (map f xs) ≡ map f (drop n xs)
+drop_map {X} {Y} f zero xs = refl
+drop_map {X} {Y} f (suc n) [] = refl
+drop_map {X} {Y} f (suc n) (x ∷ xs) = drop_map f n xs
+
+pub sets_drop : (name : List ℕ) (n : ℕ) (runs : List Run) (sets : List Edit) (ats : List ℕ) → AreSets name runs sets ats → AreSets name (drop n runs) (drop n sets) (drop n ats)
+sets_drop name n runs sets ats are = record {
+  sets_are = ap (drop n) are.sets_are ∙ drop_map (set_of name) n runs;
+  ats_are = ap (drop n) are.ats_are ∙ drop_map (λ (run : Run). run.first.at) n runs;
+}
+
+slice_all : {X : Type 0} (n : ℕ) (xs : List X) → take (length xs - n) (drop n xs) ≡ drop n xs
+slice_all {X} n xs = take_all (length xs - n) (drop n xs) (omega (arith, length-drop n xs))
+
+pub sets_behind : (name : List ℕ) (n : ℕ) (runs : List Run) (sets : List Edit) (ats : List ℕ) → AreSets name runs sets ats → AreSets name (drop n runs) (take (length sets - n) (drop n sets)) (take (length ats - n) (drop n ats))
+sets_behind name n runs sets ats are =
+    let d = sets_drop name n runs sets ats are in
+    record { sets_are = slice_all n sets ∙ d.sets_are; ats_are = slice_all n ats ∙ d.ats_are }
+
+-- the name stays
+pub keeps_as : (name name' : List ℕ) (waiting : List Run) (old : Option Run) (kept : KeptSets) (run : OpenRun) → name' ≡ name → KeepsRuns name' waiting old kept run → KeepsRuns name waiting old kept run
+keeps_as name name' waiting old kept run same keeps = let K : List ℕ → Type 0 = λ n. KeepsRuns n waiting old kept run in subst K same keeps
+
+pub ok_keeps_as : {T : Type 0} (result : Result T LoadEnd) (name name' : List ℕ) (waiting : List Run) (old : Option Run) (kept : KeptSets) (run : OpenRun) → name' ≡ name → OnOk result (KeepsRuns name' waiting old kept run) → OnOk result (KeepsRuns name waiting old kept run)
+ok_keeps_as {T} (Ok v) name name' waiting old kept run same keeps = keeps_as name name' waiting old kept run same keeps
+ok_keeps_as {T} (Err e) name name' waiting old kept run same keeps = tt
+
+pub does_as : {T : Type 0} (B : ℕ → Type 0) (total : ℕ) (name name' : List ℕ) (book : List Series) (runs : List Run) (result : Result T LoadEnd) (old new : View) → name' ≡ name → Does B total name' book runs result old new → Does B total name book runs result old new
+does_as {T} B total name name' book runs result old new same does = let D : List ℕ → Type 0 = λ n. Does B total n book runs result old new in subst D same does
+
+pub runs_of_none : (name : List ℕ) (runs : List Run) (sets : List Edit) (ats : List ℕ) → AreSets name runs sets ats → length sets ≡ 0 → length runs ≡ 0
+runs_of_none name runs sets ats are none = omega (arith, none, ap length are.sets_are, length-map runs (set_of name))

@@ -1,5 +1,5 @@
 -- What a load holds on its way, and what is done of a line.
-use Rattle.std.specs.Prelude.{◌≡◌, ℕ, ◌≤◌, Bool, List, [], Option, None, Some}
+use Rattle.std.specs.Prelude.{◌≡◌, ℕ, ◌≤◌, Bool, List, [], ◌++◌, Option, None, Some}
 use Rattle.block_disk.specs.View.{Image, View}
 use Rattle.line_runs.specs.Given.{Given, Line, Pause, End}
 use Rattle.line_runs.specs.declared.lines_stop.LinesStop.{LinesStop}
@@ -7,19 +7,21 @@ use Rattle.line_runs.specs.declared.lines_stop.LinesStop.TheVariants as stop
 use Rattle.series_book.specs.declared.one_series.Series.{Series}
 use Rattle.stored_book.specs.Standing.{StandsForBook}
 use Rattle.series_load.specs.Runs.{Run}
-use Rattle.series_load.specs.Sets.{Loads}
-use Rattle.series_load.specs.Steps.{BadDone, Closes, IsEither, Keeps, LineAdds, LineEnds, NoBad, StopsSo, TooLongDone, closed, end_of}
+use Rattle.series_load.specs.Sets.{IsPartDone, Loads}
+use Rattle.series_load.specs.Steps.{IsAtLine, IsAtText, KeepsRuns, LineAdds, LineRuns, StopsSo, closed, end_of}
 use Rattle.series_load.specs.declared.load_end.LoadEnd.{LoadEnd}
 use Rattle.series_load.specs.declared.load_end.LoadEnd.TheVariants.{DiskFault}
 use Rattle.series_load.specs.declared.loader.Loader.{Loader}
 
--- the series and the book that the pages stand for, how far the lines were read, and since when how many bytes were sent
+-- the series and the book that the pages stand for, the runs that have ended and whose sets aren't done, how far the lines
+-- were read, and since when how many bytes were sent
 pub record Held : Type 0 where
   pub total : ℕ
   pub name : List ℕ
   pub scale : ℕ
   pub step : ℕ
   pub book : List Series
+  pub waiting : List Run
   pub first : Bool
   pub open_run : Option Run
   pub points : ℕ
@@ -34,6 +36,7 @@ seen held loader = record {
   scale = loader.scale;
   step = loader.step;
   book = held.book;
+  waiting = held.waiting;
   first = loader.first;
   open_run = held.open_run;
   points = loader.points;
@@ -41,14 +44,15 @@ seen held loader = record {
   count = held.count;
 }
 
--- and with another book, and further lines read
-abbrev pub moved : Held → List Series → Bool → Option Run → ℕ → Held
-moved held book first open_run points = record {
+-- and with another book, other runs that wait, and further lines read
+abbrev pub moved : Held → List Series → List Run → Bool → Option Run → ℕ → Held
+moved held book waiting first open_run points = record {
   total = held.total;
   name = held.name;
   scale = held.scale;
   step = held.step;
   book = book;
+  waiting = waiting;
   first = first;
   open_run = open_run;
   points = points;
@@ -65,56 +69,70 @@ pub record NoneSent (since count : ℕ) (at : View) : Type 0 where
 pub record StandsSo (told : Type 0) (at : View) (loader : Loader) (held : Held) : Type 0 where
   pub is_told : told
   pub stands : StandsForBook at.image held.total held.book
-  pub keeps : Keeps held.open_run loader.run
+  pub keeps : KeepsRuns loader.name held.waiting held.open_run loader.kept loader.run
   pub quiet : NoneSent held.since held.count at
   pub seen_is : held ≡ seen held loader
 
--- a line was taken: runs ended, and their sets were done
+-- a line was taken: runs ended, the sets of some that waited were done, and the others wait
 pub record LineTaken (held : Held) (at : ℕ) (line text : List ℕ) (behind : Held) : Type 0 where
   pub ends : List Run
+  pub done : List Run
   pub book : List Series
+  pub waiting : List Run
   pub first : Bool
   pub open_run : Option Run
   pub points : ℕ
   pub adds : LineAdds held.scale held.step at line held.first held.open_run held.points ends first open_run points
-  pub loads : Loads held.total held.name held.book ends book
-  pub behind_is : behind ≡ moved held book first open_run points
+  pub split : held.waiting ++ ends ≡ done ++ waiting
+  pub loads : Loads held.total held.name held.book done book
+  pub behind_is : behind ≡ moved held book waiting first open_run points
   pub unsent : text ≡ []
 
--- at the end the set of the run that stands open is done
+-- at a pause the sets of the runs that wait are done
+pub record PauseTaken (held : Held) (text : List ℕ) (behind : Held) : Type 0 where
+  pub book : List Series
+  pub loads : Loads held.total held.name held.book held.waiting book
+  pub behind_is : behind ≡ moved held book [] held.first held.open_run held.points
+  pub unsent : text ≡ []
+
+-- at the end that of the run that stands open is done too
 pub record EndTaken (held : Held) (text : List ℕ) (behind : Held) : Type 0 where
   pub book : List Series
-  pub loads : Loads held.total held.name held.book (closed held.open_run) book
-  pub behind_is : behind ≡ moved held book held.first None held.points
+  pub loads : Loads held.total held.name held.book (held.waiting ++ closed held.open_run) book
+  pub behind_is : behind ≡ moved held book [] held.first None held.points
   pub unsent : text ≡ []
 
 abbrev pub LoadDoes : Held → Given → List ℕ → Held → Type 0
 LoadDoes held (Line at None) text behind = ⊥
 LoadDoes held (Line at (Some line)) text behind = LineTaken held at line text behind
-LoadDoes held Pause text behind = (text ≡ []) × (behind ≡ held)
+LoadDoes held Pause text behind = PauseTaken held text behind
 LoadDoes held End text behind = EndTaken held text behind
 
--- the runs that may end, and what is done of a bad line
-abbrev pub EndsBy : Held → Given → List Run → Option Run → Type 0
-EndsBy held (Line at None) ends new = Closes held.open_run ends new
-EndsBy held (Line at (Some line)) ends new = LineEnds held.scale held.step at line held.first held.open_run held.points ends
-EndsBy held Pause ends new = ⊥
-EndsBy held End ends new = Closes held.open_run ends new
+-- the runs whose sets may be done, and what is done of a bad line
+abbrev pub RunsBy : Held → Given → List Run → Type 0
+RunsBy held (Line at None) runs = runs ≡ held.waiting ++ closed held.open_run
+RunsBy held (Line at (Some line)) runs = LineRuns held.scale held.step at line held.first held.points held.waiting held.open_run runs
+RunsBy held Pause runs = runs ≡ held.waiting
+RunsBy held End runs = runs ≡ held.waiting ++ closed held.open_run
 
 abbrev pub BadBy : Held → Given → Image → ℕ → Type 0
-BadBy held (Line at None) image place = TooLongDone at held.total held.name held.book held.open_run image place
+BadBy held (Line at None) image place = IsAtLine at held.total held.name held.book (held.waiting ++ closed held.open_run) image place
 BadBy held (Line at (Some line)) image place =
-    BadDone held.scale at held.first line held.total held.name held.book held.open_run image place
+    IsAtText held.scale at line held.first held.total held.name held.book (held.waiting ++ closed held.open_run) image place
 BadBy held Pause image place = ⊥
-BadBy held End image place = NoBad place
+BadBy held End image place = ⊥
 
 -- why it stopped the load, and what a crash leaves meanwhile
 pub record LoadStops (held : Held) (it : Given) (new : View) (end : LoadEnd) : Type 0 where
-  pub why : StopsSo (EndsBy held it) (BadBy held it new.image) held.total held.name held.book new.image end
+  pub runs : List Run
+  pub are : RunsBy held it runs
+  pub why : StopsSo (BadBy held it new.image) held.total held.name held.book runs new.image end
   pub quiet : NoneSent held.since held.count new
 
-abbrev pub LoadLeaves : Held → Given → ℕ → Image → ℕ → Type 0
-LoadLeaves held it from image sent = IsEither (EndsBy held it) held.total held.name held.book image
+pub record LoadLeaves (held : Held) (it : Given) (from : ℕ) (image : Image) (sent : ℕ) : Type 0 where
+  pub runs : List Run
+  pub are : RunsBy held it runs
+  pub part : IsPartDone held.total held.name held.book runs image
 
 -- after it no line may be given
 abbrev pub Harms : LoadEnd → Type 0

@@ -1,21 +1,32 @@
 -- A load into a store, in the words of the store.
-use Rattle.std.specs.Prelude.{◌≡◌, ◌<◌, ℕ, List, Option, Result, Err, length}
+use Rattle.std.specs.Prelude.{◌≡◌, ℕ, List, Option, Result, Err, length}
 use Rattle.block_disk.specs.declared.streams.Streams as streams
 use Rattle.gate_pages.specs.declared.pages.Pages.{Ghosts}
 use Rattle.series_book.specs.declared.one_series.Series.{Series}
+use Rattle.series_book.specs.declared.edits.Edit.{Edit}
 use Rattle.stored_book.specs.Standing.{StandsForBook}
 use Rattle.series_store.specs.Shown as shown
 use Rattle.series_store.specs.declared.store.Store.{Store}
 use Rattle.series_load.specs.Ends.{Outcome, IsLoadCause}
 use Rattle.series_load.specs.Runs.{Run}
-use Rattle.series_load.specs.Sets.{IsNamed}
+use Rattle.series_load.specs.Sets.{AreEdits, AreSets, IsNamed}
 use Rattle.series_load.specs.Sides.{Side, side}
-use Rattle.series_load.specs.Steps.{Keeps, Closes, AddsReading, LineAdds, LineEnds, SaysSo, NoBad, BadDone, TooLongDone, Does, Carries, IsSetCause}
+use Rattle.series_load.specs.Steps.{Carries, Does, DoesFirst, DoesLine, IsAtLine, IsSetCause, KeepsRuns, LineAdds, NoBad, Took}
 use Rattle.series_load.specs.declared.load_end.LoadEnd.{LoadEnd}
 use Rattle.series_load.specs.declared.loader.Loader.{Loader}
-use Rattle.series_load.specs.declared.open_run.OpenRun.{OpenRun}
-use Rattle.series_load.specs.declared.open_run.Reading.{Reading as Pair}
-use Rattle.series_load.specs.declared.said.Said.{Said}
+
+-- a book can be asked each set that is kept
+abbrev pub KeepsEdits : Loader → Type 0
+KeepsEdits loader = AreEdits loader.kept.sets.items loader.kept.ats.items
+
+-- the loader keeps these runs
+abbrev pub KeepsSo : Loader → List Run → Option Run → Type 0
+KeepsSo loader waiting open_run = KeepsRuns loader.name waiting open_run loader.kept loader.run
+
+-- it takes the line at this offset, whose text is this one, and keeps the sets of the runs that end
+abbrev pub TookLine : ℕ → List ℕ → List Run → Option Run → Loader → Loader → Type 0
+TookLine at text waiting open_run before after =
+    Took (λ ends still. LineAdds before.scale before.step at text before.first open_run before.points ends after.first still after.points) before.name waiting after.kept after.run
 
 module _ {P : Type 0} {g : Ghosts P} where
   -- the pages of a store with these streams, and its numbers
@@ -35,14 +46,13 @@ module _ {P : Type 0} {g : Ghosts P} where
   abbrev pub EndsFor : streams.Ghosts P → LoadEnd → Store P g → Store P g → Type 0
   EndsFor beside e old new = IsLoadCause e (shown.IsTold new) (shown.total old) (shown.view old) (shown.view new) (beside.read_faults (shown.pages old)) (beside.read_faults (shown.pages new))
 
-  -- so of each book that the pages stand for, and the run that stands open
-  abbrev pub ForRun : Store P g → OpenRun → (ℕ → List Series → Option Run → Type 0) → Type 0
-  ForRun it kept IsSo = (total : ℕ) (book : List Series) (open_run : Option Run) → shown.IsTold it → StandsForBook (shown.image it) total book → Keeps open_run kept → IsSo total book open_run
+  -- so of each book that the pages stand for, and the runs that the loader keeps
+  abbrev pub ForRuns : Store P g → Loader → (ℕ → List Series → List Run → Option Run → Type 0) → Type 0
+  ForRuns it loader IsSo = (total : ℕ) (book : List Series) (waiting : List Run) (open_run : Option Run) → shown.IsTold it → StandsForBook (shown.image it) total book → KeepsSo loader waiting open_run → IsSo total book waiting open_run
 
-  -- and of each text that isn't empty and says this
-  abbrev pub ForText : Store P g → Loader → Said → (ℕ → List Series → Option Run → List ℕ → Type 0) → Type 0
-  ForText it loader said IsSo = (total : ℕ) (book : List Series) (open_run : Option Run) (text : List ℕ) → shown.IsTold it → StandsForBook (shown.image it) total book → Keeps open_run loader.run
-      → 0 < length text → SaysSo loader.scale loader.first text said → IsSo total book open_run text
+  -- or the runs of these sets
+  abbrev pub ForSets : Store P g → List Edit → List ℕ → (ℕ → List ℕ → List Series → List Run → Type 0) → Type 0
+  ForSets it sets ats IsSo = (total : ℕ) (name : List ℕ) (book : List Series) (runs : List Run) → shown.IsTold it → StandsForBook (shown.image it) total book → AreSets name runs sets ats → IsSo total name book runs
 
   -- so of each book that the pages stand for, and its series of this name
   abbrev pub ForNamed : Store P g → List ℕ → (ℕ → List Series → Series → Type 0) → Type 0
@@ -52,25 +62,22 @@ module _ {P : Type 0} {g : Ghosts P} where
   abbrev pub ForLoaded : Store P g → Loader → (ℕ → List Series → Series → Type 0) → Type 0
   ForLoaded it loader IsSo = (total : ℕ) (book : List Series) (series : Series) → shown.IsTold it → StandsForBook (shown.image it) total book → loader.step ≡ series.step → loader.scale ≡ series.scale → IsSo total book series
 
-  -- a call ends runs so, and does their sets
-  abbrev pub EndsRuns : {T : Type 0} → (List Run → Option Run → Type 0) → ℕ → List ℕ → List Series → Result T LoadEnd → OpenRun → Store P g → Store P g → Type 0
-  EndsRuns Ends total name book result kept old new = Does Ends Ends NoBad total name book result kept (shown.view old) (shown.view new)
+  -- a call does the sets of these runs, or of some first of them
+  abbrev pub DoesRuns : {T : Type 0} → ℕ → List ℕ → List Series → List Run → Result T LoadEnd → Store P g → Store P g → Type 0
+  DoesRuns total name book runs result old new = Does NoBad total name book runs result (shown.view old) (shown.view new)
 
-  -- it takes a time with its value, in the line at this offset
-  abbrev pub TakesReading : {T : Type 0} → ℕ → Pair → ℕ → List Series → Option Run → Result T LoadEnd → Loader → Loader → Store P g → Store P g → Type 0
-  TakesReading at pair total book open_run result before after old new = EndsRuns (AddsReading before.step at pair open_run) total before.name book result after.run old new
+  abbrev pub DoesSome : ℕ → List ℕ → List Series → List Run → Result ℕ LoadEnd → Store P g → Store P g → Type 0
+  DoesSome total name book runs result old new = DoesFirst total name book runs result (shown.view old) (shown.view new)
 
-  -- at a bad line it does the set of the run that stands open
-  abbrev pub StopsAt : ℕ → Option Run → ℕ → List ℕ → List Series → LoadEnd → OpenRun → Store P g → Store P g → Type 0
-  StopsAt at open_run total name book end kept old new =
-      Does {T = ℕ} (Closes open_run) (Closes open_run) (TooLongDone at total name book open_run (shown.image new)) total name book (Err end) kept (shown.view old) (shown.view new)
+  -- at a bad line it does the sets of these runs before it
+  abbrev pub StopsAt : ℕ → ℕ → List ℕ → List Series → List Run → LoadEnd → Store P g → Store P g → Type 0
+  StopsAt at total name book runs end old new =
+      Does {T = ℕ} (IsAtLine at total name book runs (shown.image new)) total name book runs (Err end) (shown.view old) (shown.view new)
 
-  -- it takes the line at this offset, whose text is this one
-  abbrev pub TakesLine : {T : Type 0} → ℕ → List ℕ → ℕ → List Series → Option Run → Result T LoadEnd → Loader → Loader → Store P g → Store P g → Type 0
-  TakesLine at text total book open_run result before after old new =
-      Does (λ ends still. LineAdds before.scale before.step at text before.first open_run before.points ends after.first still after.points)
-      (λ ends still. LineEnds before.scale before.step at text before.first open_run before.points ends)
-      (BadDone before.scale at before.first text total before.name book open_run (shown.image new)) total before.name book result after.run (shown.view old) (shown.view new)
+  -- it takes the line at this offset, whose text is this one, where sets may be done
+  abbrev pub TakesLine : {T : Type 0} → ℕ → List ℕ → ℕ → List Series → List Run → Option Run → Result T LoadEnd → Loader → Loader → Store P g → Store P g → Type 0
+  TakesLine at text total book waiting open_run result before after old new =
+      DoesLine before.scale before.step at text before.first before.points total before.name book waiting open_run result after.first after.points after.kept after.run (shown.view old) (shown.view new)
 
   -- a whole input is loaded, or not all of it
   abbrev pub LoadsSo : streams.Ghosts P → List ℕ → ℕ → List Series → Series → Result ℕ LoadEnd → Store P g → Store P g → Type 0

@@ -1,5 +1,5 @@
 -- What a line more does to the run that stands open, and to the store.
-use Rattle.std.specs.Prelude.{◌≡◌, ◌⊎◌, ℕ, ℤ, ◌<◌, ◌≤◌, Bool, true, false, List, [], ◌∷◌, ◌++◌, length, map, Option, None, Some, Result, Err, OnOk, IfErr, count_by, is_some}
+use Rattle.std.specs.Prelude.{◌≡◌, ◌⊎◌, ℕ, ℤ, ◌-◌, ◌<◌, ◌≤◌, Bool, true, false, List, [], ◌∷◌, ◌++◌, length, map, take, slice_get, Option, None, Some, Result, Ok, Err, IfOk, OnOk, IfErr, count_by, is_some}
 use Rattle.std.specs.List.{filter}
 use Rattle.block_disk.specs.Counts.{HasRisen}
 use Rattle.block_disk.specs.View.{Image, View, Passes}
@@ -9,20 +9,20 @@ use Rattle.csv_load.specs.declared.row.Row.TheVariants as row
 use Rattle.csv_load.specs.declared.row.RowCause.{RowCause}
 use Rattle.series_book.specs.declared.one_series.Series.{Series}
 use Rattle.series_book.specs.declared.refusals.Refusal.{Refusal}
-use Rattle.series_book.specs.Edits.{apply}
+use Rattle.series_book.specs.declared.outcomes.Outcome.{Outcome}
 use Rattle.stored_book.specs.Damage.{IsBadForEdit}
-use Rattle.stored_book.specs.Standing.{StandsForBook}
 use Rattle.series_store.specs.declared.errors.StoreError.{StoreError}
 use Rattle.series_store.specs.declared.errors.StoreError.TheVariants as store
 use Rattle.chart_world.specs.declared.line_answer.LineFault.{LineFault}
 use Rattle.chart_world.specs.declared.line_answer.LineFault.TheVariants as fault
 use Rattle.chart_world.specs.Fronts.{says}
 use Rattle.series_load.specs.Fronts.{PlacedLine}
-use Rattle.series_load.specs.Rows.{Reading, AreTable, IsBad}
-use Rattle.series_load.specs.Runs.{Run, readings, last_reading, Cut, Ended, AllRuns}
-use Rattle.series_load.specs.Sets.{set_of, IsAfter}
+use Rattle.series_load.specs.Rows.{Reading, AreTable}
+use Rattle.series_load.specs.Runs.{Run, readings, last_reading, Cut}
+use Rattle.series_load.specs.Sets.{AreSets, IsAfter, IsPartDone, IsRefusedIn}
 use Rattle.series_load.specs.declared.load_end.LoadEnd.{LoadEnd}
 use Rattle.series_load.specs.declared.load_end.LoadEnd.TheVariants.{UnknownSeries, BadLine, Refused, ReadFault, InputTooLong, DiskFault, Damaged, NoMemory}
+use Rattle.series_load.specs.declared.kept_sets.KeptSets.{KeptSets}
 use Rattle.series_load.specs.declared.open_run.OpenRun.{OpenRun}
 use Rattle.series_load.specs.declared.open_run.Reading.{Reading as Pair}
 use Rattle.series_load.specs.declared.said.Said.{Said}
@@ -79,65 +79,95 @@ abbrev pub LineAdds : ℕ → ℕ → ℕ → List ℕ → Bool → Option Run �
 LineAdds scale step at text first old points ends first' new points' = (lines : List PlacedLine) (runs : List Run) →
     Read scale step lines runs first old points → Read scale step (lines ++ if_told at (Some text)) (runs ++ ends) first' new points'
 
--- the runs that have ended are these where a line more is read, or where it is bad and ends the load
-pub record AreEnded (scale step at : ℕ) (text : List ℕ) (lines : List PlacedLine) (runs : List Run) : Type 0 where
-  pub rows : List (Option Reading)
-  pub ended : (AreTable scale (lines ++ if_told at (Some text)) rows × Ended step rows runs)
-      ⊎ ((0 < length text) × IsBad scale lines (Some text) × AreTable scale lines rows × AllRuns step rows runs)
+-- the line says this; a header counts as the first line alone
+abbrev pub SaysSo : ℕ → Bool → List ℕ → Said → Type 0
+SaysSo scale first text Header = (first ≡ true) × Says scale text row.Header
+SaysSo scale first text (Point reading) = Says scale text (row.Point reading.time reading.value)
+SaysSo scale first text Gap = (time : ℤ) × Says scale text (row.Skip time)
+SaysSo scale first text Bad = ((cause : RowCause) × Fails scale text cause) ⊎ ((first ≡ false) × Says scale text row.Header)
 
-abbrev pub LineEnds : ℕ → ℕ → ℕ → List ℕ → Bool → Option Run → ℕ → List Run → Type 0
-LineEnds scale step at text first old points ends = (lines : List PlacedLine) (runs : List Run) →
-    Read scale step lines runs first old points → AreEnded scale step at text lines (runs ++ ends)
+-- what is kept: the sets of the runs that have ended and aren't done, and the run that stands open
+pub record KeepsRuns (name : List ℕ) (waiting : List Run) (open_run : Option Run) (kept : KeptSets) (run : OpenRun) : Type 0 where
+  pub sets : AreSets name waiting kept.sets.items kept.ats.items
+  pub still : Keeps open_run run
 
--- the sets of the runs that end were done
-pub record Took (G : List Run → Option Run → Type 0) (total : ℕ) (name : List ℕ) (book : List Series) (kept : OpenRun) (image : Image) : Type 0 where
+-- runs ended as G says, and are kept behind those that wait
+pub record Took (G : List Run → Option Run → Type 0) (name : List ℕ) (waiting : List Run) (kept : KeptSets) (run : OpenRun) : Type 0 where
   pub ends : List Run
   pub new : Option Run
   pub gives : G ends new
-  pub keeps : Keeps new kept
-  pub after : IsAfter total name book ends image
+  pub keeps : KeepsRuns name (waiting ++ ends) new kept run
 
--- the set of the run that ends is refused so
-pub record IsRefusedAt (G : List Run → Option Run → Type 0) (total : ℕ) (name : List ℕ) (book : List Series) (at : ℕ) (refusal : Refusal) (image : Image) : Type 0 where
-  pub run : Run
-  pub new : Option Run
-  pub gives : G (run ∷ []) new
-  pub at_is : at ≡ run.first.at
-  pub refused : apply book total (set_of name run) ≡ Err refusal
-  pub stands : StandsForBook image total book
-
--- the pages stand for the book after the sets of the runs that end
-pub record IsAfterEnds (G : List Run → Option Run → Type 0) (total : ℕ) (name : List ℕ) (book : List Series) (image : Image) : Type 0 where
+-- a line more ends runs, and these are those that wait and those that it ends
+pub record RunsOfLine (scale step at : ℕ) (text : List ℕ) (first : Bool) (points : ℕ) (waiting : List Run) (open_run : Option Run) (runs : List Run) : Type 0 where
   pub ends : List Run
+  pub first' : Bool
   pub new : Option Run
-  pub gives : G ends new
-  pub after : IsAfter total name book ends image
+  pub points' : ℕ
+  pub adds : LineAdds scale step at text first open_run points ends first' new points'
+  pub runs_are : runs ≡ waiting ++ ends
 
--- the book is as before, or as after those sets
-abbrev pub IsEither : (List Run → Option Run → Type 0) → ℕ → List ℕ → List Series → Image → Type 0
-IsEither G total name book image = StandsForBook image total book ⊎ IsAfterEnds G total name book image
+-- the line is bad, and these are the runs that wait and the one that stands open
+pub record RunsOfBad (scale : ℕ) (text : List ℕ) (first : Bool) (waiting : List Run) (open_run : Option Run) (runs : List Run) : Type 0 where
+  pub some : 0 < length text
+  pub bad : SaysSo scale first text Bad
+  pub runs_are : runs ≡ waiting ++ closed open_run
 
--- why that wasn't done; B says of a bad line what is done then
-abbrev pub StopsSo : (List Run → Option Run → Type 0) → (ℕ → Type 0) → ℕ → List ℕ → List Series → Image → LoadEnd → Type 0
-StopsSo G B total name book image UnknownSeries = ⊥
-StopsSo G B total name book image (BadLine at) = B at
-StopsSo G B total name book image (Refused at refusal) = IsRefusedAt G total name book at refusal image
-StopsSo G B total name book image ReadFault = ⊥
-StopsSo G B total name book image InputTooLong = ⊥
-StopsSo G B total name book image DiskFault = Unit {0}
-StopsSo G B total name book image (Damaged page) = ⊥
-StopsSo G B total name book image NoMemory = IsEither G total name book image
+-- the runs whose sets may be done at a line
+abbrev pub LineRuns : ℕ → ℕ → ℕ → List ℕ → Bool → ℕ → List Run → Option Run → List Run → Type 0
+LineRuns scale step at text first points waiting open_run runs =
+    (runs ≡ waiting) ⊎ RunsOfLine scale step at text first points waiting open_run runs ⊎ RunsOfBad scale text first waiting open_run runs
+
+-- why not all of the runs' sets were done; B says of a bad line what is done then
+abbrev pub StopsSo : (ℕ → Type 0) → ℕ → List ℕ → List Series → List Run → Image → LoadEnd → Type 0
+StopsSo B total name book runs image UnknownSeries = ⊥
+StopsSo B total name book runs image (BadLine at) = B at
+StopsSo B total name book runs image (Refused at refusal) = IsRefusedIn total name book runs at refusal image
+StopsSo B total name book runs image ReadFault = ⊥
+StopsSo B total name book runs image InputTooLong = ⊥
+StopsSo B total name book runs image DiskFault = Unit {0}
+StopsSo B total name book runs image (Damaged page) = ⊥
+StopsSo B total name book runs image NoMemory = IsPartDone total name book runs image
 
 -- no line is bad
 abbrev pub NoBad : ℕ → Type 0
 NoBad at = ⊥
 
--- What a call does where the pages stand for the book: it ends runs as G says, and does their sets. H says what of
--- them may have been done where it stops.
-pub record Does {T : Type 0} (G H : List Run → Option Run → Type 0) (B : ℕ → Type 0) (total : ℕ) (name : List ℕ) (book : List Series) (result : Result T LoadEnd) (kept : OpenRun) (old new : View) : Type 0 where
-  pub done : OnOk result (Took G total name book kept new.image)
-  pub stops : IfErr result (λ e. StopsSo H B total name book new.image e)
-  pub moments : Passes old new (IsEither H total name book) (Quiet old)
+-- What a call does where the pages stand for the book: it does the sets of these runs.
+pub record Does {T : Type 0} (B : ℕ → Type 0) (total : ℕ) (name : List ℕ) (book : List Series) (runs : List Run) (result : Result T LoadEnd) (old new : View) : Type 0 where
+  pub done : OnOk result (IsAfter total name book runs new.image)
+  pub stops : IfErr result (λ e. StopsSo B total name book runs new.image e)
+  pub moments : Passes old new (IsPartDone total name book runs) (Quiet old)
+
+-- the same of so many first of the runs
+pub record DoesFirst (total : ℕ) (name : List ℕ) (book : List Series) (runs : List Run) (result : Result ℕ LoadEnd) (old new : View) : Type 0 where
+  pub done : IfOk result (λ count. IsAfter total name book (take count runs) new.image)
+  pub stops : IfErr result (λ e. StopsSo NoBad total name book runs new.image e)
+  pub moments : Passes old new (IsPartDone total name book runs) (Quiet old)
+
+-- the last answer is this refusal, of the set of a run that begins at the offset
+pub record IsLastRefused (ats : List ℕ) (answers : List (Result Outcome Refusal)) (end : LoadEnd) : Type 0 where
+  pub refusal : Refusal
+  pub at : ℕ
+  pub last : slice_get answers (length answers - 1) ≡ Some (Err refusal)
+  pub at_is : slice_get ats (length answers - 1) ≡ Some at
+  pub end_is : end ≡ Refused at refusal
+
+-- how many sets these answers are of, or the refusal of the last one
+abbrev pub Counts : List ℕ → List (Result Outcome Refusal) → Result ℕ LoadEnd → Type 0
+Counts ats answers (Ok count) = (count ≡ length answers) × ((outcome : Outcome) × (slice_get answers (length answers - 1) ≡ Some (Ok outcome)))
+Counts ats answers (Err end) = IsLastRefused ats answers end
+
+-- a line was taken: runs ended, the sets of some that waited were done, and those of others are kept
+pub record LineTook (scale step at : ℕ) (text : List ℕ) (first : Bool) (points : ℕ) (waiting : List Run) (open_run : Option Run) (total : ℕ) (name : List ℕ) (book : List Series) (first' : Bool) (points' : ℕ) (kept : KeptSets) (run : OpenRun) (image : Image) : Type 0 where
+  pub ends : List Run
+  pub new : Option Run
+  pub adds : LineAdds scale step at text first open_run points ends first' new points'
+  pub done : List Run
+  pub later : List Run
+  pub split : waiting ++ ends ≡ done ++ later
+  pub after : IsAfter total name book done image
+  pub keeps : KeepsRuns name later new kept run
 
 -- why a set wasn't done, whatever the pages are
 abbrev pub IsSetCause : LoadEnd → Type 0 → ℕ → View → View → Type 0
@@ -184,21 +214,31 @@ abbrev pub end_of : LineFault → LoadEnd
 end_of fault.ReadFault = ReadFault
 end_of fault.InputTooLong = InputTooLong
 
--- the line says this; a header counts as the first line alone
-abbrev pub SaysSo : ℕ → Bool → List ℕ → Said → Type 0
-SaysSo scale first text Header = (first ≡ true) × Says scale text row.Header
-SaysSo scale first text (Point reading) = Says scale text (row.Point reading.time reading.value)
-SaysSo scale first text Gap = (time : ℤ) × Says scale text (row.Skip time)
-SaysSo scale first text Bad = ((cause : RowCause) × Fails scale text cause) ⊎ ((first ≡ false) × Says scale text row.Header)
-
--- the line at this offset is bad, and the run that stood open before it is stored
-pub record BadDone (scale at : ℕ) (first : Bool) (text : List ℕ) (total : ℕ) (name : List ℕ) (book : List Series) (old : Option Run) (image : Image) (place : ℕ) : Type 0 where
+-- a bad line is this one, and the sets of these runs before it were done
+pub record IsAtLine (at total : ℕ) (name : List ℕ) (book : List Series) (runs : List Run) (image : Image) (place : ℕ) : Type 0 where
   pub at_is : place ≡ at
+  pub after : IsAfter total name book runs image
+
+-- the same of a line that isn't too long
+pub record IsAtText (scale at : ℕ) (text : List ℕ) (first : Bool) (total : ℕ) (name : List ℕ) (book : List Series) (runs : List Run) (image : Image) (place : ℕ) : Type 0 where
+  pub at_line : IsAtLine at total name book runs image place
   pub some : 0 < length text
   pub bad : SaysSo scale first text Bad
-  pub after : IsAfter total name book (closed old) image
 
--- and where the line says nothing but that it is too long
-pub record TooLongDone (at : ℕ) (total : ℕ) (name : List ℕ) (book : List Series) (old : Option Run) (image : Image) (place : ℕ) : Type 0 where
-  pub at_is : place ≡ at
-  pub after : IsAfter total name book (closed old) image
+module _ (scale step at : ℕ) (text : List ℕ) (first : Bool) (points total : ℕ) (name : List ℕ) (book : List Series) (waiting : List Run) (open_run : Option Run) where
+  -- what a line's sets leave
+  pub record LineLeaves (image : Image) : Type 0 where
+    pub runs : List Run
+    pub are : LineRuns scale step at text first points waiting open_run runs
+    pub part : IsPartDone total name book runs image
+
+  pub record LineStops (image : Image) (e : LoadEnd) : Type 0 where
+    pub runs : List Run
+    pub are : LineRuns scale step at text first points waiting open_run runs
+    pub why : StopsSo (IsAtText scale at text first total name book (waiting ++ closed open_run) image) total name book runs image e
+
+  -- what taking a line does
+  pub record DoesLine {T : Type 0} (result : Result T LoadEnd) (first' : Bool) (points' : ℕ) (kept : KeptSets) (run : OpenRun) (old new : View) : Type 0 where
+    pub took : OnOk result (LineTook scale step at text first points waiting open_run total name book first' points' kept run new.image)
+    pub stops : IfErr result (LineStops new.image)
+    pub moments : Passes old new LineLeaves (Quiet old)

@@ -21,7 +21,7 @@ impl<P: PageWorld> LineWork<Store<P>, LoadEnd> for Loader {
 
     ghost view = { λ store. shown.view store };
 
-    ghost fit = { λ loader store at. shown.IsSound store × (loader.points ≤ at) };
+    ghost fit = { λ loader store at. shown.IsSound store × (loader.points ≤ at) × loads.KeepsEdits loader };
 
     ghost stands = { λ held loader store. StandsSo (shown.IsTold store) (shown.view store) loader held };
 
@@ -52,16 +52,16 @@ impl<P: PageWorld> LineWork<Store<P>, LoadEnd> for Loader {
     }
 
     fn pause(&mut self, from: &mut Store<P>) -> Result<(), LoadEnd> {
-        Ok(())
+        self.commit(from)
     }
 
     fn finish(&mut self, from: &mut Store<P>) -> Result<(), LoadEnd> {
-        self.close(from)
+        self.end(from)
     }
 
-    ghost fit_later = { λ loader at first later less fit. (fit.0, fewer loader.points first later less fit.1) };
+    ghost fit_later = { λ loader at first later less fit. (fit.0, fewer loader.points first later less fit.1, fit.2) };
 
-    ghost fit_taken = { λ loader old new at takes fit. ((P.take_keeps (shown.pages old) (shown.pages new) takes.pages_are).fit fit.0, fit.1) };
+    ghost fit_taken = { λ loader old new at takes fit. ((P.take_keeps (shown.pages old) (shown.pages new) takes.pages_are).fit fit.0, fit.1, fit.2) };
 
     ghost stands_taken = { λ held loader old new takes. stands_taken (shown.IsTold old) (shown.IsTold new) (shown.view old) (shown.view new) loader held (P.take_told (shown.pages old) (shown.pages new) takes.pages_are) (P.take_keeps (shown.pages old) (shown.pages new) takes.pages_are) (P.take_passes (shown.pages old) (shown.pages new) takes.pages_are) };
 

@@ -1,19 +1,23 @@
 //! The lines of an input, one after the other, into a series.
-ghost use Rattle.std.specs.Prelude.{◌≡◌, ◌<◌, ◌≤◌, ◌+◌, ◌^◌, [], true, false, unsigned_abs, IfOk, IfErr, OnOk};
+ghost use Rattle.std.specs.Prelude.{◌≡◌, ◌≢◌, ◌<◌, ◌≤◌, ◌+◌, ◌^◌, ◌++◌, ℕ, List, Option, [], None, true, false, unsigned_abs, length, IfOk, IfErr, OnOk};
 ghost use Rattle.chart_world.specs.Faults.{CountsFault, fault_in};
 ghost use Rattle.series_load.specs.Faults.{load_fault};
-ghost use Rattle.series_load.specs.Steps.{Closes, IsSoundFor, end_at};
+ghost use Rattle.series_load.specs.Runs.{Run};
+ghost use Rattle.series_load.specs.Sets.{AreEdits};
+ghost use Rattle.series_load.specs.Steps.{AddsReading, IsSoundFor, KeepsRuns, LineAdds, SaysSo, Took, closed};
 ghost use Rattle.series_load.specs.Shown as loads;
 ghost use Rattle.series_store.specs.Shown as shown;
 ghost use Rattle.series_load.specs.declared.load_end.LoadEnd.TheVariants.{NoMemory};
 ghost use Rattle.series_load.specs.declared.open_run.Reading.{Reading};
 
+use crate::committing::commit_sets;
+use crate::kept_sets::KeptSets;
 use crate::load_end::LoadEnd;
 use crate::open_run::{OpenRun, Reading};
 use crate::said::{Said, said_of};
 use gate_pages::Pages;
 use series_book::Name;
-use series_store::{Store, StoreError};
+use series_store::Store;
 use std::alloc::Global;
 
 /// A load on its way: the series, and what was read of it.
@@ -23,6 +27,8 @@ pub(crate) struct Loader {
     pub(crate) name: Name,
     pub(crate) step: u32,
     pub(crate) scale: u8,
+    /// The sets of the runs that have ended and aren't done.
+    pub(crate) kept: KeptSets,
     /// The run that stands open.
     pub(crate) run: OpenRun,
     /// No line has come that isn't empty.
@@ -31,24 +37,14 @@ pub(crate) struct Loader {
     pub(crate) points: u64,
 }
 
-/// What an error of the store is for a load, where a run that begins at `at` was stored.
-fn end_at(at: u32, error: StoreError) -> LoadEnd
-    ensures { result ≡ end_at at error }
-{
-    match error {
-        StoreError::Refused(refusal) => LoadEnd::Refused { at, refusal },
-        StoreError::DiskFault => LoadEnd::DiskFault,
-        StoreError::Damaged { page } => LoadEnd::Damaged { page },
-        StoreError::NotAStore | StoreError::NoMemory => LoadEnd::NoMemory,
-    }
-}
-
 impl Loader {
     pub(crate) fn new(alloc: Global, name: &Name, step: u32, scale: u8) -> Result<Loader, LoadEnd>
         ensures name { IfOk result (λ loader. loader.name ≡ name.now) }
         ensures step { IfOk result (λ loader. loader.step ≡ step) }
         ensures scale { IfOk result (λ loader. loader.scale ≡ scale) }
         ensures none { IfOk result (λ loader. loader.run.values.items ≡ []) }
+        ensures sets { IfOk result (λ loader. loader.kept.sets.items ≡ []) }
+        ensures ats { IfOk result (λ loader. loader.kept.ats.items ≡ []) }
         ensures first { IfOk result (λ loader. loader.first ≡ true) }
         ensures points { IfOk result (λ loader. loader.points ≡ 0) }
         ensures err { IfErr result (λ e. e ≡ NoMemory) }
@@ -61,22 +57,19 @@ impl Loader {
             name,
             step,
             scale,
+            kept: KeptSets::new(alloc)?,
             run: OpenRun::new(alloc)?,
             first: true,
             points: 0,
         })
     }
 
-    /// Stores the run that stands open, if there is one.
-    pub(crate) fn close<P: Pages>(&mut self, store: &mut Store<P>) -> Result<(), LoadEnd>
-        requires sound { shown.IsSound store.old }
-        ensures does { loads.ForRun store.old self.old.run (λ total book open_run. loads.EndsRuns (Closes open_run) total self.old.name book result self.new.run store.old store.new) }
-        ensures carries { loads.CarriesOn store.old store.new }
-        ensures cause { IfErr result (λ e. loads.FailsFor e store.old store.new) }
-        ensures faults { CountsFault (fault_in load_fault result) (shown.view store.old) (shown.view store.new) }
-        ensures sound { OnOk result (shown.IsSound store.new) }
-        ensures sound_for { IfErr result (λ e. IsSoundFor e (shown.view store.new)) }
+    /// The run that stands open ends, if there is one: its set is kept.
+    fn close(&mut self) -> Result<(), LoadEnd>
+        ensures keeps { (waiting : List Run) (open_run : Option Run) → loads.KeepsSo self.old waiting open_run → OnOk result (loads.KeepsSo self.new (waiting ++ closed open_run) None) }
         ensures none { OnOk result (self.new.run.values.items ≡ []) }
+        ensures edits { loads.KeepsEdits self.old → loads.KeepsEdits self.new }
+        ensures err { IfErr result (λ e. e ≡ NoMemory) }
         ensures name { self.new.name ≡ self.old.name }
         ensures step { self.new.step ≡ self.old.step }
         ensures scale { self.new.scale ≡ self.old.scale }
@@ -86,32 +79,85 @@ impl Loader {
         if self.run.values.is_empty() {
             return Ok(());
         }
-        let at = self.run.at;
         let set = self.run.to_set(self.alloc, &self.name)?;
-        match store.edit(&set) {
-            Ok(_) => {
-                self.run.values.clear();
-                Ok(())
-            }
-            Err(error) => Err(end_at(at, error)),
-        }
+        self.kept.push(self.run.at, set)?;
+        self.run.values.clear();
+        Ok(())
     }
 
-    /// Takes a reading: it goes on with the run that stands open, or ends it. A run with 256 readings ends.
-    fn take_reading<P: Pages>(
-        &mut self,
-        store: &mut Store<P>,
-        at: u32,
-        next: &Reading,
-    ) -> Result<(), LoadEnd>
-        requires near { unsigned_abs next.now.time < 10 ^ 19 }
+    /// Does the sets that are kept.
+    pub(crate) fn commit<P: Pages>(&mut self, store: &mut Store<P>) -> Result<(), LoadEnd>
         requires sound { shown.IsSound store.old }
-        ensures does { loads.ForRun store.old self.old.run (λ total book open_run. loads.TakesReading at next.now total book open_run result self.old self.new store.old store.new) }
+        requires edits { loads.KeepsEdits self.old }
+        ensures does { loads.ForRuns store.old self.old (λ total book waiting open_run. loads.DoesRuns total self.old.name book waiting result store.old store.new) }
+        ensures keeps { (waiting : List Run) (open_run : Option Run) → loads.KeepsSo self.old waiting open_run → OnOk result (loads.KeepsSo self.new [] open_run) }
         ensures carries { loads.CarriesOn store.old store.new }
         ensures cause { IfErr result (λ e. loads.FailsFor e store.old store.new) }
         ensures faults { CountsFault (fault_in load_fault result) (shown.view store.old) (shown.view store.new) }
         ensures sound { OnOk result (shown.IsSound store.new) }
         ensures sound_for { IfErr result (λ e. IsSoundFor e (shown.view store.new)) }
+        ensures edits { loads.KeepsEdits self.new }
+        ensures name { self.new.name ≡ self.old.name }
+        ensures step { self.new.step ≡ self.old.step }
+        ensures scale { self.new.scale ≡ self.old.scale }
+        ensures first { self.new.first ≡ self.old.first }
+        ensures points { self.new.points ≡ self.old.points }
+        ensures run { self.new.run ≡ self.old.run }
+    {
+        commit_sets(store, self.kept.sets.as_slice(), self.kept.ats.as_slice())?;
+        self.kept.clear();
+        Ok(())
+    }
+
+    /// Does the sets that are kept, and that of the run that stands open, if there is one.
+    pub(crate) fn end<P: Pages>(&mut self, store: &mut Store<P>) -> Result<(), LoadEnd>
+        requires sound { shown.IsSound store.old }
+        requires edits { loads.KeepsEdits self.old }
+        ensures does { loads.ForRuns store.old self.old (λ total book waiting open_run. loads.DoesRuns total self.old.name book (waiting ++ closed open_run) result store.old store.new) }
+        ensures keeps { (waiting : List Run) (open_run : Option Run) → loads.KeepsSo self.old waiting open_run → OnOk result (loads.KeepsSo self.new [] None) }
+        ensures carries { loads.CarriesOn store.old store.new }
+        ensures cause { IfErr result (λ e. loads.FailsFor e store.old store.new) }
+        ensures faults { CountsFault (fault_in load_fault result) (shown.view store.old) (shown.view store.new) }
+        ensures sound { OnOk result (shown.IsSound store.new) }
+        ensures sound_for { IfErr result (λ e. IsSoundFor e (shown.view store.new)) }
+        ensures edits { loads.KeepsEdits self.new }
+        ensures name { self.new.name ≡ self.old.name }
+        ensures step { self.new.step ≡ self.old.step }
+        ensures scale { self.new.scale ≡ self.old.scale }
+        ensures first { self.new.first ≡ self.old.first }
+        ensures points { self.new.points ≡ self.old.points }
+    {
+        self.close()?;
+        self.commit(store)
+    }
+
+    /// Ends the load at a bad line: the sets of the runs before it are done first.
+    pub(crate) fn stop<P: Pages>(&mut self, store: &mut Store<P>, at: u32) -> LoadEnd
+        requires sound { shown.IsSound store.old }
+        requires edits { loads.KeepsEdits self.old }
+        ensures does { loads.ForRuns store.old self.old (λ total book waiting open_run. loads.StopsAt at total self.old.name book (waiting ++ closed open_run) result store.old store.new) }
+        ensures carries { loads.CarriesOn store.old store.new }
+        ensures cause { loads.FailsFor result store.old store.new }
+        ensures faults { CountsFault (load_fault result) (shown.view store.old) (shown.view store.new) }
+        ensures sound_for { IsSoundFor result (shown.view store.new) }
+        ensures edits { loads.KeepsEdits self.new }
+        ensures name { self.new.name ≡ self.old.name }
+        ensures step { self.new.step ≡ self.old.step }
+        ensures scale { self.new.scale ≡ self.old.scale }
+        ensures points { self.new.points ≡ self.old.points }
+    {
+        match self.end(store) {
+            Ok(()) => LoadEnd::BadLine { at },
+            Err(end) => end,
+        }
+    }
+
+    /// Takes a reading: it goes on with the run that stands open, or ends it. A run with 256 readings ends.
+    fn take_reading(&mut self, at: u32, next: &Reading) -> Result<(), LoadEnd>
+        requires near { unsigned_abs next.now.time < 10 ^ 19 }
+        ensures does { (waiting : List Run) (open_run : Option Run) → loads.KeepsSo self.old waiting open_run → OnOk result (Took (AddsReading self.old.step at next.now open_run) self.old.name waiting self.new.kept self.new.run) }
+        ensures edits { loads.KeepsEdits self.old → loads.KeepsEdits self.new }
+        ensures err { IfErr result (λ e. e ≡ NoMemory) }
         ensures name { self.new.name ≡ self.old.name }
         ensures step { self.new.step ≡ self.old.step }
         ensures scale { self.new.scale ≡ self.old.scale }
@@ -119,51 +165,24 @@ impl Loader {
         ensures points { self.new.points ≡ self.old.points }
     {
         if !self.run.is_followed_by(next, self.step) {
-            self.close(store)?;
+            self.close()?;
             return self.run.begin(at, next);
         }
         self.run.push(next)?;
         if self.run.is_full() {
-            return self.close(store);
+            return self.close();
         }
         Ok(())
     }
 
-    /// Ends the load at a bad line: the run that stands open is stored first.
-    pub(crate) fn stop<P: Pages>(&mut self, store: &mut Store<P>, at: u32) -> LoadEnd
-        requires sound { shown.IsSound store.old }
-        ensures does { loads.ForRun store.old self.old.run (λ total book open_run. loads.StopsAt at open_run total self.old.name book result self.new.run store.old store.new) }
-        ensures carries { loads.CarriesOn store.old store.new }
-        ensures cause { loads.FailsFor result store.old store.new }
-        ensures faults { CountsFault (load_fault result) (shown.view store.old) (shown.view store.new) }
-        ensures sound_for { IsSoundFor result (shown.view store.new) }
-        ensures name { self.new.name ≡ self.old.name }
-        ensures step { self.new.step ≡ self.old.step }
-        ensures scale { self.new.scale ≡ self.old.scale }
-        ensures points { self.new.points ≡ self.old.points }
-    {
-        match self.close(store) {
-            Ok(()) => LoadEnd::BadLine { at },
-            Err(end) => end,
-        }
-    }
-
-    /// Takes what a line says that isn't empty.
-    fn take_said<P: Pages>(
-        &mut self,
-        store: &mut Store<P>,
-        at: u32,
-        said: Said,
-    ) -> Result<(), LoadEnd>
-        requires sound { shown.IsSound store.old }
+    /// Takes what a line says that isn't empty and isn't bad.
+    fn take_said(&mut self, at: u32, said: Said) -> Result<(), LoadEnd>
         requires few { self.old.points < 2 ^ 63 }
         requires near { (reading : Reading) → said ≡ Said.Point reading → unsigned_abs reading.time < 10 ^ 19 }
-        ensures does { loads.ForText store.old self.old said (λ total book open_run text. loads.TakesLine at text total book open_run result self.old self.new store.old store.new) }
-        ensures carries { loads.CarriesOn store.old store.new }
-        ensures cause { IfErr result (λ e. loads.FailsFor e store.old store.new) }
-        ensures faults { CountsFault (fault_in load_fault result) (shown.view store.old) (shown.view store.new) }
-        ensures sound { OnOk result (shown.IsSound store.new) }
-        ensures sound_for { IfErr result (λ e. IsSoundFor e (shown.view store.new)) }
+        requires good { said ≢ Said.Bad }
+        ensures does { (waiting : List Run) (open_run : Option Run) (text : List ℕ) → loads.KeepsSo self.old waiting open_run → 0 < length text → SaysSo self.old.scale self.old.first text said → OnOk result (loads.TookLine at text waiting open_run self.old self.new) }
+        ensures edits { loads.KeepsEdits self.old → loads.KeepsEdits self.new }
+        ensures err { IfErr result (λ e. e ≡ NoMemory) }
         ensures name { self.new.name ≡ self.old.name }
         ensures step { self.new.step ≡ self.old.step }
         ensures scale { self.new.scale ≡ self.old.scale }
@@ -177,17 +196,17 @@ impl Loader {
             Said::Point(reading) => {
                 self.first = false;
                 self.points += 1;
-                self.take_reading(store, at, &reading)
+                self.take_reading(at, &reading)
             }
             Said::Gap => {
                 self.first = false;
-                self.close(store)
+                self.close()
             }
-            Said::Bad => Err(self.stop(store, at)),
+            Said::Bad => unreachable!(),
         }
     }
 
-    /// Takes a line of at most 8,192 bytes. An empty one is passed over.
+    /// Takes a line of at most 8,192 bytes. An empty one is passed over. Where as many sets are kept as may be, they are done.
     pub(crate) fn take_line<P: Pages>(
         &mut self,
         store: &mut Store<P>,
@@ -195,13 +214,15 @@ impl Loader {
         line: &[u8],
     ) -> Result<(), LoadEnd>
         requires sound { shown.IsSound store.old }
+        requires edits { loads.KeepsEdits self.old }
         requires few { self.old.points < 2 ^ 63 }
-        ensures does { loads.ForRun store.old self.old.run (λ total book open_run. loads.TakesLine at line.now total book open_run result self.old self.new store.old store.new) }
+        ensures does { loads.ForRuns store.old self.old (λ total book waiting open_run. loads.TakesLine at line.now total book waiting open_run result self.old self.new store.old store.new) }
         ensures carries { loads.CarriesOn store.old store.new }
         ensures cause { IfErr result (λ e. loads.FailsFor e store.old store.new) }
         ensures faults { CountsFault (fault_in load_fault result) (shown.view store.old) (shown.view store.new) }
         ensures sound { OnOk result (shown.IsSound store.new) }
         ensures sound_for { IfErr result (λ e. IsSoundFor e (shown.view store.new)) }
+        ensures edits { loads.KeepsEdits self.new }
         ensures name { self.new.name ≡ self.old.name }
         ensures step { self.new.step ≡ self.old.step }
         ensures scale { self.new.scale ≡ self.old.scale }
@@ -211,6 +232,13 @@ impl Loader {
             return Ok(());
         }
         let said = said_of(self.alloc, line, self.scale, self.first)?;
-        self.take_said(store, at, said)
+        if said.is_bad() {
+            return Err(self.stop(store, at));
+        }
+        self.take_said(at, said)?;
+        if self.kept.is_full() {
+            return self.commit(store);
+        }
+        Ok(())
     }
 }

@@ -33,7 +33,8 @@ fn new_lines(alloc: Global) -> Result<Lines, LoadEnd>
 
 /// Stores the readings of the input, CSV lines, in the series of this name, and answers how many rows have a
 /// value. Each longest run of at most 256 readings whose times follow each other by the series' step is
-/// one set, done where it ends, in one commit. A header may be the first line that isn't empty; empty
+/// one set. The sets of runs that have ended are done together, as many in one commit as its pages allow, at
+/// the latest before the next take of the input. A header may be the first line that isn't empty; empty
 /// lines are passed over; a row without a value ends a run and leaves its slot alone.
 ///
 /// After `Ok` the input was read to its end. The sets of the runs that ended before a bad line, or before a
@@ -90,6 +91,8 @@ fn load_lines<P: PageWorld>(
     requires sound { shown.IsSound store.old }
     requires fresh { lines.old ≡ unread_input }
     requires none { loader.old.run.values.items ≡ [] }
+    requires sets { loader.old.kept.sets.items ≡ [] }
+    requires ats { loader.old.kept.ats.items ≡ [] }
     requires first { loader.old.first ≡ true }
     requires points { loader.old.points ≡ 0 }
     ensures known { result ≢ Err UnknownSeries }

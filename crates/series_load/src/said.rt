@@ -1,6 +1,7 @@
 //! What a line says for a load.
-ghost use Rattle.std.specs.Prelude.{◌≡◌, IfOk, IfErr};
+ghost use Rattle.std.specs.Prelude.{◌≡◌, ◌↔◌, IsTrue, IfOk, IfErr};
 ghost use Rattle.series_load.specs.Steps.{SaysSo};
+ghost use Rattle.series_load.specs.declared.said.Said.{Said};
 ghost use Rattle.series_load.specs.declared.load_end.LoadEnd.TheVariants.{NoMemory};
 
 use crate::load_end::LoadEnd;
@@ -19,6 +20,15 @@ pub(crate) enum Said {
     Gap,
     /// Nothing that may stand there.
     Bad,
+}
+
+impl Said {
+    /// Whether the line is bad.
+    pub(crate) fn is_bad(self) -> bool
+        ensures { IsTrue result ↔ (self ≡ Said.Bad) }
+    {
+        matches!(self, Said::Bad)
+    }
 }
 
 /// What the line says, which is the first one or isn't.

@@ -1,5 +1,5 @@
 -- What a group of edits did, of a store.
-use Rattle.std.proofs.Common.{◌≡◌, ◌<◌, ℕ, false, List, [], length, take, Result, Ok, Err, Vec, refl, sym, subst, arith, inl, inr}
+use Rattle.std.proofs.Common.{◌≡◌, ◌<◌, ℕ, Bool, true, false, List, [], length, take, Result, Ok, Err, Vec, refl, sym, subst, arith, inl, inr}
 use Rattle.std.specs.Result.{IsErrAnd}
 use Rattle.block_disk.specs.View.{Image, View, Passes}
 use Rattle.block_disk.proofs.Passing.{passes_none, passes_weaker}
@@ -12,22 +12,25 @@ use Rattle.series_book.specs.declared.refusals.Refusal.{Refusal}
 use Rattle.series_book.specs.EditLists.{after_edits}
 use Rattle.series_catalog.specs.declared.stored_series.StoredSeries.{StoredSeries}
 use Rattle.stored_book.specs.Standing.{StandsForBook}
-use Rattle.series_store.specs.Groups.{IsGroupCause, IsNoneOrAll}
+use Rattle.series_store.specs.Groups.{IsGroupCause, IsNoneOrAll, RefuseLast}
 use Rattle.series_store.specs.Grouping.{DidGroup, IsDamage, IsFailure, IsGroupAnswered, IsGroupedBy, IsGrouping, IsSameOr}
 use Rattle.series_store.specs.Opening.{IsOutside}
 use Rattle.series_store.specs.Staging.{IsCatalogOf}
 use Rattle.series_store.specs.declared.errors.StoreError.{StoreError}
 use Rattle.series_store.specs.declared.errors.StoreError.TheVariants.{Refused, NotAStore, DiskFault, Damaged, NoMemory}
+use Rattle.series_store.proofs.GroupLemmas.{first_none}
 use Rattle.series_store.proofs.StageLemmas.{catalog_as}
 
-pub answered_starved : {Z : Type 0} (total : ℕ) (book : List Series) (edits : List Edit) (at : View) (result : Result (Vec (Result Outcome Refusal) Z) StoreError) → IsErrAnd result (λ e. e ≡ NoMemory) → IsGroupAnswered total book edits at at result
-answered_starved {Z} total book edits at (Ok answers) is = absurd is
-answered_starved {Z} total book edits at (Err e) is = record {
+pub answered_starved : {Z : Type 0} (total : ℕ) (book : List Series) (edits : List Edit) (ends : Bool) (at : View) (result : Result (Vec (Result Outcome Refusal) Z) StoreError) → IsErrAnd result (λ e. e ≡ NoMemory) → IsGroupAnswered total book edits ends at at result
+answered_starved {Z} total book edits ends at (Ok answers) is = absurd is
+answered_starved {Z} total book edits ends at (Err e) is = record {
   done = tt;
-  many = tt;
+  many = λ off. tt;
   outside = inr is;
   moments = tt;
   whole = record { covered = 0; within = omega arith; moments = passes_none at (IsNoneOrAll total book edits 0) (Quiet at) };
+  until = λ on. record { covered = 0; within = omega arith; last = first_none total book edits; moments = passes_none at (IsNoneOrAll total book edits 0) (Quiet at) };
+  last = λ on. tt;
   reads = omega arith;
   few_reads = tt;
   idle = tt;
@@ -79,21 +82,24 @@ same_or total book edits covered old new stands time =
       | inr after ↦ inr after
     ]) (λ count quiet. quiet) time
 
-pub answered_fail : {Z : Type 0} (total : ℕ) (book : List Series) (edits : List Edit) (answers : List (Result Outcome Refusal)) (old new : View) (e : StoreError) → StandsForBook old.image total book → IsGroupedBy total book 1 false edits answers (Err e) old new → IsGroupAnswered {Z = Z} total book edits old new (Err e)
-answered_fail {Z} total book edits answers old new e stands grouped = record {
+pub answered_fail : {Z : Type 0} (total : ℕ) (book : List Series) (edits : List Edit) (ends : Bool) (answers : List (Result Outcome Refusal)) (old new : View) (e : StoreError) → StandsForBook old.image total book → IsGroupedBy total book 1 ends false edits answers (Err e) old new → IsGroupAnswered {Z = Z} total book edits ends old new (Err e)
+answered_fail {Z} total book edits ends answers old new e stands grouped = record {
   done = tt;
-  many = tt;
+  many = λ off. tt;
   outside = grouped.outside;
   moments = tt;
   whole = record { covered = grouped.covered; within = grouped.few; moments = same_or total book edits grouped.covered old new stands grouped.moments };
+  until = λ on. record { covered = grouped.covered; within = grouped.few; last = grouped.last on; moments = same_or total book edits grouped.covered old new stands grouped.moments };
+  last = λ on. tt;
   reads = grouped.reads;
   few_reads = tt;
   idle = tt;
 }
 
-pub answered_all : {Z : Type 0} (total : ℕ) (book : List Series) (edits : List Edit) (answers : Vec (Result Outcome Refusal) Z) (old new : View) → StandsForBook old.image total book → IsGroupedBy total book 1 false edits answers.items (Ok tt) old new → IsGroupAnswered total book edits old new (Ok answers)
-answered_all {Z} total book edits answers old new stands grouped =
+pub answered_all : {Z : Type 0} (total : ℕ) (book : List Series) (edits : List Edit) (ends : Bool) (answers : Vec (Result Outcome Refusal) Z) (old new : View) → StandsForBook old.image total book → IsGroupedBy total book 1 ends false edits answers.items (Ok tt) old new → IsGroupAnswered total book edits ends old new (Ok answers)
+answered_all {Z} total book edits ends answers old new stands grouped =
     let M : ℕ → Type 0 = λ n. Passes old new (IsNoneOrAll total book edits n) (Quiet old) in
+    let L : ℕ → Type 0 = λ n. RefuseLast total book (take n edits) in
     let time : M grouped.covered = same_or total book edits grouped.covered old new stands grouped.moments in
     record {
       done = grouped.done;
@@ -101,6 +107,8 @@ answered_all {Z} total book edits answers old new stands grouped =
       outside = tt;
       moments = subst M grouped.same time;
       whole = record { covered = grouped.covered; within = grouped.few; moments = time };
+      until = λ on. record { covered = grouped.covered; within = grouped.few; last = grouped.last on; moments = time };
+      last = λ on. subst L grouped.same (grouped.last on);
       reads = grouped.reads;
       few_reads = grouped.few_reads;
       idle = grouped.idle refl;

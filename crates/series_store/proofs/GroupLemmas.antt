@@ -1,10 +1,11 @@
 -- Edits are staged one after the other, and committed together.
-use Rattle.std.proofs.Common.{◌≡◌, ℕ, zero, suc, ◌+◌, ◌*◌, ◌<◌, ◌≤◌, ◌⊎◌, Bool, true, false, List, [], ◌∷◌, ◌++◌, length, take, drop, Result, Ok, Err, is_ok, IsOk, IsErr, IfOk, IfErr, OnOk, OnErr, if◌then◌else◌, refl, sym, ap, ap₂, subst, ◌∙◌, arith, inl, inr}
+use Rattle.std.proofs.Common.{◌≡◌, ℕ, zero, suc, ◌+◌, ◌*◌, ◌<◌, ◌≤◌, ◌⊎◌, All, Bool, true, false, List, [], ◌∷◌, ◌++◌, length, take, drop, Option, Some, Result, Ok, Err, is_ok, IsOk, IsErr, map, IfOk, IfErr, OnOk, OnErr, if◌then◌else◌, refl, sym, ap, ap₂, subst, ◌∙◌, arith, inl, inr}
 use Rattle.std.specs.Result.{IsErrAnd}
+use Rattle.std.specs.List.{slice_get}
 use Rattle.std.proofs.lemmas.Bool.{false≢true}
 use Rattle.std.proofs.lemmas.List.{length_push, length-set}
 use Rattle.block_disk.specs.Counts.{HasRisen}
-use Rattle.block_disk.specs.View.{Image, View, Now, Only}
+use Rattle.block_disk.specs.View.{Image, View, Now, Only, Passes}
 use Rattle.block_disk.proofs.Passing.{passes_weaker}
 use Rattle.gate_pages.specs.Pages.{BeforeOrAfter, Quiet, Commits, GoesOn}
 use Rattle.gate_pages.specs.GateLaws.{goes_none, goes_then}
@@ -19,14 +20,14 @@ use Rattle.series_book.specs.declared.one_series.Series.{Series}
 use Rattle.series_book.specs.declared.outcomes.Outcome.{Outcome}
 use Rattle.series_book.specs.declared.refusals.Refusal.{Refusal}
 use Rattle.series_book.specs.declared.refusals.Refusal.TheVariants.{UnknownSeries}
-use Rattle.series_book.specs.Edits.{Edited, apply}
+use Rattle.series_book.specs.Edits.{Edited, IsEdit, apply}
 use Rattle.series_book.specs.EditLists.{after_edits, book_behind, edits_give, slots_behind}
 use Rattle.series_catalog.specs.declared.stored_series.StoredSeries.{StoredSeries}
 use Rattle.series_catalog.proofs.ReadLemmas.{risen_on}
 use Rattle.stored_book.specs.Standing.{StandsForBook}
 use Rattle.series_store.specs.Changing.{IsRefusedBy}
-use Rattle.series_store.specs.Groups.{AreDone, ChangeNone, HaveFewSlots, weight, weight_of, touch_of}
-use Rattle.series_store.specs.Grouping.{IsFailure, IsGrouping, IsGroupedBy, IsNext, IsNextBy, IsSameOr}
+use Rattle.series_store.specs.Groups.{AreDone, ChangeNone, HaveFewSlots, RefuseLast, answer_of, weight, weight_of, touch_of}
+use Rattle.series_store.specs.Grouping.{Follow, IsFailure, IsGrouping, IsGroupedBy, IsNext, IsNextBy, IsSameOr}
 use Rattle.series_store.specs.Opening.{IsOutside}
 use Rattle.series_store.specs.Results.{ClearsNone, KeepsBook, CommitsNone, IsUnchanged, IsUnchangedFor}
 use Rattle.series_store.specs.Staging.{IsCatalogOf, IsWholeOf, IsStaging, IsStagedBy, IsStageCause, IsRefusal, TakesBack}
@@ -170,6 +171,9 @@ take_none : {X : Type 0} (xs : List X) → take 0 xs ≡ []
 take_none {X} [] = refl
 take_none {X} (x ∷ xs) = refl
 
+pub first_none : (total : ℕ) (book : List Series) (edits : List Edit) → RefuseLast total book (take 0 edits)
+first_none total book edits = let P : List Edit → Type 0 = RefuseLast total book in subst P (sym (take_none edits)) tt
+
 by_cases : (b : Bool) (P : Type 0) → (b ≡ true → P) → (b ≡ false → P) → P
 by_cases true P so other = so refl
 by_cases false P so other = other refl
@@ -256,11 +260,11 @@ closed told told' old new under under' s s' txn is_changed items edits before re
     total_by (Ok it) numbers same = ap (λ (s : Superblock). s.total) numbers ∙ staged.total_is
     total_by (Err e) numbers same = ap (λ (s : Superblock). s.total) same
 
-pub closed_by : (told told' : Type 0) (old new : View) (txn : Txn) (is_changed : Bool) (total : ℕ) (book : List Series) (edits : List Edit) (before : List (Result Outcome Refusal)) (result : Result (Unit {0}) StoreError) → told
+pub closed_by : (told told' : Type 0) (old new : View) (txn : Txn) (ends is_changed : Bool) (total : ℕ) (book : List Series) (edits : List Edit) (before : List (Result Outcome Refusal)) (result : Result (Unit {0}) StoreError) → told
     → ((length edits ≡ 0) ⊎ (22 < length (held txn))) → Commits (held txn) told told' old new → (is_changed ≡ true → told → OnOk result (new.image ≡ left_by txn old.image)) → (is_changed ≡ false → new ≡ old) → (is_changed ≡ false → left_by txn old.image ≡ old.image)
-    → IfErr result (λ e. e ≡ DiskFault) → StandsForBook (left_by txn old.image) total book → IsGroupedBy total book (length (held txn)) is_changed edits (drop (length before) before) result old new
-closed_by told told' old new txn is_changed total book edits before result t why commits done same clean error stands =
-    let A : List (Result Outcome Refusal) → Type 0 = λ added. IsGroupedBy total book (length (held txn)) is_changed edits added result old new in
+    → IfErr result (λ e. e ≡ DiskFault) → StandsForBook (left_by txn old.image) total book → IsGroupedBy total book (length (held txn)) ends is_changed edits (drop (length before) before) result old new
+closed_by told told' old new txn ends is_changed total book edits before result t why commits done same clean error stands =
+    let A : List (Result Outcome Refusal) → Type 0 = λ added. IsGroupedBy total book (length (held txn)) ends is_changed edits added result old new in
     let S : Image → Type 0 = λ i. StandsForBook i total book in
     let T : List Edit → Type 0 = λ some. StandsForBook (left_by txn old.image) total (after_edits total book some) in
     let left : OnOk result (new.image ≡ left_by txn old.image) = by_cases is_changed (OnOk result (new.image ≡ left_by txn old.image)) (λ so. done so t)
@@ -270,7 +274,7 @@ closed_by told told' old new txn is_changed total book edits before result t why
     subst A (sym (drop_all before)) (record {
       done = ok_so result (new.image ≡ left_by txn old.image) (AreDone total book edits [] new.image)
           (λ is. record { answered = sym (ap (λ some. edits_give total book some) (take_none edits)); stands = subst D (sym is) all }) left;
-      many = on_ok result ((0 ≡ length edits) ⊎ (22 < length (held txn) + weight total book (take 0 edits))) (elim why [ inl none ↦ inl (sym none) | inr full ↦ inr (omega (arith, full)) ]);
+      many = λ off. on_ok result ((0 ≡ length edits) ⊎ (22 < length (held txn) + weight total book (take 0 edits))) (elim why [ inl none ↦ inl (sym none) | inr full ↦ inr (omega (arith, full)) ]);
       outside = closed_outside result error;
       reads = omega (arith, commits.reads);
       few_reads = on_ok result (new.reads ≤ old.reads + 96 * 0) (omega (arith, commits.reads));
@@ -278,6 +282,7 @@ closed_by told told' old new txn is_changed total book edits before result t why
       covered = 0;
       few = omega arith;
       same = on_ok result (0 ≡ 0) refl;
+      last = λ on. first_none total book edits;
       moments = passes_weaker old new (BeforeOrAfter (held txn) old.image) (IsSameOr old.image total (after_edits total book (take 0 edits))) (Quiet old) (Quiet old)
           (λ image either. elim either [
             | inl before ↦ inl before
@@ -332,14 +337,14 @@ failed_next told told' old new under under' s s' txn txn' items items' edits bef
       slots = no_slots;
     })
 
-pub failed_next_by : (told told' : Type 0) (old new : View) (txn txn' : Txn) (image' : Image) (is_changed : Bool) (total : ℕ) (book : List Series) (edit : Edit) (rest edits : List Edit) (before answers : List (Result Outcome Refusal)) (result : Result (Unit {0}) StoreError) (e : StoreError) → edits ≡ edit ∷ rest → answers ≡ before
-    → IsErrAnd result (λ cause. cause ≡ e) → Only old.image (Now old) → ReadsMost 96 told told' old new → IsNextBy total book edit (Err e) txn txn' image' before answers → IsGroupedBy total book (length (held txn)) is_changed edits (drop (length before) answers) result old new
-failed_next_by told told' old new txn txn' image' is_changed total book edit rest edits before answers (Ok done) e are same is only reads by = absurd is
-failed_next_by told told' old new txn txn' image' is_changed total book edit rest edits before answers (Err cause) e are same is only reads by =
-    let A : List (Result Outcome Refusal) → Type 0 = λ added. IsGroupedBy total book (length (held txn)) is_changed edits added (Err cause) old new in
+pub failed_next_by : (told told' : Type 0) (old new : View) (txn txn' : Txn) (image' : Image) (ends is_changed : Bool) (total : ℕ) (book : List Series) (edit : Edit) (rest edits : List Edit) (before answers : List (Result Outcome Refusal)) (result : Result (Unit {0}) StoreError) (e : StoreError) → edits ≡ edit ∷ rest → answers ≡ before
+    → IsErrAnd result (λ cause. cause ≡ e) → Only old.image (Now old) → ReadsMost 96 told told' old new → IsNextBy total book edit (Err e) txn txn' image' before answers → IsGroupedBy total book (length (held txn)) ends is_changed edits (drop (length before) answers) result old new
+failed_next_by told told' old new txn txn' image' ends is_changed total book edit rest edits before answers (Ok done) e are same is only reads by = absurd is
+failed_next_by told told' old new txn txn' image' ends is_changed total book edit rest edits before answers (Err cause) e are same is only reads by =
+    let A : List (Result Outcome Refusal) → Type 0 = λ added. IsGroupedBy total book (length (held txn)) ends is_changed edits added (Err cause) old new in
     subst A (sym (ap (λ (list : List (Result Outcome Refusal)). drop (length before) list) same ∙ drop_all before)) (record {
       done = tt;
-      many = tt;
+      many = λ off. tt;
       outside = subst IsOutside (sym is) by.outside;
       reads = omega (arith, reads.reads.high, ap length are);
       few_reads = tt;
@@ -347,6 +352,7 @@ failed_next_by told told' old new txn txn' image' is_changed total book edit res
       covered = 0;
       few = omega arith;
       same = tt;
+      last = λ on. first_none total book edits;
       moments = reads_leave old new (IsSameOr old.image total (after_edits total book (take 0 edits))) only (inl refl) reads.time;
     })
 
@@ -444,24 +450,35 @@ stepped told told' told'' old mid new under under' under'' s s' s'' txn txn' ite
       slots = slots_after next.answer (drop (length middle) answers) next.slots group.slots;
     })
 
-pub stepped_by : (told told' : Type 0) (old mid new : View) (txn txn' : Txn) (image' : Image) (is_changed was_changed : Bool) (total : ℕ) (book : List Series) (edit : Edit) (rest edits : List Edit) (u : Undo) (before middle answers : List (Result Outcome Refusal)) (result : Result (Unit {0}) StoreError) → edits ≡ edit ∷ rest → told
-    → Only old.image (Now old) → ReadsMost 96 told told' old mid → answers ≡ middle ++ drop (length middle) answers → (was_changed ≡ false → u ≡ undo.Nothing → is_changed ≡ false) → IsNextBy total book edit (Ok u) txn txn' image' before middle
-    → IsGroupedBy total (book_behind book (apply book total edit)) (length (held txn')) is_changed rest (drop (length middle) answers) result mid new → IsGroupedBy total book (length (held txn)) was_changed edits (drop (length before) answers) result old new
-stepped_by told told' old mid new txn txn' image' is_changed was_changed total book edit rest edits u before middle answers result are t only reads answers_are keeps by grouped =
+take_of_none : (n : ℕ) (edits : List Edit) → edits ≡ [] → take n edits ≡ []
+take_of_none zero edits none = take_none edits
+take_of_none (suc n) [] none = refl
+take_of_none (suc n) (edit ∷ edits) none = cc
+
+-- the answer tells what the book answers
+refused_so : (answer : Result Outcome Refusal) (edited : Result Edited Refusal) → answer_of answer ≡ slots_behind edited → IsErr edited → IsErr answer
+refused_so (Ok outcome) (Ok e) says refused = refused
+refused_so (Ok outcome) (Err r) says refused = cc
+refused_so (Err refusal) edited says refused = refl
+
+pub stepped_by : (told told' : Type 0) (old mid new : View) (txn txn' : Txn) (image' : Image) (ends is_changed was_changed : Bool) (total : ℕ) (book : List Series) (edit : Edit) (rest edits : List Edit) (u : Undo) (before middle answers : List (Result Outcome Refusal)) (result : Result (Unit {0}) StoreError) → edits ≡ edit ∷ rest → told
+    → Only old.image (Now old) → ReadsMost 96 told told' old mid → answers ≡ middle ++ drop (length middle) answers → (was_changed ≡ false → u ≡ undo.Nothing → is_changed ≡ false) → (by : IsNextBy total book edit (Ok u) txn txn' image' before middle) → (ends ≡ true → IsErr by.answer → rest ≡ [])
+    → IsGroupedBy total (book_behind book (apply book total edit)) (length (held txn')) ends is_changed rest (drop (length middle) answers) result mid new → IsGroupedBy total book (length (held txn)) ends was_changed edits (drop (length before) answers) result old new
+stepped_by told told' old mid new txn txn' image' ends is_changed was_changed total book edit rest edits u before middle answers result are t only reads answers_are keeps by none grouped =
     let later : List (Result Outcome Refusal) = drop (length middle) answers in
     let next : List Series = book_behind book (apply book total edit) in
-    let A : List (Result Outcome Refusal) → Type 0 = λ added. IsGroupedBy total book (length (held txn)) was_changed edits added result old new in
-    let E : List Edit → Type 0 = λ list. IsGroupedBy total book (length (held txn)) was_changed list (by.answer ∷ later) result old new in
+    let A : List (Result Outcome Refusal) → Type 0 = λ added. IsGroupedBy total book (length (held txn)) ends was_changed edits added result old new in
+    let E : List Edit → Type 0 = λ list. IsGroupedBy total book (length (held txn)) ends was_changed list (by.answer ∷ later) result old new in
     let images : Image → Type 0 = IsSameOr old.image total (after_edits total next (take grouped.covered rest)) in
     subst A (sym (added_after before middle answers by.answer by.answers_are answers_are)) (subst E (sym are) (record {
       done = ok_so result (AreDone total next rest later new.image) (AreDone total book (edit ∷ rest) (by.answer ∷ later) new.image)
           (λ done. record { answered = ap₂ (λ first list. first ∷ list) by.says done.answered; stands = done.stands }) grouped.done;
-      many = ok_so result ((length later ≡ length rest) ⊎ (22 < length (held txn') + weight total next (take (length later) rest)))
+      many = λ off. ok_so result ((length later ≡ length rest) ⊎ (22 < length (held txn') + weight total next (take (length later) rest)))
           ((length (by.answer ∷ later) ≡ length (edit ∷ rest)) ⊎ (22 < length (held txn) + (weight_of (apply book total edit) (touch_of book edit) + weight total next (take (length later) rest))))
           (λ either. elim either [
             | inl all ↦ inl (ap suc all)
             | inr full ↦ inr (omega (arith, full, by.few))
-          ]) grouped.many;
+          ]) (grouped.many off);
       outside = grouped.outside;
       reads = omega (arith, reads.reads.high, grouped.reads);
       few_reads = ok_so result (new.reads ≤ mid.reads + 96 * length later) (new.reads ≤ old.reads + 96 * length (by.answer ∷ later)) (λ few. omega (arith, reads.reads.high, few)) grouped.few_reads;
@@ -471,6 +488,7 @@ stepped_by told told' old mid new txn txn' image' is_changed was_changed total b
           (quiet.0 ∙ reads.syncs, quiet.1 ∙ reads.writes)) grouped.idle;
       covered = suc grouped.covered;
       few = omega (arith, grouped.few);
+      last = λ on. (λ refused. take_of_none grouped.covered rest (none on (refused_so by.answer (apply book total edit) by.says refused)), grouped.last on);
       same = ok_so result (grouped.covered ≡ length later) (suc grouped.covered ≡ length (by.answer ∷ later)) (λ same. ap suc same) grouped.same;
       moments = time_then old mid new images (reads_leave old mid images only (inl refl) reads.time)
           (passes_weaker mid new (IsSameOr mid.image total (after_edits total next (take grouped.covered rest))) images (Quiet mid) (Quiet mid)
@@ -479,6 +497,101 @@ stepped_by told told' old mid new txn txn' image' is_changed was_changed total b
             | inr after ↦ inr after
           ]) (λ count quiet. quiet) grouped.moments);
     }))
+
+-- The edits that follow an answer, and those behind it that aren't done where a refusal ends them.
+
+-- what was done of some first edits was done of more of them
+pub of_more : (told told' : Type 0) (old new under under' : View) (s s' : Superblock) (held_pages : ℕ) (items items' : List StoredSeries) (few edits : List Edit) (before answers added : List (Result Outcome Refusal)) (result : Result (Unit {0}) StoreError) → 0 < length few → length few ≤ length edits
+    → IsGrouping told told' old new under under' s s' held_pages items items' few before answers added result → IsGrouping told told' old new under under' s s' held_pages items items' edits before answers added result
+of_more told told' old new under under' s s' held_pages items items' few edits before answers added result some less group =
+    record {
+      moves = group.moves;
+      goes_on = group.goes_on;
+      failure = group.failure;
+      unchanged = group.unchanged;
+      sound = group.sound;
+      image = group.image;
+      numbers = group.numbers;
+      kept = group.kept;
+      total = group.total;
+      stored = group.stored;
+      more = group.more;
+      answers_are = group.answers_are;
+      within = omega (arith, group.within, less);
+      some = λ any room. group.some some room;
+      slots = group.slots;
+    }
+
+pub few_follow : (ends : Bool) (answer : Result Outcome Refusal) (rest behind : List Edit) → Follow ends answer rest behind → length behind ≤ length rest
+few_follow ends answer rest behind (inl all) = omega (arith, ap length all.0)
+few_follow ends answer rest behind (inr none) = omega (arith, ap length none.0)
+
+pub edits_follow : (ends : Bool) (answer : Result Outcome Refusal) (rest behind : List Edit) → Follow ends answer rest behind → All IsEdit rest → All IsEdit behind
+edits_follow ends answer rest behind (inl all) are = let A : List Edit → Type 0 = λ list. All IsEdit list in subst A (sym all.0) are
+edits_follow ends answer rest behind (inr none) are = λ k d within. absurd (omega (arith, within, ap length none.0))
+
+pub stepped_behind : (told told' told'' : Type 0) (old mid new under under' under'' : View) (s s' s'' : Superblock) (txn txn' : Txn) (items items1 items2 items' : List StoredSeries) (ends : Bool) (edit : Edit) (rest behind edits : List Edit) (u : Undo) (before middle answers : List (Result Outcome Refusal)) (result : Result (Unit {0}) StoreError) → edits ≡ edit ∷ rest
+    → (next : IsNext told told' old mid under under' s s' txn txn' items items1 before middle (Ok u)) → Follow ends next.answer rest behind → mid.faults ≡ old.faults → IsGrouping told' told'' mid new under' under'' s' s'' (length (held txn')) items1 items2 behind middle answers (drop (length middle) answers) result
+    → OnOk result (items' ≡ items2) → OnErr result (items' ≡ items) → IsGrouping told told'' old new under under'' s s'' (length (held txn)) items items' edits before answers (drop (length before) answers) result
+stepped_behind told told' told'' old mid new under under' under'' s s' s'' txn txn' items items1 items2 items' ends edit rest behind edits u before middle answers result are next follow quiet group on back =
+    of_more told told'' old new under under'' s s'' (length (held txn)) items items' (edit ∷ behind) edits before answers (drop (length before) answers) result (omega arith) (omega (arith, few_follow ends next.answer rest behind follow, ap length are))
+    (stepped told told' told'' old mid new under under' under'' s s' s'' txn txn' items items1 items2 items' edit behind (edit ∷ behind) u before middle answers result refl next quiet group on back)
+
+take_one : (n : ℕ) (edit : Edit) (rest : List Edit) → n ≤ 1 → take n (edit ∷ []) ≡ take n (edit ∷ rest)
+take_one zero edit rest few = refl
+take_one (suc zero) edit rest few = ap (λ l. edit ∷ l) (sym (take_none rest))
+take_one (suc (suc n)) edit rest few = absurd (omega (arith, few))
+
+alone_by : (total : ℕ) (book : List Series) (held_pages : ℕ) (ends is_changed : Bool) (edit : Edit) (rest : List Edit) (answers : List (Result Outcome Refusal)) (result : Result (Unit {0}) StoreError) (old new : View) → ends ≡ true → length answers ≤ 1
+    → IsGroupedBy total book held_pages ends is_changed (edit ∷ []) answers result old new → IsGroupedBy total book held_pages ends is_changed (edit ∷ rest) answers result old new
+alone_by total book held_pages ends is_changed edit rest answers result old new on few by =
+    let D : List Edit → Type 0 = λ some. (map answer_of answers ≡ edits_give total book some) × StandsForBook new.image total (after_edits total book some) in
+    let I : List Edit → Type 0 = λ some. is_changed ≡ false → ChangeNone total book some → CommitsNone old new in
+    let T : List Edit → Type 0 = λ some. Passes old new (IsSameOr old.image total (after_edits total book some)) (Quiet old) in
+    let R : List Edit → Type 0 = RefuseLast total book in
+    let same = take_one (length answers) edit rest few in
+    record {
+      done = ok_so result (AreDone total book (edit ∷ []) answers new.image) (AreDone total book (edit ∷ rest) answers new.image)
+          (λ done. let both = subst D same (done.answered, done.stands) in record { answered = both.0; stands = both.1 }) by.done;
+      many = λ off. let no : true ≡ false = sym on ∙ off in cc;
+      outside = by.outside;
+      reads = omega (arith, by.reads);
+      few_reads = by.few_reads;
+      idle = ok_so result (I (take (length answers) (edit ∷ []))) (I (take (length answers) (edit ∷ rest))) (λ idle. subst I same idle) by.idle;
+      covered = by.covered;
+      few = omega (arith, by.few);
+      same = by.same;
+      last = λ on. subst R (take_one by.covered edit rest by.few) (by.last on);
+      moments = subst T (take_one by.covered edit rest by.few) by.moments;
+    }
+
+pub follow_by : (total : ℕ) (book : List Series) (held_pages : ℕ) (ends is_changed : Bool) (answer : Result Outcome Refusal) (edit : Edit) (rest behind edits : List Edit) (answers : List (Result Outcome Refusal)) (result : Result (Unit {0}) StoreError) (old new : View) → edits ≡ edit ∷ rest → Follow ends answer rest behind → length answers ≤ 1 + length behind
+    → IsGroupedBy total book held_pages ends is_changed (edit ∷ behind) answers result old new → IsGroupedBy total book held_pages ends is_changed edits answers result old new
+follow_by total book held_pages ends is_changed answer edit rest behind edits answers result old new are (inl all) few by =
+    let P : List Edit → Type 0 = λ list. IsGroupedBy total book held_pages ends is_changed (edit ∷ list) answers result old new in
+    let Q : List Edit → Type 0 = λ list. IsGroupedBy total book held_pages ends is_changed list answers result old new in
+    subst Q (sym are) (subst P all.0 by)
+follow_by total book held_pages ends is_changed answer edit rest behind edits answers result old new are (inr none) few by =
+    let P : List Edit → Type 0 = λ list. IsGroupedBy total book held_pages ends is_changed (edit ∷ list) answers result old new in
+    let Q : List Edit → Type 0 = λ list. IsGroupedBy total book held_pages ends is_changed list answers result old new in
+    subst Q (sym are) (alone_by total book held_pages ends is_changed edit rest answers result old new none.1 (omega (arith, few, ap length none.0)) (subst P none.0 by))
+
+pub few_added : (behind : List Edit) (before middle answers : List (Result Outcome Refusal)) (answer : Result Outcome Refusal) → middle ≡ before ++ answer ∷ [] → answers ≡ middle ++ drop (length middle) answers → length (drop (length middle) answers) ≤ length behind → length (drop (length before) answers) ≤ 1 + length behind
+few_added behind before middle answers answer first second few = omega (arith, few, ap length (added_after before middle answers answer first second))
+
+pub none_follow : (ends : Bool) (answer : Result Outcome Refusal) (rest behind : List Edit) → Follow ends answer rest behind → ends ≡ true → IsErr answer → behind ≡ []
+none_follow ends answer rest behind (inl all) on refused = absurd (all.1 on refused)
+none_follow ends answer rest behind (inr none) on refused = none.0
+
+get_last : {X : Type 0} (before : List X) (one : X) → slice_get (before ++ one ∷ []) (length before) ≡ Some one
+get_last {X} [] one = refl
+get_last {X} (x ∷ before) one = get_last before one
+
+pub last_is : {X : Type 0} (before all : List X) (one : X) (n : ℕ) → all ≡ before ++ one ∷ [] → n + 1 ≡ length all → slice_get all n ≡ Some one
+last_is {X} before all one n are count =
+    let P : ℕ → Type 0 = λ k. slice_get (before ++ one ∷ []) k ≡ Some one in
+    let Q : List X → Type 0 = λ list. slice_get list n ≡ Some one in
+    subst Q (sym are) (subst P (omega (arith, count, ap length are, length_push before one)) (get_last before one))
 
 -- where nothing was staged, the transaction leaves the pages
 pub clean_after : (told : Type 0) (old mid : View) (txn txn' : Txn) → told → txn' ≡ txn → (told → mid.image ≡ old.image) → left_by txn old.image ≡ old.image → left_by txn' mid.image ≡ mid.image

@@ -1,5 +1,5 @@
 -- How a group of edits is staged one after the other, and committed.
-use Rattle.std.specs.Prelude.{ℕ, ◌≡◌, ◌+◌, ◌*◌, ◌<◌, ◌≤◌, ◌⊎◌, ◌++◌, ◌∷◌, Bool, false, List, [], length, take, drop, Result, IsErr, IfOk, IfErr, OnOk, OnErr, Vec}
+use Rattle.std.specs.Prelude.{ℕ, ◌≡◌, ◌+◌, ◌*◌, ◌<◌, ◌≤◌, ◌⊎◌, ◌++◌, ◌∷◌, Bool, true, false, List, [], length, take, drop, Result, IsErr, IfOk, IfErr, OnOk, OnErr, Vec}
 use Rattle.block_disk.specs.Counts.{HasRisen}
 use Rattle.block_disk.specs.View.{Image, View, Passes}
 use Rattle.gate_pages.specs.Pages.{GoesOn, Quiet}
@@ -22,7 +22,7 @@ use Rattle.series_catalog.specs.declared.stored_series.StoredSeries.{StoredSerie
 use Rattle.path_repair.specs.Standing.{ReadsMost}
 use Rattle.stored_book.specs.Standing.{StandsForBook}
 use Rattle.tree_walk.specs.SpaceViews.{StaysOn}
-use Rattle.series_store.specs.Groups.{AreDone, AreMany, AreSome, ChangeNone, GroupMoves, HaveFewSlots, IsGroupCause, IsNoneOrAll, PassesWhole, answer_of, touch_of, weight, weight_of}
+use Rattle.series_store.specs.Groups.{AreDone, AreMany, AreSome, ChangeNone, GroupMoves, HaveFewSlots, IsGroupCause, IsNoneOrAll, PassesUntil, PassesWhole, RefuseLast, answer_of, touch_of, weight, weight_of}
 use Rattle.series_store.specs.Opening.{IsOutside}
 use Rattle.series_store.specs.Results.{ChangesNone, CommitsNone, IsUnchangedFor}
 use Rattle.series_store.specs.Shown as shown
@@ -76,10 +76,14 @@ pub record IsGrouping (told told' : Type 0) (old new under under' : View) (s s' 
   pub some : 0 < length edits → held_pages ≤ 22 → OnOk result (0 < length added)
   pub slots : HaveFewSlots added
 
--- What it does where the pages that the edits before would leave stand for a book.
-pub record IsGroupedBy (total : ℕ) (book : List Series) (held_pages : ℕ) (is_changed : Bool) (edits : List Edit) (answers : List (Result Outcome Refusal)) (result : Result (Unit {0}) StoreError) (old new : View) : Type 0 where
+-- The edits behind the answered one follow it, or, where a refusal ends them and that is one, none does.
+abbrev pub Follow : Bool → Result Outcome Refusal → List Edit → List Edit → Type 0
+Follow ends answer rest behind = ((behind ≡ rest) × (ends ≡ true → IsErr answer → ⊥)) ⊎ ((behind ≡ []) × (ends ≡ true))
+
+-- What it does where the pages that the edits before would leave stand for a book. A refusal ends them or doesn't.
+pub record IsGroupedBy (total : ℕ) (book : List Series) (held_pages : ℕ) (ends is_changed : Bool) (edits : List Edit) (answers : List (Result Outcome Refusal)) (result : Result (Unit {0}) StoreError) (old new : View) : Type 0 where
   pub done : OnOk result (AreDone total book edits answers new.image)
-  pub many : OnOk result ((length answers ≡ length edits) ⊎ (22 < held_pages + weight total book (take (length answers) edits)))
+  pub many : ends ≡ false → OnOk result ((length answers ≡ length edits) ⊎ (22 < held_pages + weight total book (take (length answers) edits)))
   pub outside : IfErr result IsOutside
   pub reads : new.reads ≤ old.reads + 96 * length edits
   pub few_reads : OnOk result (new.reads ≤ old.reads + 96 * length answers)
@@ -87,6 +91,7 @@ pub record IsGroupedBy (total : ℕ) (book : List Series) (held_pages : ℕ) (is
   pub covered : ℕ
   pub few : covered ≤ length edits
   pub same : OnOk result (covered ≡ length answers)
+  pub last : ends ≡ true → RefuseLast total book (take covered edits)
   pub moments : Passes old new (IsSameOr old.image total (after_edits total book (take covered edits))) (Quiet old)
 
 -- What staging an edit behind others does, whatever the pages are.
@@ -126,12 +131,14 @@ pub record DidGroup {Z : Type 0} (told told' : Type 0) (old new under under' : V
   pub more : length items ≤ length items'
 
 -- What it does where the pages stand for a book.
-pub record IsGroupAnswered {Z : Type 0} (total : ℕ) (book : List Series) (edits : List Edit) (old new : View) (result : Result (Vec (Result Outcome Refusal) Z) StoreError) : Type 0 where
+pub record IsGroupAnswered {Z : Type 0} (total : ℕ) (book : List Series) (edits : List Edit) (ends : Bool) (old new : View) (result : Result (Vec (Result Outcome Refusal) Z) StoreError) : Type 0 where
   pub done : IfOk result (λ answers. AreDone total book edits answers.items new.image)
-  pub many : IfOk result (λ answers. AreMany total book edits (length answers.items))
+  pub many : ends ≡ false → IfOk result (λ answers. AreMany total book edits (length answers.items))
   pub outside : IfErr result IsOutside
   pub moments : IfOk result (λ answers. Passes old new (IsNoneOrAll total book edits (length answers.items)) (Quiet old))
   pub whole : PassesWhole total book edits old new
+  pub until : ends ≡ true → PassesUntil total book edits old new
+  pub last : ends ≡ true → IfOk result (λ answers. RefuseLast total book (take (length answers.items) edits))
   pub reads : new.reads ≤ old.reads + 96 * length edits
   pub few_reads : IfOk result (λ answers. new.reads ≤ old.reads + 96 * length answers.items)
   pub idle : IfOk result (λ answers. ChangeNone total book (take (length answers.items) edits) → CommitsNone old new)
@@ -153,20 +160,20 @@ module _ {P : Type 0} {g : Ghosts P} where
   DoesGroup edits result old new =
       DidGroup (shown.IsTold old) (shown.IsTold new) (shown.view old) (shown.view new) (shown.under old) (shown.under new) (shown.numbers old) (shown.numbers new) (shown.catalog old) (shown.catalog new) edits result
 
-  abbrev pub AnswersGroup : {Z : Type 0} → ℕ → List Series → List Edit → Result (Vec (Result Outcome Refusal) Z) StoreError → Store P g → Store P g → Type 0
-  AnswersGroup total book edits result old new = IsGroupAnswered total book edits (shown.view old) (shown.view new) result
+  abbrev pub AnswersGroup : {Z : Type 0} → ℕ → List Series → List Edit → Bool → Result (Vec (Result Outcome Refusal) Z) StoreError → Store P g → Store P g → Type 0
+  AnswersGroup total book edits ends result old new = IsGroupAnswered total book edits ends (shown.view old) (shown.view new) result
 
   abbrev pub Groups : Result (Unit {0}) StoreError → Space P g → Space P g → Txn → Catalog → Catalog → List Edit → List (Result Outcome Refusal) → List (Result Outcome Refusal) → Type 0
   Groups result old new txn catalog catalog' edits before answers =
       IsGrouping (spaces.IsTold old) (spaces.IsTold new) (spaces.view old) (spaces.view new) (spaces.under old) (spaces.under new) (spaces.numbers old) (spaces.numbers new)
       (length (held txn)) (series_in catalog) (series_in catalog') edits before answers (given before answers) result
 
-  abbrev pub GroupsSo : ℕ → List Series → Result (Unit {0}) StoreError → Space P g → Space P g → Txn → Bool → List Edit → List (Result Outcome Refusal) → List (Result Outcome Refusal) → Type 0
-  GroupsSo total book result old new txn is_changed edits before answers = IsGroupedBy total book (length (held txn)) is_changed edits (given before answers) result (spaces.view old) (spaces.view new)
+  abbrev pub GroupsSo : ℕ → List Series → Result (Unit {0}) StoreError → Space P g → Space P g → Txn → Bool → Bool → List Edit → List (Result Outcome Refusal) → List (Result Outcome Refusal) → Type 0
+  GroupsSo total book result old new txn ends is_changed edits before answers = IsGroupedBy total book (length (held txn)) ends is_changed edits (given before answers) result (spaces.view old) (spaces.view new)
 
   abbrev pub CommitsGroup : Result (Unit {0}) StoreError → Store P g → Store P g → List Edit → List (Result Outcome Refusal) → Type 0
   CommitsGroup result old new edits answers =
       IsGrouping (shown.IsTold old) (shown.IsTold new) (shown.view old) (shown.view new) (shown.under old) (shown.under new) (shown.numbers old) (shown.numbers new) 1 (shown.catalog old) (shown.catalog new) edits [] answers answers result
 
-  abbrev pub CommitsSo : ℕ → List Series → Result (Unit {0}) StoreError → Store P g → Store P g → List Edit → List (Result Outcome Refusal) → Type 0
-  CommitsSo total book result old new edits answers = IsGroupedBy total book 1 false edits answers result (shown.view old) (shown.view new)
+  abbrev pub CommitsSo : ℕ → List Series → Result (Unit {0}) StoreError → Store P g → Store P g → List Edit → Bool → List (Result Outcome Refusal) → Type 0
+  CommitsSo total book result old new edits ends answers = IsGroupedBy total book 1 ends false edits answers result (shown.view old) (shown.view new)

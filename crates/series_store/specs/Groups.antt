@@ -94,6 +94,18 @@ ChangeNone total book (edit ∷ edits) = (IsErr (apply book total edit) ⊎ Chan
 abbrev pub HaveFewSlots : List (Result Outcome Refusal) → Type 0
 HaveFewSlots answers = All (λ answer. IfOk answer (λ outcome. outcome.slots ≤ MOST_SLOTS)) answers
 
+-- the book refuses none of the edits but the last one, done one after the other
+abbrev pub RefuseLast : ℕ → List Series → List Edit → Type 0
+RefuseLast total book [] = ⊤
+RefuseLast total book (edit ∷ later) = (IsErr (apply book total edit) → later ≡ []) × RefuseLast total (book_behind book (apply book total edit)) later
+
+-- a crash at any moment leaves none of some first edits, or all of them: always the same ones, and none behind a refused one
+pub record PassesUntil (total : ℕ) (book : List Series) (edits : List Edit) (old new : View) : Type 0 where
+  pub covered : ℕ
+  pub within : covered ≤ length edits
+  pub last : RefuseLast total book (take covered edits)
+  pub moments : Passes old new (IsNoneOrAll total book edits covered) (Quiet old)
+
 -- what a group of edits moves, whatever the pages are
 pub record GroupMoves (told_old told_new : Type 0) (old new : View) : Type 0 where
   pub told : told_old → told_new

@@ -1,12 +1,14 @@
 //! Edits that stand ready are done together, in one commit.
-ghost use Rattle.std.specs.Prelude.{◌≡◌, ◌≤◌, ◌<◌, ◌+◌, ◌*◌, ◌∷◌, [], None, true, false, IsTrue, All, length, take, IfOk, IfErr, OnOk, OnErr, ◌≢◌};
+ghost use Rattle.std.specs.Prelude.{◌≡◌, ◌≤◌, ◌<◌, ◌+◌, ◌*◌, ◌++◌, ◌∷◌, [], None, List, Result, true, false, is_err, IsTrue, All, length, take, IfOk, IfErr, OnOk, OnErr, ◌≢◌};
 ghost use Rattle.block_disk.specs.Counts.{HasRisen};
 ghost use Rattle.page_space.specs.Shown as spaces;
 ghost use Rattle.page_space.specs.Transactions.{held, told_by};
 ghost use Rattle.series_book.specs.declared.edits.Edit.{Edit};
+ghost use Rattle.series_book.specs.declared.outcomes.Outcome.{Outcome};
+ghost use Rattle.series_book.specs.declared.refusals.Refusal.{Refusal};
 ghost use Rattle.series_book.specs.Edits.{IsEdit};
 ghost use Rattle.series_store.specs.Grouping as grouping;
-ghost use Rattle.series_store.specs.Groups.{AreDone, AreSome, AreMany, PassesWhole, IsGroupCause, ChangeNone, HaveFewSlots};
+ghost use Rattle.series_store.specs.Groups.{AreDone, AreSome, AreMany, PassesWhole, IsGroupCause, ChangeNone, HaveFewSlots, PassesUntil, RefuseLast};
 ghost use Rattle.series_store.specs.Opening.{IsOutside};
 ghost use Rattle.series_store.specs.Results.{IsUnchangedFor};
 ghost use Rattle.series_store.specs.Shown as shown;
@@ -105,12 +107,34 @@ fn close<P: Pages>(space: &mut Space<P>, txn: Txn, is_changed: bool) -> Result<(
     Ok(())
 }
 
-/// Stages edits behind others, one after the other until too many pages are held, and commits them all.
+/// Whether the last answer is a refusal.
+fn is_refused(answers: &[Result<Outcome, Refusal>]) -> bool
+    ensures { (before : List (Result Outcome Refusal)) (answer : Result Outcome Refusal) → answers.now ≡ before ++ answer ∷ [] → result ≡ is_err answer }
+{
+    match answers.last() {
+        Some(answer) => answer.is_err(),
+        None => false,
+    }
+}
+
+/// The edits that follow the answered ones: none where a refusal ends them and is the last answer.
+fn to_follow<'a>(ends: bool, answers: &[Result<Outcome, Refusal>], rest: &'a [Edit]) -> &'a [Edit]
+    ensures { (before : List (Result Outcome Refusal)) (answer : Result Outcome Refusal) → answers.now ≡ before ++ answer ∷ [] → grouping.Follow ends answer rest.now result.now }
+{
+    if ends && is_refused(answers) {
+        return &rest[rest.len()..];
+    }
+    rest
+}
+
+/// Stages edits behind others, one after the other until too many pages are held, or until one is refused where
+/// that ends them, and commits them all.
 fn commit_all<P: Pages>(
     space: &mut Space<P>,
     txn: Txn,
     catalog: &mut Catalog,
     edits: &[Edit],
+    ends: bool,
     is_changed: bool,
     answers: &mut Vec<Result<Outcome, Refusal>>,
 ) -> Result<(), StoreError>
@@ -121,7 +145,7 @@ fn commit_all<P: Pages>(
     ensures groups { grouping.Groups result space.old space.new txn catalog.old catalog.new edits.now answers.old.items answers.new.items }
     ensures quiet { OnOk result ((spaces.view space.new).faults ≡ (spaces.view space.old).faults) }
     ensures quiet_err { IfErr result (λ e. e ≢ StoreError.DiskFault → (spaces.view space.new).faults ≡ (spaces.view space.old).faults) }
-    ensures grouped { grouping.ForGroup space.old txn is_changed (λ total book. grouping.GroupsSo total book result space.old space.new txn is_changed edits.now answers.old.items answers.new.items) }
+    ensures grouped { grouping.ForGroup space.old txn is_changed (λ total book. grouping.GroupsSo total book result space.old space.new txn ends is_changed edits.now answers.old.items answers.new.items) }
 {
     let held = txn.len();
     let Some((edit, rest)) = edits.split_first() else {
@@ -133,7 +157,8 @@ fn commit_all<P: Pages>(
     let mut txn = txn;
     let undo = stage_next(space, &mut txn, catalog, edit, answers)?;
     let is_changed = undo.or_changed(is_changed);
-    match commit_all(space, txn, catalog, rest, is_changed, answers) {
+    let rest = to_follow(ends, answers.as_slice(), rest);
+    match commit_all(space, txn, catalog, rest, ends, is_changed, answers) {
         Ok(()) => Ok(()),
         Err(cause) => {
             undo.apply(catalog);
@@ -182,12 +207,54 @@ impl<P: Pages> Store<P> {
         ensures more { length (shown.catalog self.old) ≤ length (shown.catalog self.new) }
     {
         self.select_none();
-        self.edit_some(edits)
+        self.edit_some(edits, false)
+    }
+
+    /// Does some first edits in one commit, as `edit_group` does, and none behind one that is refused: only the last answer
+    /// may be a refusal.
+    pub fn edit_until_refused(
+        &mut self,
+        edits: &[Edit],
+    ) -> Result<Vec<Result<Outcome, Refusal>>, StoreError>
+        requires sound { shown.IsSound self.old }
+        requires some { 0 < length edits.now }
+        requires are_edits { All IsEdit edits.now }
+        ensures covered { IfOk result (λ answers. AreSome edits.now (length answers.items)) }
+        ensures done { shown.ForBook self.old (λ total book. IfOk result (λ answers. AreDone total book edits.now answers.items (shown.image self.new))) }
+        // no edit behind a refused one is done
+        ensures last { shown.ForBook self.old (λ total book. IfOk result (λ answers. RefuseLast total book (take (length answers.items) edits.now))) }
+        ensures outside { shown.ForBook self.old (λ total book. IfErr result IsOutside) }
+        // a crash at any moment leaves none of the edits that are done, or all
+        ensures moments { shown.ForBook self.old (λ total book. IfOk result (λ answers. shown.PassesNoneOrAll total book edits.now (length answers.items) self.old self.new)) }
+        ensures whole { shown.ForBook self.old (λ total book. PassesUntil total book edits.now (shown.view self.old) (shown.view self.new)) }
+        ensures reads { shown.ForBook self.old (λ total book. (shown.view self.new).reads ≤ (shown.view self.old).reads + 96 * length edits.now) }
+        ensures few_reads { shown.ForBook self.old (λ total book. IfOk result (λ answers. (shown.view self.new).reads ≤ (shown.view self.old).reads + 96 * length answers.items)) }
+        // edits that change no slot write and sync nothing
+        ensures idle { shown.ForBook self.old (λ total book. IfOk result (λ answers. ChangeNone total book (take (length answers.items) edits.now) → shown.WritesNone self.old self.new)) }
+        ensures moves { shown.MovesGroup self.old self.new }
+        ensures goes_on { shown.TimeGoesOn self.old self.new }
+        ensures cause { IfErr result (λ e. IsGroupCause e (shown.IsTold self.old) (shown.numbers self.old) (shown.view self.old) (shown.view self.new)) }
+        ensures quiet { OnOk result ((shown.view self.new).faults ≡ (shown.view self.old).faults) }
+        ensures quiet_err { IfErr result (λ e. e ≢ StoreError.DiskFault → (shown.view self.new).faults ≡ (shown.view self.old).faults) }
+        ensures unchanged { IfErr result (λ e. IsUnchangedFor e (shown.IsTold self.old) (shown.view self.old) (shown.view self.new)) }
+        ensures sound { OnOk result (shown.IsSound self.new) }
+        ensures total { shown.total self.new ≡ shown.total self.old }
+        ensures slots { IfOk result (λ answers. HaveFewSlots answers.items) }
+        ensures none { (self.new.tree.slots ≡ 0) × (self.new.tree.span ≡ None) }
+        // no series goes away, whatever the pages are
+        ensures more { length (shown.catalog self.old) ≤ length (shown.catalog self.new) }
+    {
+        self.select_none();
+        self.edit_some(edits, true)
     }
 
     /// The same with no series selected. Where a page is called damaged behind the first edit, that one is done alone, so
     /// that a page that is called damaged is so as it is stored.
-    fn edit_some(&mut self, edits: &[Edit]) -> Result<Vec<Result<Outcome, Refusal>>, StoreError>
+    fn edit_some(
+        &mut self,
+        edits: &[Edit],
+        ends: bool,
+    ) -> Result<Vec<Result<Outcome, Refusal>>, StoreError>
         requires sound { shown.IsSound self.old }
         requires idle { shown.SelectsNone self.old }
         requires some { 0 < length edits.now }
@@ -195,11 +262,11 @@ impl<P: Pages> Store<P> {
         ensures did { grouping.DoesGroup edits.now result self.old self.new }
         ensures quiet { OnOk result ((shown.view self.new).faults ≡ (shown.view self.old).faults) }
         ensures quiet_err { IfErr result (λ e. e ≢ StoreError.DiskFault → (shown.view self.new).faults ≡ (shown.view self.old).faults) }
-        ensures answered { shown.ForBook self.old (λ total book. grouping.AnswersGroup total book edits.now result self.old self.new) }
+        ensures answered { shown.ForBook self.old (λ total book. grouping.AnswersGroup total book edits.now ends result self.old self.new) }
         ensures idle { shown.SelectsNone self.new }
     {
         let mut answers = Vec::with_capacity(self.alloc, edits.len())?;
-        match self.commit_group(edits, &mut answers) {
+        match self.commit_group(edits, ends, &mut answers) {
             Ok(()) => Ok(answers),
             Err(cause) => {
                 if is_damage(cause) {
@@ -214,6 +281,7 @@ impl<P: Pages> Store<P> {
     fn commit_group(
         &mut self,
         edits: &[Edit],
+        ends: bool,
         answers: &mut Vec<Result<Outcome, Refusal>>,
     ) -> Result<(), StoreError>
         requires sound { shown.IsSound self.old }
@@ -223,7 +291,7 @@ impl<P: Pages> Store<P> {
         ensures groups { grouping.CommitsGroup result self.old self.new edits.now answers.new.items }
         ensures quiet { OnOk result ((shown.view self.new).faults ≡ (shown.view self.old).faults) }
         ensures quiet_err { IfErr result (λ e. e ≢ StoreError.DiskFault → (shown.view self.new).faults ≡ (shown.view self.old).faults) }
-        ensures grouped { shown.ForBook self.old (λ total book. grouping.CommitsSo total book result self.old self.new edits.now answers.new.items) }
+        ensures grouped { shown.ForBook self.old (λ total book. grouping.CommitsSo total book result self.old self.new edits.now ends answers.new.items) }
         ensures idle { shown.SelectsNone self.new }
     {
         let txn = self.begin()?;
@@ -232,6 +300,7 @@ impl<P: Pages> Store<P> {
             txn,
             &mut self.catalog,
             edits,
+            ends,
             false,
             answers,
         )

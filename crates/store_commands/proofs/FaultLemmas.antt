@@ -4,6 +4,7 @@ use Rattle.block_disk.specs.View.{View}
 use Rattle.chart_world.specs.Faults.{CountsFault, fault_in}
 use Rattle.chart_world.specs.FaultLaws.{counts_disk, counts_no_disk}
 use Rattle.page_space.specs.declared.superblock.Superblock.{Superblock}
+use Rattle.run_ends.specs.Faults.{end_fault}
 use Rattle.series_store.specs.Counting.{IsCheckCause}
 use Rattle.series_store.specs.declared.errors.StoreError.{StoreError}
 use Rattle.series_store.specs.declared.errors.StoreError.TheVariants as store
@@ -20,7 +21,7 @@ use Rattle.store_commands.specs.Answering as demo
 use Rattle.store_commands.specs.Checking.{check_end}
 use Rattle.store_commands.specs.Exporting.{export_end}
 use Rattle.store_commands.specs.Storing as loading
-use Rattle.store_commands.specs.Status.{code_fault, end_fault}
+use Rattle.store_commands.specs.Status.{code_fault}
 
 -- a store that wasn't checked
 pub counts_unchecked : (error : StoreError) (told : Type 0) (s : Superblock) (old new : View) → new.beside ≡ old.beside → IsCheckCause error told s old new → (error ≢ store.DiskFault → new.faults ≡ old.faults) → CountsFault (end_fault (check_end error)) old new

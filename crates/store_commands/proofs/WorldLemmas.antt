@@ -11,6 +11,7 @@ use Rattle.store_commands.specs.Away.{IsTurnedAway}
 use Rattle.store_commands.specs.Books.{OfBook}
 use Rattle.store_commands.specs.Status.{opening_status}
 use Rattle.run_ends.specs.declared.status.Status.{Status}
+use Rattle.store_commands.specs.Traffic.{traffic}
 
 -- why no store was opened, and that nothing was taken or sent
 pub record IsUnopened (old new : View) (left left' before now : Option (List ℕ)) (cause : OpeningCause) : Type 0 where
@@ -39,3 +40,13 @@ module _ {W : Type 0} (view : W → View) (left sent : W → Option (List ℕ)) 
     left_is = left_same;
     sent_is = sent_same;
   }
+
+-- what passed through the streams of a world from one that begins as another
+pub traffic_over : {W : Type 0} (view : W → View) (left sent : W → Option (List ℕ)) (reads sends : W → ℕ) → ((world : W) → (view world).beside.left ≡ left world) → ((world : W) → (view world).beside.sent ≡ sent world) → ((world : W) → (view world).beside.read_faults ≡ reads world) → ((world : W) → (view world).beside.send_faults ≡ sends world)
+    → (first old new : W) → (view old).beside ≡ (view first).beside → traffic left sent reads sends old new ≡ traffic left sent reads sends first new
+traffic_over {W} view left sent reads sends has_left has_sent has_reads has_sends first old new same =
+    let l : left old ≡ left first = sym (has_left old) ∙ ap (λ (b : Beside). b.left) same ∙ has_left first in
+    let s : sent old ≡ sent first = sym (has_sent old) ∙ ap (λ (b : Beside). b.sent) same ∙ has_sent first in
+    let r : reads old ≡ reads first = sym (has_reads old) ∙ ap (λ (b : Beside). b.read_faults) same ∙ has_reads first in
+    let f : sends old ≡ sends first = sym (has_sends old) ∙ ap (λ (b : Beside). b.send_faults) same ∙ has_sends first in
+    λ i. record { left = l i; left_now = left new; sent = s i; sent_now = sent new; reads = r i; reads_now = reads new; sends = f i; sends_now = sends new }

@@ -68,6 +68,11 @@ unsent code before now (inl is) none whole part = absurd (whole is)
 unsent code before now (inr (inl is)) none whole part = none is
 unsent code before now (inr (inr is)) none whole part = absurd (part is)
 
+-- a disk that is too small isn't a cause from outside
+pub too_small : (size : ℕ) → IsOutside (opening.TooSmall size) → ⊥
+too_small size (inl same) = cc
+too_small size (inr same) = cc
+
 -- a damaged block isn't a cause from outside
 pub unopened : (block : ℕ) → IsOutside (opening.Damaged block) → ⊥
 unopened block (inl same) = cc

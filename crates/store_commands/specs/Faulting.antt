@@ -9,7 +9,8 @@ use Rattle.disk_store.specs.declared.causes.OpeningCause.TheVariants as opening
 use Rattle.run_ends.specs.Statuses.{code_of, status_of}
 use Rattle.run_ends.specs.declared.ending.End.{End}
 use Rattle.run_ends.specs.declared.ending.End.TheVariants.{Done}
-use Rattle.store_commands.specs.Status.{code_fault, end_fault, opening_end, opening_status}
+use Rattle.store_commands.specs.Status.{code_fault, opening_end, opening_status}
+use Rattle.run_ends.specs.Faults.{end_fault}
 use Rattle.run_ends.specs.declared.status.Status.{Status}
 
 -- by a status that is this one

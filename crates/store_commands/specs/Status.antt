@@ -1,4 +1,4 @@
--- How a run ends whose store isn't opened, and the failed call that an end tells of.
+-- How a run ends whose store isn't opened, and the failed call that a code tells of.
 use Rattle.std.specs.Prelude.{ℕ, ◌==◌, if◌then◌else◌, Option, None, Some}
 use Rattle.chart_world.specs.Faults.{Fault, OfDisk, OfTake, OfSend}
 use Rattle.disk_store.specs.declared.causes.OpeningCause.{OpeningCause}
@@ -19,13 +19,6 @@ opening_end opening.NoMemory = ends.NoMemory
 abbrev pub opening_status : OpeningCause → Status
 opening_status cause = status_of (opening_end cause)
 
--- the failed call that an end tells of: a take, a send, one of the disk, or none
-abbrev pub end_fault : End → Option Fault
-end_fault ends.ReadFault = Some OfTake
-end_fault ends.SendFault = Some OfSend
-end_fault ends.DiskFault = Some OfDisk
-end_fault end = None
-
--- the same by its code
+-- the failed call that a code tells of: a take, a send, one of the disk, or none
 abbrev pub code_fault : ℕ → Option Fault
 code_fault code = if code == 4 then Some OfTake else if code == 5 then Some OfSend else if code == 6 then Some OfDisk else None

@@ -5,9 +5,9 @@ ghost use Rattle.gate_pages.specs.Shown.{AreSound, count, disk};
 ghost use Rattle.series_store.specs.Shown as shown;
 ghost use Rattle.store_commands.specs.Checked.{CheckEnds, counts_text};
 ghost use Rattle.store_commands.specs.Checking.{ChecksOn, check_end};
+ghost use Rattle.run_ends.specs.Faults.{end_fault};
 ghost use Rattle.run_ends.specs.Statuses.{status_of};
 ghost use Rattle.store_commands.specs.Away.{TurnsAway};
-ghost use Rattle.store_commands.specs.Status.{end_fault};
 ghost use Rattle.store_commands.specs.Traffic.{traffic};
 
 use crate::opening::opening_end;

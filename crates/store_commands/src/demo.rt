@@ -8,11 +8,11 @@ ghost use Rattle.chart_service.specs.Shown as service_shown;
 ghost use Rattle.demo_workload.specs.Ending.{demo_fault};
 ghost use Rattle.demo_workload.specs.Workload.{workload};
 ghost use Rattle.store_commands.specs.Answering.{Answered, HasNumberedKey, demo_end};
+ghost use Rattle.run_ends.specs.Faults.{end_fault};
 ghost use Rattle.run_ends.specs.Statuses.{status_of};
 ghost use Rattle.store_commands.specs.Away.{TurnsAway};
 ghost use Rattle.store_commands.specs.Books.{HoldsAgain};
 ghost use Rattle.store_commands.specs.Demonstrated.{DemoEnds};
-ghost use Rattle.store_commands.specs.Status.{end_fault};
 ghost use Rattle.store_commands.specs.Traffic.{traffic};
 
 use crate::opening::opening_end;

@@ -2,10 +2,10 @@
 ghost use Rattle.std.specs.Prelude.{◌≡◌, IfOk};
 ghost use Rattle.chart_world.specs.Faults.{CountsFault};
 ghost use Rattle.series_store.specs.Shown as shown;
+ghost use Rattle.run_ends.specs.Faults.{end_fault};
 ghost use Rattle.run_ends.specs.Statuses.{status_of};
 ghost use Rattle.store_commands.specs.Away.{TurnsAway};
 ghost use Rattle.store_commands.specs.Listed.{ListEnds, list_text};
-ghost use Rattle.store_commands.specs.Status.{end_fault};
 ghost use Rattle.store_commands.specs.Traffic.{traffic};
 
 use crate::opening::opening_end;

@@ -1,8 +1,8 @@
 //! The text of a command is sent.
 ghost use Rattle.std.specs.Prelude.{◌≡◌};
 ghost use Rattle.chart_world.specs.Faults.{CountsFault};
+ghost use Rattle.run_ends.specs.Faults.{end_fault};
 ghost use Rattle.store_commands.specs.Sending.{SendsMade};
-ghost use Rattle.store_commands.specs.Status.{end_fault};
 
 use block_disk::World;
 use run_ends::End;

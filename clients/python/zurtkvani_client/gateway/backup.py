@@ -14,7 +14,7 @@ from aiohttp import web
 
 from . import child, configuration
 from .log import tell
-from .names import sync_folder
+from .replacing import sync_folder
 
 SECONDS = 3600  # for a whole backup
 PIECE = 2**20  # bytes that are compared at once

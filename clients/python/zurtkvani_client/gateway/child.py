@@ -17,6 +17,7 @@ from ..store import Store
 from .log import tell
 
 MOST_FRAME = 4_194_304  # bytes behind a frame's length
+DONE_BYTES = 4 + frames.LENGTHS[frames.DONE][0]
 SESSION = 1  # the one session of a run; its views have a filter, so its client keeps nothing
 OPEN = b"open %d 1" % SESSION
 MOST_SECONDS = 120  # of a turn
@@ -267,6 +268,11 @@ async def until_released(path, seconds=10):
 def done_or_refused(frame):
     """What an edit was answered: Done or Refused of frames.py."""
     return frames.accept(frames.Fields(io.BytesIO(frame)), {})[0]
+
+
+def slots_of(frame):
+    """How many slots a series has behind an edit, as its frame tells; None where it tells something else."""
+    return int.from_bytes(frame[5:], "big") if frame[4] == frames.DONE and len(frame) == DONE_BYTES else None
 
 
 def refusal_of(frame):

@@ -1,4 +1,5 @@
 """What a query comes to at each of some times. Values are decimals, so sums and differences of stored ones are exact."""
+import asyncio
 import collections
 import decimal
 from decimal import Decimal
@@ -11,6 +12,7 @@ from .reading import Windows
 # Sums, differences and products of a few stored values have no more digits; a quotient is rounded to so many.
 EXACT = decimal.Context(prec=60, traps=[])
 MOST_SERIES = 5_000
+AT_ONCE = 32  # series of a query that are read at once
 
 
 class Line(collections.namedtuple("Line", "labels values")):
@@ -34,9 +36,10 @@ class Evaluation:
         if isinstance(tree, Selector):
             if tree.range is not None:
                 raise Wrong("a selector with a range stands within a function, as avg_over_time, or alone in a query of one time")
-            return [line for known in self.found(tree) if (line := await self.selected(known)).has_values()]
+            return [line for line in await of_each(self.found(tree), self.selected) if line.has_values()]
         if isinstance(tree, Call):
-            return [line for known in self.found(tree.selector) if (line := await self.called(tree, known)).has_values()]
+            lines = await of_each(self.found(tree.selector), lambda known: self.called(tree, known))
+            return [line for line in lines if line.has_values()]
         if isinstance(tree, Aggregate):
             return self.aggregated(tree, await self.lines(tree.inner))
         return self.joined(tree, await self.lines(tree.left), await self.lines(tree.right))
@@ -86,6 +89,14 @@ class Evaluation:
         return [
             Line(dict(labels), pairwise(tree.sign, values, others[labels])) for labels, values in by_labels(left).items() if labels in others
         ]
+
+
+async def of_each(found, work):
+    """What a work comes to for each of some series. Some are under way at once, since each waits for its turn among those who write."""
+    answers = []
+    for at in range(0, len(found), AT_ONCE):
+        answers += await asyncio.gather(*map(work, found[at : at + AT_ONCE]))
+    return answers
 
 
 def nameless(labels):
@@ -150,6 +161,9 @@ def text_of(value):
     """A value as Prometheus spells it: all its digits where it is exact, else those of a double."""
     if not value.is_finite():
         return "NaN" if value.is_nan() else "+Inf" if value > 0 else "-Inf"
+    text = str(value)
+    if "E" not in text and len(text) <= 40:
+        return text.rstrip("0").rstrip(".") if "." in text else text
     if len(value.as_tuple().digits) > 40 or abs(value.adjusted()) > 40 and value:
         text = repr(float(value))
         return text.replace("inf", "Inf") if text[0] == "-" else text.replace("inf", "+Inf")

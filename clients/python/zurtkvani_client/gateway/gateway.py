@@ -2,11 +2,13 @@
 import asyncio
 import os
 
+from .alarms import Alarms
 from .bodies import Budget
 from .guard import Guard
 from .intake import Intake
 from .line_protocol import Reader
 from .metrics import Counts
+from .mqtt import Broker
 from .retention import Retention
 from .stores import Stores
 from .writing import Writer
@@ -23,8 +25,10 @@ class Gateway:
     def __init__(self, given):
         self.given, self.snappy = given, snappy
         self.counts, self.budget, self.guard = Counts(), Budget(given.write.waiting_bytes), Guard(given)
-        self.stores, self.writers = Stores(given), {}
+        self.stores, self.writers = Stores(given, self.counts), {}
         self.intake = Intake(given, self.stores, self.writer_of, self.waiting, self.counts)
+        self.broker = Broker(self)
+        self.alarms = Alarms(given, self.stores, self.counts, self.broker.publish)
         self.retention, self.backing_up = Retention(self), asyncio.Lock()
         self.reading = asyncio.Semaphore(given.read.at_once)
         self.sweeping = None
@@ -32,7 +36,7 @@ class Gateway:
 
     def writer_of(self, keeper):
         if keeper not in self.writers:
-            self.writers[keeper] = Writer(keeper, self.counts, self.stores.full)
+            self.writers[keeper] = Writer(keeper, self.counts, self.stores.full, self.alarms.saw)
         return self.writers[keeper]
 
     def waiting(self):
@@ -45,16 +49,20 @@ class Gateway:
 
     async def start(self):
         await self.stores.start()
+        await self.alarms.start()
+        self.broker.start()
         self.sweeping = asyncio.create_task(self.retention.work())
 
     async def stop(self):
         """Stores what was taken in, and ends the runs."""
+        await self.broker.stop()
         if self.sweeping:
             self.sweeping.cancel()
             await asyncio.wait({self.sweeping})
         tasks = [writer.task for writer in self.writers.values() if writer.task]
         if tasks:
             await asyncio.wait(tasks, timeout=self.given.write.seconds / 10**9)
+        await self.alarms.stop()
         await self.stores.stop()
 
     def faults(self):
@@ -62,4 +70,5 @@ class Gateway:
         down = {self.store_name(keeper): keeper.down for keeper in self.stores.keepers if keeper.down}
         waits = {self.store_name(keeper): "its run is started again" for keeper in self.stores.keepers if not keeper.down and not keeper.run}
         full = {self.store_name(keeper): "it is full" for keeper in self.stores.full}
-        return {**full, **waits, **down}
+        away = {"mqtt": self.broker.away} if self.given.mqtt.host and not self.broker.connection else {}
+        return {**full, **waits, **down, **away}

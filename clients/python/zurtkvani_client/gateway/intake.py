@@ -1,10 +1,12 @@
 """From points to the slots of series: which series a point is of, which slot its time lies in, and what became of each."""
 import asyncio
 import collections
+import re
 import time
 
 from ..decimals import MOST, whole_number
 from ..grids import LAST_SLOT
+from ..scales import MOST_SCALE
 from ..unfit import Unfit
 from .labels import text_of
 from .stores import FULL, NoRoom
@@ -15,6 +17,12 @@ SHOWN = 5  # bad lines, and reasons, that an answer tells
 MOST_WORDS = 400  # signs of one of them
 
 Point = collections.namedtuple("Point", "key measurement time value")  # the time in nanoseconds, the value a text or an int
+# Points of one series in their order.
+Column = collections.namedtuple("Column", "key measurement times values")
+# For each scale the texts, each with a space behind it, that are so many decimals each, and small enough.
+WITH_DECIMALS = [
+    re.compile(rf"(?:-?\d{{1,{18 - scale}}}" + (rf"[.]\d{{{scale}}}" if scale else "") + " )++", re.ASCII) for scale in range(MOST_SCALE + 1)
+]
 
 
 class Busy(Exception):
@@ -59,20 +67,15 @@ class Intake:
         if self.waiting() >= self.given.waiting_points:
             raise Busy("too many points wait for the disk")
 
-    async def take(self, points, outcome):
-        """Stores the points of an iterator, and comes back once all are acknowledged. What can't be stored is told by the outcome. The iterator
-        gives None for what is no point, so that others have their turn however many of these there are.
+    async def take(self, parts, outcome):
+        """Stores the points of an iterator of parts, each a list of columns, and comes back once all are acknowledged. Behind each part others have
+        their turn. What can't be stored is told by the outcome.
 
         Raises Busy, NoRoom, child.Down, child.Lost and TimeoutError, behind which some of them are stored and some aren't.
         """
-        waiting, part = [], []
-        for at, point in enumerate(points, 1):
-            if point is not None:
-                part.append(point)
-            if at % PART == 0:
-                waiting += await self._part(part, outcome)
-                part = []
-        waiting += await self._part(part, outcome)
+        waiting = []
+        for columns in parts:
+            waiting += await self._part(columns, outcome)
         for batch, counts in waiting:
             refused = await batch.stored(self.given.seconds / 10**9)
             for known, count in counts.items():
@@ -89,17 +92,16 @@ class Intake:
         else:
             outcome.drop(f"{text_of(known.key)}: refusal {refusal.number}", count)
 
-    async def _part(self, points, outcome):
+    async def _part(self, columns, outcome):
         """Hands some points to the writers, and gives the batches that they are of, each with how many of each series."""
-        groups = grouped(points)
-        await self._make_missing(groups, outcome)
+        await self._make_missing(columns, outcome)
         batches = {}
-        for key, group in groups.items():
-            known = self.stores.by_key.get(key)
-            values, count = self._placed(known, group, outcome) if known else ({}, 0)
+        for column in columns:
+            known = self.stores.by_key.get(column.key)
+            values, count = self._placed(known, column, outcome) if known else ({}, 0)
             if values:
-                batch = self.writer_of(known.keeper).add(known, values)
-                batches.setdefault(batch, {})[known] = count
+                counts = batches.setdefault(self.writer_of(known.keeper).add(known, values), {})
+                counts[known] = counts.get(known, 0) + count
         await self._until_room(batches)
         return list(batches.items())
 
@@ -111,20 +113,22 @@ class Intake:
                 raise Busy("the disk is too slow for so many points")
             await asyncio.sleep(PAUSE)
 
-    async def _make_missing(self, groups, outcome):
+    async def _make_missing(self, columns, outcome):
         """Makes the series that aren't there; each by the earliest of its points."""
-        missing, claims = [], []
-        for key, group in groups.items():
-            measurement = group[0].measurement
+        missing, claims = {}, {}
+        for key, measurement, times, _ in columns:
             if key not in self.stores.by_key:
-                missing.append((key, measurement, min(point.time for point in group)))
+                first = min(times)
+                missing[key] = (*missing[key][:2], min(first, missing[key][2])) if key in missing else (key, measurement, first)
             elif measurement is not None and key not in self.stores.names.measurements:
-                claims.append((key, measurement))
+                claims.setdefault(key, measurement)
         if claims:
-            await self._whole(self.stores.claim(claims))
+            await self._whole(self.stores.claim(claims.items()))
         if missing:
-            for key, why in (await self._whole(self.stores.make(missing))).items():
-                outcome.drop(f"{text_of(key)}: {why}", len(groups[key]))
+            refused = await self._whole(self.stores.make(missing.values()))
+            for column in columns if refused else ():
+                if column.key in refused:
+                    outcome.drop(f"{text_of(column.key)}: {refused[column.key]}", len(column.times))
 
     async def _whole(self, work):
         """Awaits what isn't to be broken off in the middle, and no longer than a write may take; it goes on all the same."""
@@ -138,34 +142,65 @@ class Intake:
         if not task.cancelled():
             task.exception()
 
-    def _placed(self, known, points, outcome):
+    def _placed(self, known, column, outcome):
         """The slots of a series' points, those that their times lie in, each with its last value; and how many points these are."""
         owner, first, gap, scale = self.stores.names.measurements.get(known.key), known.first, known.gap, known.record.scale
+        measurement = column.measurement
+        if measurement != owner and owner is not None and measurement is not None:
+            outcome.drop(f"{text_of(known.key)} is of the measurement {owner!r}, not of {measurement!r}", len(column.times))
+            return {}, 0
+        slots = [(time_of - first) // gap for time_of in column.times]
+        numbers = plain_numbers(column.values, scale)
+        if numbers and min(slots) >= 0 and max(slots) <= LAST_SLOT:
+            return dict(zip(slots, numbers)), len(slots)
         values, count = {}, 0
-        for _, measurement, time_of, value in points:
-            slot = (time_of - first) // gap
-            if measurement != owner and owner is not None and measurement is not None:
-                outcome.drop(f"{text_of(known.key)} is of the measurement {owner!r}, not of {measurement!r}")
-            elif not 0 <= slot <= LAST_SLOT:
+        for slot, value in zip(slots, column.values):
+            if not 0 <= slot <= LAST_SLOT:
                 outcome.drop(f"{text_of(known.key)}: a time lies " + ("before the series' start" if slot < 0 else "too far behind its start"))
-            else:
-                try:
-                    values[slot] = number_of(value, scale)
-                    count += 1
-                except Unfit as why:
-                    outcome.drop(f"{text_of(known.key)}: {why}")
+                continue
+            try:
+                values[slot] = number_of(value, scale)
+                count += 1
+            except Unfit as why:
+                outcome.drop(f"{text_of(known.key)}: {why}")
         return values, count
 
 
-def grouped(points):
-    """The points of each series, in their order. Most come with the very same key, so that few of them are compared."""
-    groups, same = {}, {}
+def parts_of(points):
+    """The parts of an iterator of points. It gives None for what is no point, so that others have their turn however many of these there are."""
+    part = []
+    for at, point in enumerate(points, 1):
+        if point is not None:
+            part.append(point)
+        if at % PART == 0:
+            yield columns_of(part)
+            part = []
+    yield columns_of(part)
+
+
+def columns_of(points):
+    """The columns of points. Most come with the very same key, so that few of them are compared."""
+    columns, same = {}, {}
     for point in points:
-        group = same.get(id(point.key))
-        if group is None:
-            group = same[id(point.key)] = groups.setdefault(point.key, [])
-        group.append(point)
-    return groups
+        column = same.get((id(point.key), point.measurement))
+        if column is None:
+            column = columns.setdefault((point.key, point.measurement), Column(point.key, point.measurement, [], []))
+            same[id(point.key), point.measurement] = column
+        column.times.append(point.time)
+        column.values.append(point.value)
+    return list(columns.values())
+
+
+def plain_numbers(values, scale):
+    """The whole numbers that a series keeps of values, where these are all texts of so many decimals, or all whole numbers; else None."""
+    kinds = set(map(type, values))
+    if kinds == {str}:
+        text = " ".join(values) + " "
+        return list(map(int, text.replace(".", "").split())) if WITH_DECIMALS[scale].fullmatch(text) else None
+    factor = 10**scale
+    if kinds == {int} and -MOST <= min(values) * factor and max(values) * factor <= MOST:
+        return [value * factor for value in values]
+    return None
 
 
 def number_of(value, scale):
@@ -176,9 +211,21 @@ def number_of(value, scale):
             raise Unfit(f"{value} is too large for the scale {scale}")
         return number
     whole, _, rest = value.partition(".")
-    if len(rest) <= scale and len(whole) < 9 and "_" not in value:
+    if len(whole) < 9 and "_" not in value:
         try:
-            return int(whole + rest.ljust(scale, "0"))  # so few digits need no rounding, and can't be too many
+            number = int(whole + rest[:scale].ljust(scale, "0"))  # so few digits can't be too many
+            return rounded(number, rest[scale:], value[0] == "-")
         except ValueError:
             pass  # an exponent, or no number
     return whole_number(value, scale)[0]
+
+
+def rounded(number, rest, is_negative):
+    """A number behind which further decimals stand, rounded half to even. Raises ValueError where they are no decimals."""
+    if not rest:
+        return number
+    if not (rest.isascii() and rest.isdecimal()):
+        raise ValueError
+    half = "5".ljust(len(rest), "0")
+    is_up = rest > half or rest == half and number % 2 == 1
+    return number - is_up if is_negative else number + is_up

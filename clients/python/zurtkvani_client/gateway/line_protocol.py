@@ -4,7 +4,7 @@ A point is of the series whose name is the measurement and the field, and whose 
 """
 import re
 
-from .intake import Point
+from .intake import Column, Point, parts_of
 from .labels import NAME, key_of
 
 PRECISIONS = {
@@ -21,6 +21,11 @@ INTEGER = re.compile(r"(-?\d+)[iu]", re.ASCII)
 TIME = re.compile(r"-?\d{1,19}", re.ASCII)
 TRUTHS = {**dict.fromkeys(("t", "T", "true", "True", "TRUE"), 1), **dict.fromkeys(("f", "F", "false", "False", "FALSE"), 0)}
 NO_NUMBER = {"nan", "inf", "+inf", "-inf", "infinity"}
+# Texts, each with a space behind it, that are all numbers without an exponent, or all whole ones as `5i`.
+NUMBERS = re.compile(r"(?:-?\d++(?:[.]\d*+)? )++", re.ASCII)
+INTEGERS = re.compile(r"(?:-?\d++[iu] )++", re.ASCII)
+UNPLAIN = (b"\\", b'"', b"#", b"\r", b"\t")  # signs of lines that need a closer look
+PIECE = 2**18  # bytes of a body that are read before others have their turn
 MOST_JOINED = 2**16  # bytes of a line with line feeds within its texts
 MOST_KEPT, MOST_HEAD = 50_000, 500  # heads that are remembered, and signs of one
 SHOWN = 200  # bytes of a bad line that an answer shows
@@ -36,6 +41,46 @@ class Reader:
     def __init__(self, database_label, separator):
         self.database_label, self.separator = database_label, separator
         self.keys = {}
+
+    def parts(self, body, database, precision, now, outcome):
+        """The points of a body, as parts of columns. Pieces of plain lines are read column by column, and all else line by line."""
+        if b'"' in body:
+            yield from parts_of(self.points(body, database, precision, now, outcome))
+            return
+        at = 0
+        while at < len(body):
+            end = len(body)
+            if end - at > PIECE:
+                end = body.rfind(b"\n", at, at + PIECE)
+                end = body.find(b"\n", at + PIECE) if end < 0 else end
+                end = len(body) if end < 0 else end
+            piece, at = body[at:end].rstrip(b"\n"), end + 1
+            columns = self.columns(piece, database, PRECISIONS[precision])
+            if columns is None:
+                yield from parts_of(self.points(piece, database, precision, now, outcome))
+            else:
+                yield columns
+
+    def columns(self, piece, database, size):
+        """The columns of lines that are all plain: one space on each side of the fields, numbers without an exponent, and the same fields in all
+        lines of a head. None where they aren't: then each line is read by itself."""
+        if piece.count(b" ") != 2 * piece.count(b"\n") + 2 or any(sign in piece for sign in UNPLAIN):
+            return None
+        try:
+            words = piece.decode().replace("\n", " \n ").split(" ")
+            heads, fields, times, ends = (words[at::4] for at in range(4))
+            # Three words of each line, and behind them its end: so no line has another number of words.
+            if ends.count("\n") != len(ends) or not are_digits(times):
+                return None
+            times = [int(time) * size for time in times]
+            columns = []
+            for head, (fields_of_head, times_of_head) in by_head(heads, fields, times).items():
+                for name, values in columns_of(fields_of_head):
+                    columns.append(Column(*self.key(head, name, database), times_of_head, values))
+        except (ValueError, TypeError, Bad):
+            return None
+        # Of two columns of one series it isn't known which of their points came last.
+        return columns if len({column.key for column in columns}) == len(columns) else None
 
     def points(self, body, database, precision, now, outcome):
         """The points of a body, one by one, and None for a line or a field that is none. What is no point, and what is left out, is told by the
@@ -98,6 +143,44 @@ class Reader:
         if head[-1:] == "," or head[:1] == ",":
             raise Bad("missing tag key" if head[-1:] == "," else "missing measurement")
         return unescaped(measurement), tags
+
+
+def are_digits(times):
+    joined = "".join(times)
+    return joined.isascii() and joined.isdecimal() and max(map(len, times)) <= 19
+
+
+def by_head(heads, fields, times):
+    """For each head the fields and the times of its lines."""
+    if heads.count(heads[0]) == len(heads):
+        return {heads[0]: (fields, times)}
+    found = {}
+    for head, field, time in zip(heads, fields, times):
+        if head in found:
+            fields_of_head, times_of_head = found[head]
+            fields_of_head.append(field)
+            times_of_head.append(time)
+        else:
+            found[head] = [field], [time]
+    return found
+
+
+def columns_of(fields):
+    """Of the fields of lines that all have the same names, pairs of a name and the values. Raises ValueError where they aren't so, and Bad."""
+    for cells in zip(*[field.split(",") for field in fields], strict=True) if "," in fields[0] else [fields]:
+        name, sign, _ = cells[0].partition("=")
+        start = name + sign
+        values = [cell[len(start) :] for cell in cells]
+        if not name or not sign or "" in values or "\n".join(cells) != start + ("\n" + start).join(values):
+            raise ValueError
+        joined = " ".join(values) + " "
+        if INTEGERS.fullmatch(joined):
+            values = list(map(int, joined.replace("i", "").replace("u", "").split()))
+        elif not NUMBERS.fullmatch(joined):
+            values = list(map(value_of, values))
+            if None in values:
+                raise ValueError
+        yield name, values
 
 
 def whole_lines(text):

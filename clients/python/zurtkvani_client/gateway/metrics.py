@@ -11,6 +11,7 @@ HELP = {
     "points_total": "Points that were acknowledged as stored",
     "dropped_points_total": "Points that can't be stored",
     "left_out_total": "Values that are no numbers: NaN, texts",
+    "mqtt_messages_total": "Messages of MQTT that were taken in and acknowledged",
     "edits_total": "Lines of edits that were answered",
     "turns_total": "Turns of edits; the edits of a turn share commits",
     "turn_seconds_total": "Time of these turns",
@@ -18,14 +19,17 @@ HELP = {
     "request_seconds_total": "Time of these requests",
     "views_total": "Views that were asked of stores",
     "made_series_total": "Series that the gateway made",
+    "alarms_total": "Alarms that began and that ended",
+    "untold_alarms_total": "Alarms that were given up, and not told",
 }
+LABELLED = {"requests_total", "request_seconds_total", "alarms_total", "untold_alarms_total"}  # sums of which there is one for each label
 
 
 class Counts:
     """Sums that only rise, by name and labels."""
 
     def __init__(self):
-        self.sums = {(name, ()): 0 for name in HELP if not name.startswith("request")}
+        self.sums = {(name, ()): 0 for name in HELP if name not in LABELLED}
         self.begun = time.time()
 
     def add(self, name, count=1, **labels):
@@ -79,6 +83,7 @@ def text(gateway):
         *gauge("store_restarts", "How often a store's run was started again", [(labels, keeper.restarts) for labels, keeper in stores]),
         *gauge("store_pages_used", "Pages in use of a store", [(labels, used) for labels, (used, _) in pages]),
         *gauge("store_pages_left", "Pages of a store that are free", [(labels, total - used) for labels, (used, total) in pages]),
+        *gauge("alarms", "Alarms that have begun and not ended", [((), len(gateway.alarms.active()))]),
         *gauge("start_time_seconds", "When the gateway was started", [((), int(gateway.counts.begun))]),
     ]
     return "\n".join(lines) + "\n"

@@ -1,8 +1,8 @@
 """The table of the series whose labels don't fit the 31 bytes of a series' name: labels outside, a name in the stores."""
 import json
-import os
 
 from .labels import key_of, made_name, own_name
+from .replacing import replace
 
 VERSION = 1
 
@@ -65,19 +65,4 @@ class Names:
         table = {key: (name, self.measurements.get(key)) for key, name in self.inner.items()} | added
         listed = [{"labels": dict(key), "name": name, "measurement": measurement} for key, (name, measurement) in table.items()]
         text = json.dumps({"version": VERSION, "series": listed}, ensure_ascii=False, separators=(",", ":"))
-        folder = os.path.dirname(self.path)
-        with open(self.path + ".new", "w", encoding="utf-8") as file:
-            file.write(text.replace('},{"labels"', '},\n{"labels"'))
-            file.flush()
-            os.fsync(file.fileno())
-        os.rename(self.path + ".new", self.path)
-        sync_folder(folder)
-
-
-def sync_folder(folder):
-    """Brings what stands in a folder to the disk: the names of its files."""
-    handle = os.open(folder, os.O_RDONLY | os.O_DIRECTORY)
-    try:
-        os.fsync(handle)
-    finally:
-        os.close(handle)
+        replace(self.path, text.replace('},{"labels"', '},\n{"labels"'))

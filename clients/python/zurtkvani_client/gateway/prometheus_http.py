@@ -123,7 +123,8 @@ async def query(gateway, words, _request):
     at, tree = time_of(word(words, "time", f"{time.time():.3f}")), promql.parse(word(words, "query"))
     asked = evaluation(gateway, at, SECOND, 1)
     if isinstance(tree, Selector) and tree.range is not None:
-        result = [raw for known in asked.found(tree) if (raw := await raw_values(asked.reads, known, at, tree.range))["values"]]
+        found = await evaluating.of_each(asked.found(tree), lambda known: raw_values(asked.reads, known, at, tree.range))
+        result = [raw for raw in found if raw["values"]]
         return {"resultType": "matrix", "result": result}, ways_of(asked.reads)
     found = await asked.lines(tree)
     if found and not isinstance(found[0], Line):

@@ -11,10 +11,14 @@ FARTHEST = 2**63  # nanoseconds from 1970: the year 2262
 Grid = collections.namedtuple("Grid", "start step scale")  # of a series as `create` takes it
 
 
+def fits(match, key):
+    """Whether a pattern with * and ? fits a series' name, or all of it as a selector."""
+    return fnmatch.fnmatchcase(dict(key).get(NAME, ""), match) or fnmatch.fnmatchcase(text_of(key), match)
+
+
 def rule_for(rules, key):
-    """The first rule that the series' name matches, or all of it as a selector: a pattern with * and ?."""
-    name, selector = dict(key).get(NAME, ""), text_of(key)
-    return next(rule for rule in rules if fnmatch.fnmatchcase(name, rule.match) or fnmatch.fnmatchcase(selector, rule.match))
+    """The first rule that fits a series."""
+    return next(rule for rule in rules if fits(rule.match, key))
 
 
 def grid_for(rule, time):

@@ -9,7 +9,7 @@ import time
 
 from aiohttp import web
 
-from . import backup, charts_http, configuration, metrics, names, prometheus_http, writes_http
+from . import alarms, backup, charts_http, configuration, metrics, names, prometheus_http, writes_http
 from .gateway import Gateway
 from .guard import EITHER, OPEN, READ, WRITE
 from .log import LogLines, tell
@@ -36,7 +36,8 @@ ROUTES = [
     ("POST", "/collectd", WRITE, writes_http.collectd),
     ("GET", "/ping", OPEN, writes_http.ping), ("HEAD", "/ping", OPEN, writes_http.ping),
     ("POST", "/query", EITHER, writes_http.query_1), ("GET", "/query", EITHER, writes_http.query_1),
-    ("GET", "/metrics", READ, metrics_of), ("GET", "/healthz", OPEN, health), ("POST", "/backup", WRITE, backup.answer),
+    ("GET", "/metrics", READ, metrics_of), ("GET", "/healthz", OPEN, health), ("GET", "/alarms", READ, alarms.listed),
+    ("POST", "/backup", WRITE, backup.answer),
     ("GET", "/chart/{name:.+}.{form:png|svg}", READ, charts_http.chart),
     *((method, f"/api/v1/{path}", READ, answer) for method in ("GET", "POST") for path, answer in (
         ("query", prometheus_http.query), ("query_range", prometheus_http.query_range), ("series", prometheus_http.series),
@@ -104,7 +105,7 @@ def answering(gateway, path, kind, answer):
 
 
 # What waits for no other answer.
-LIGHT = {answer for _, _, kind, answer in ROUTES if kind != READ} | {metrics_of, prometheus_http.build_info}
+LIGHT = {answer for _, _, kind, answer in ROUTES if kind != READ} | {metrics_of, alarms.listed, prometheus_http.build_info}
 
 
 def application(gateway, doors):

@@ -1,6 +1,7 @@
 """The stores of a gateway: which series there are, in which store each is, and how new series and new stores are made."""
 import asyncio
 import fcntl
+import itertools
 import os
 
 from .. import store_file
@@ -10,10 +11,12 @@ from ..unfit import Unfit
 from . import child
 from .labels import NAME, text_of
 from .log import tell
-from .names import Names, sync_folder
+from .names import Names
+from .replacing import sync_folder
 from .rules import grid_for, rule_for
 
 MOST_SERIES = 512  # of a store
+START_SECONDS = 30  # until a run that is started again stands
 MOST_LABELS = 4000  # bytes of a series' labels
 FULL, EXISTS, TOO_MANY = 21, 9, 10  # refusals
 
@@ -47,8 +50,8 @@ class NoRoom(Exception):
 class Stores:
     """All stores, and all series by their labels."""
 
-    def __init__(self, configuration):
-        self.given, self.rules = configuration.stores, configuration.series
+    def __init__(self, configuration, counts):
+        self.given, self.rules, self.counts = configuration.stores, configuration.series, counts
         self.names = None
         self.keepers, self.full = [], set()
         self.by_key, self.by_name, self.inner = {}, {}, {}
@@ -119,7 +122,7 @@ class Stores:
                     refused[key] = str(why)
             pairs = [(key, measurement) for key, measurement, _ in wanted if key in grids]
             await asyncio.to_thread(self.names.add, pairs, self.inner.__contains__)
-            await self._create({key: grid for key, grid in grids.items() if key not in self.by_key})
+            await self._create(grids)
             return refused
 
     async def claim(self, pairs):
@@ -128,22 +131,28 @@ class Stores:
             await asyncio.to_thread(self.names.add, pairs, self.inner.__contains__)
 
     async def _create(self, grids):
-        while grids:
-            keeper = await self._keeper_with_room()
-            room = MOST_SERIES - self.count(keeper)
-            part = dict(list(grids.items())[:room])
-            await self._create_in(keeper, part)
-            grids = {key: grid for key, grid in grids.items() if key not in self.by_key}
+        # A run that is started again may have made some of them, which it lists then: so none is made twice.
+        await asyncio.gather(*(asyncio.wait_for(keeper.is_up.wait(), START_SECONDS) for keeper in self.keepers))
+        while grids := {key: grid for key, grid in grids.items() if key not in self.by_key}:
+            keepers = await self._keepers_with_room()
+            # Spread over all of them, since stores that are written side by side take less time than one.
+            share, left = -(-len(grids) // len(keepers)), iter(grids.items())
+            parts = [dict(itertools.islice(left, min(share, MOST_SERIES - self.count(keeper)))) for keeper in keepers]
+            works = [self._create_in(keeper, part) for keeper, part in zip(keepers, parts) if part]
+            for why in await asyncio.gather(*works, return_exceptions=True):
+                if why:
+                    raise why
 
     def count(self, keeper):
         return sum(known.keeper is keeper for known in self.by_key.values())
 
-    async def _keeper_with_room(self):
+    async def _keepers_with_room(self):
+        """The stores that have room for a series, those with the fewest first."""
         if unknown := [keeper.path for keeper in self.keepers if keeper.series is None]:
             raise NoRoom(f"it isn't known which series {unknown[0]} has, so no series is made")
-        for keeper in self.keepers:
-            if not keeper.down and keeper not in self.full and self.count(keeper) < MOST_SERIES:
-                return keeper
+        counts = {keeper: self.count(keeper) for keeper in self.keepers if not keeper.down and keeper not in self.full}
+        if found := sorted((keeper for keeper, count in counts.items() if count < MOST_SERIES), key=counts.get):
+            return found
         if down := [keeper.path for keeper in self.keepers if keeper.down]:
             raise NoRoom(f"{down[0]} is given up, and no further store is made beside it")
         if len(self.keepers) >= self.given.most:
@@ -151,7 +160,7 @@ class Stores:
         name = next(name for at in range(2, 10**4) if not os.path.exists(self._path(name := self._further(at))))
         await self._make_file(name)
         await self._open(name)
-        return self.keepers[-1]
+        return self.keepers[-1:]
 
     async def _create_in(self, keeper, grids):
         """Makes series in one store. One that was made by a turn whose answer got lost is there already, and is as good."""
@@ -169,6 +178,7 @@ class Stores:
             if record is None or refusal and refusal.number != EXISTS:
                 raise NoRoom(f"{text_of(key)} can't be made: {frame.hex()}")
             self._take(Known(key, keeper, record))
+            self.counts.add("made_series_total")
             tell("a series is made", path=keeper.path, name=names[key], series=text_of(key), step=record.step, scale=record.scale)
 
 

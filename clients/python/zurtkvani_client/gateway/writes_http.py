@@ -5,7 +5,7 @@ import time
 from aiohttp import web
 
 from . import bodies, child, collectd_points, csv_points, remote_write
-from .intake import Busy, Outcome
+from .intake import Busy, Outcome, parts_of
 from .labels import NAME, key_of
 from .line_protocol import PRECISIONS
 from .stores import NoRoom
@@ -22,11 +22,11 @@ class Failed(Exception):
         super().__init__(words)
 
 
-async def take(gateway, points, outcome):
-    """Stores points. Raises Failed where the request may be sent again as it is."""
+async def take(gateway, parts, outcome):
+    """Stores the points of parts. Raises Failed where the request may be sent again as it is."""
     try:
         gateway.intake.require_room()
-        await gateway.intake.take(points, outcome)
+        await gateway.intake.take(parts, outcome)
     except Busy as why:
         raise Failed(str(why), 1) from None
     except NoRoom as why:
@@ -59,7 +59,7 @@ async def influx(gateway, request, database, answer):
         body = await bodies.read(request, gateway.given.limits)
         with gateway.budget.hold(len(body)):
             try:
-                await take(gateway, gateway.line_reader.points(body, database, precision, time.time_ns(), outcome), outcome)
+                await take(gateway, gateway.line_reader.parts(body, database, precision, time.time_ns(), outcome), outcome)
             except Failed as why:
                 return answer(503, why.words, **{"Retry-After": str(why.seconds)})
     told = "\n".join(outcome.errors)
@@ -116,7 +116,7 @@ async def remote(gateway, request):
         message = unpacked(gateway.snappy, packed, gateway.given.limits.unpacked)
         with gateway.budget.hold(len(message)):
             try:
-                await take(gateway, remote_write.points(message, outcome), outcome)
+                await take(gateway, parts_of(remote_write.points(message, outcome)), outcome)
             except remote_write.Bad as why:
                 raise web.HTTPBadRequest(text=f"the message isn't a WriteRequest: {why}\n") from None
             except Failed as why:
@@ -149,7 +149,8 @@ async def csv(gateway, request):
         with gateway.budget.hold(len(body)):
             text = decoded(body)
             try:
-                await take(gateway, csv_points.points(text, key_of({**labels, NAME: name}), precision, outcome), outcome)
+                points = csv_points.points(text, key_of({**labels, NAME: name}), precision, outcome)
+                await take(gateway, parts_of(points), outcome)
             except Failed as why:
                 return json_answer(503, {"error": why.words}, **{"Retry-After": str(why.seconds)})
     told = {"taken": outcome.taken, "left_out": outcome.left_out, "dropped": outcome.dropped + outcome.bad}
@@ -164,7 +165,7 @@ async def collectd(gateway, request):
     with gateway.budget.hold(request.content_length or gateway.given.limits.body):
         body = await bodies.read(request, gateway.given.limits)
         try:
-            await take(gateway, collectd_points.points(body, outcome), outcome)
+            await take(gateway, parts_of(collectd_points.points(body, outcome)), outcome)
         except Failed as why:
             return json_answer(503, {"error": why.words}, **{"Retry-After": str(why.seconds)})
     if outcome.errors or outcome.dropped:

@@ -2,9 +2,8 @@
 import asyncio
 import time
 
-from .. import frames
 from ..run import IN_FLIGHT
-from ..set_lines import SetLines
+from ..set_lines import lines_by_slots
 from . import child
 from .log import tell
 from .stores import FULL
@@ -37,19 +36,15 @@ class Batch:
     def lines(self):
         """Pairs of a series and a line that stores up to 256 slots of it which follow each other."""
         for known, values in self.values.items():
-            lines, record = SetLines(known.name, known.record.step), known.record
-            for slot in sorted(values):
-                if line := lines.add(record.start + slot * record.step, values[slot]):
-                    yield known, line
-            if line := lines.line():
+            for line in lines_by_slots(known.name, known.record.start, known.record.step, values):
                 yield known, line
 
 
 class Writer:
     """Stores the batches of one store, one after the other."""
 
-    def __init__(self, keeper, counts, full):
-        self.keeper, self.counts, self.full = keeper, counts, full
+    def __init__(self, keeper, counts, full, on_stored):
+        self.keeper, self.counts, self.full, self.on_stored = keeper, counts, full, on_stored
         self.batch, self.working, self.task = None, None, None
         self.progress = time.monotonic()  # when the last turn was answered, or began where none waited
 
@@ -72,7 +67,9 @@ class Writer:
         while self.batch:
             self.working, self.batch = self.batch, None
             try:
-                self.working.done.set_result(await self._store(self.working))
+                refused = await self._store(self.working)
+                await self.on_stored({known: values for known, values in self.working.values.items() if known not in refused})
+                self.working.done.set_result(refused)
             except Exception as why:  # whoever waits is told, and the next batch is begun all the same
                 self.working.done.set_exception(why)
             self.working = None
@@ -97,13 +94,13 @@ class Writer:
         self.counts.add("turns_total")
         self.counts.add("turn_seconds_total", time.monotonic() - begun)
         for answer, (known, _) in zip(answers, pairs):
-            told = child.done_or_refused(answer)
-            if isinstance(told, frames.Refused):
-                refused[known] = told
-                if told.number == FULL:
+            slots = child.slots_of(answer)
+            if slots is None:
+                refused[known] = child.done_or_refused(answer)
+                if refused[known].number == FULL:
                     self.full.add(self.keeper)
             else:
-                known.slots = told.slots
+                known.slots = slots
 
     async def _ask(self, lines):
         """A `set` that is sent again stores what it stored before, so a turn that got lost is asked anew of the next run."""

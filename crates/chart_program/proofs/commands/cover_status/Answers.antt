@@ -2,9 +2,9 @@ use Rattle.std.proofs.Common.{Some, sym, subst}
 use Rattle.chart_world.specs.Faults.{CountsFault}
 use Rattle.run_ends.specs.Statuses.{code_of, place_of}
 use Rattle.run_ends.specs.declared.ending.End.{End}
+use Rattle.run_ends.specs.Faults.{end_fault}
 use Rattle.run_ends.specs.declared.status.Status.{Status}
 use Rattle.store_commands.specs.Faulting.{counts_end}
-use Rattle.store_commands.specs.Status.{end_fault}
 use Rattle.program_words.specs.declared.words.Command.TheVariants.{Cover}
 use Rattle.chart_program.specs.Served.{faults_of}
 use Rattle.chart_program.specs.Ran.{CommandEnds}

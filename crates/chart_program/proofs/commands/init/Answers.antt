@@ -4,10 +4,10 @@ use Rattle.chart_world.specs.Faults.{CountsFault}
 use Rattle.chart_world.specs.FaultLaws.{counts_no_disk}
 use Rattle.run_ends.specs.Statuses.{code_of}
 use Rattle.run_ends.specs.declared.ending.End.{End}
+use Rattle.run_ends.specs.Faults.{end_fault}
 use Rattle.run_ends.specs.declared.ending.End.TheVariants.{Done, NoMemory}
 use Rattle.store_commands.proofs.TurnedAway.{away_never}
 use Rattle.store_commands.specs.Away.{IsTurnedAway}
-use Rattle.store_commands.specs.Status.{end_fault}
 use Rattle.chart_program.specs.Ran.{IsInitEnd}
 use Rattle.chart_program.proofs.InitEnds.{away_unmade, caused, counts_unmade, unmade_ready}
 use Rattle.chart_program.proofs.commands.init.Goals as goal

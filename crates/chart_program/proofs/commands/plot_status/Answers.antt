@@ -2,9 +2,9 @@ use Rattle.std.proofs.Common.{sym, subst}
 use Rattle.chart_world.specs.Faults.{CountsFault, fault_in}
 use Rattle.run_ends.specs.Statuses.{code_of, place_of}
 use Rattle.run_ends.specs.declared.ending.End.{End}
+use Rattle.run_ends.specs.Faults.{end_fault}
 use Rattle.run_ends.specs.declared.status.Status.{Status}
 use Rattle.store_commands.specs.Faulting.{counts_end, counts_told}
-use Rattle.store_commands.specs.Status.{end_fault}
 use Rattle.program_words.specs.declared.words.Command.TheVariants.{Plot}
 use Rattle.chart_program.specs.Faulting.{plot_fault}
 use Rattle.chart_program.specs.Plotted.{plotting_end}

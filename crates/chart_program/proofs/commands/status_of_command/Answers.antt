@@ -9,6 +9,8 @@ use Rattle.chart_program.specs.Commands.{Does}
 use Rattle.chart_program.specs.Course.{course}
 use Rattle.chart_program.specs.Ran.{CommandEnds}
 use Rattle.chart_program.proofs.DerivePage.{of_derive}
+use Rattle.chart_program.proofs.LivePage.{of_live}
+use Rattle.chart_program.proofs.RetainPage.{of_retain}
 use Rattle.chart_program.proofs.StorePages.{of_check, of_demo, of_export, of_init, of_list}
 use Rattle.chart_program.proofs.CommandsEnd.{load_ends, run_ends, serve_ends}
 use Rattle.chart_program.proofs.InitEnds.{init_ends}
@@ -204,11 +206,18 @@ returns-in-Retain-clause-ends g c =
     let reads = g.W.Streams.read_faults in
     let sends = g.W.Streams.send_faults in
     let old = c.args.world in
-    let new = c.retain.result.1 in
-    let status = c.retain.result.0 in
+    let new = c.retain-end.result.1 in
+    let end = c.retain-end.result.0 in
+    let e = c.retain-end.ensures in
     let faults = faults_of (reads old) (reads new) (sends old) (sends new) in
-    let P : Command → Type 0 = λ command. CommandEnds command (view old) (view new) (left old) (left new) (sent old) (sent new) faults status.code status.place in
-    subst P (sym c.in-Retain.is) (retain_ends (view old) (view new) (left old) (left new) (sent old) (sent new) faults status.code status.place c.retain.ensures.ends c.retain.ensures.away)
+    let P : Command → Type 0 = λ command. CommandEnds command (view old) (view new) (left old) (left new) (sent old) (sent new) faults (code_of end) (place_of end) in
+    let S : Status → Type 0 = λ s. CommandEnds c.args.command (view old) (view new) (left old) (left new) (sent old) (sent new) faults s.code s.place in
+    subst S (sym c.status_of-in-Retain.ensures.status)
+    (subst P (sym c.in-Retain.is) (retain_ends (view old) (view new) (left old) (left new) (sent old) (sent new) faults end e.ends e.away))
+
+pub returns-in-Retain-clause-faults : goal.returns-in-Retain-clause-faults
+returns-in-Retain-clause-faults g c =
+    counts_end c.retain-end.result.0 c.status_of-in-Retain.result (g.W.Disk.view c.args.world) (g.W.Disk.view c.retain-end.result.1) c.status_of-in-Retain.ensures.status c.retain-end.ensures.faults
 
 pub returns-in-Cover-clause-ends : goal.returns-in-Cover-clause-ends
 returns-in-Cover-clause-ends g c =
@@ -232,11 +241,18 @@ returns-in-Live-clause-ends g c =
     let reads = g.W.Streams.read_faults in
     let sends = g.W.Streams.send_faults in
     let old = c.args.world in
-    let new = c.live.result.1 in
-    let status = c.live.result.0 in
+    let new = c.live-end.result.1 in
+    let end = c.live-end.result.0 in
+    let e = c.live-end.ensures in
     let faults = faults_of (reads old) (reads new) (sends old) (sends new) in
-    let P : Command → Type 0 = λ command. CommandEnds command (view old) (view new) (left old) (left new) (sent old) (sent new) faults status.code status.place in
-    subst P (sym c.in-Live.is) (live_ends (view old) (view new) (left old) (left new) (sent old) (sent new) faults status.code status.place c.live.ensures.ends c.live.ensures.away c.live.ensures.reads c.live.ensures.syncs)
+    let P : Command → Type 0 = λ command. CommandEnds command (view old) (view new) (left old) (left new) (sent old) (sent new) faults (code_of end) (place_of end) in
+    let S : Status → Type 0 = λ s. CommandEnds c.args.command (view old) (view new) (left old) (left new) (sent old) (sent new) faults s.code s.place in
+    subst S (sym c.status_of-in-Live.ensures.status)
+    (subst P (sym c.in-Live.is) (live_ends (view old) (view new) (left old) (left new) (sent old) (sent new) faults end e.ends e.away e.reads e.syncs))
+
+pub returns-in-Live-clause-faults : goal.returns-in-Live-clause-faults
+returns-in-Live-clause-faults g c =
+    counts_end c.live-end.result.0 c.status_of-in-Live.result (g.W.Disk.view c.args.world) (g.W.Disk.view c.live-end.result.1) c.status_of-in-Live.ensures.status c.live-end.ensures.faults
 
 pub returns-in-Derive-clause-ends : goal.returns-in-Derive-clause-ends
 returns-in-Derive-clause-ends g c =
@@ -339,15 +355,27 @@ returns-in-Serve-clause-does g c =
 
 pub returns-in-Retain-clause-does : goal.returns-in-Retain-clause-does
 returns-in-Retain-clause-does g c =
-    let at = course g.W.Disk.view g.W.Streams.left g.W.Streams.sent c.args.world c.retain.result.1 in
-    let P : Command → Type 0 = λ command. Does command at c.retain.result.0 in
-    subst P (sym c.in-Retain.is) tt
+    let view = g.W.Disk.view in
+    let s = g.W.Streams in
+    let old = c.args.world in
+    let new = c.retain-end.result.1 in
+    let P : Command → Type 0 = λ command. Does command (course view s.left s.sent old new) c.status_of-in-Retain.result in
+    let end = c.retain-end.result.0 in
+    let e = c.retain-end.ensures in
+    let did = of_retain (view old) (view new) (traffic s.left s.sent s.read_faults s.send_faults old new) end e.ends e.away in
+    subst P (sym c.in-Retain.is) (end, c.status_of-in-Retain.ensures.status, did)
 
 pub returns-in-Live-clause-does : goal.returns-in-Live-clause-does
 returns-in-Live-clause-does g c =
-    let at = course g.W.Disk.view g.W.Streams.left g.W.Streams.sent c.args.world c.live.result.1 in
-    let P : Command → Type 0 = λ command. Does command at c.live.result.0 in
-    subst P (sym c.in-Live.is) tt
+    let view = g.W.Disk.view in
+    let s = g.W.Streams in
+    let old = c.args.world in
+    let new = c.live-end.result.1 in
+    let P : Command → Type 0 = λ command. Does command (course view s.left s.sent old new) c.status_of-in-Live.result in
+    let end = c.live-end.result.0 in
+    let e = c.live-end.ensures in
+    let did = of_live (view old) (view new) (traffic s.left s.sent s.read_faults s.send_faults old new) end e.ends e.away e.reads e.syncs in
+    subst P (sym c.in-Live.is) (end, c.status_of-in-Live.ensures.status, did)
 
 pub returns-in-Derive-clause-does : goal.returns-in-Derive-clause-does
 returns-in-Derive-clause-does g c =

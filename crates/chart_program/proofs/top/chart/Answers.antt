@@ -11,7 +11,7 @@ use Rattle.chart_program.proofs.Parsing.{told_good, replies_good, covers_book}
 use Rattle.chart_program.proofs.Codes.{told_both}
 use Rattle.chart_program.proofs.Words.{of_command, with_operands, chart_codes, streams, one_init, one_draw, completes, covers_complete, good_never, wrong_never, wrong_end}
 use Rattle.chart_program.proofs.OneCommand.{by_words}
-use Rattle.program_words.specs.declared.words.Command.TheVariants.{Check, Cover, Demo, Derive, Draw, Export, Init, ListSeries, Plot}
+use Rattle.program_words.specs.declared.words.Command.TheVariants.{Check, Cover, Demo, Derive, Draw, Export, Init, ListSeries, Live, Plot, Retain}
 use Rattle.chart_program.proofs.top.chart.Goals as goal
 
 pub returns-in-Err-NoMemory-clause-codes : goal.returns-in-Err-NoMemory-clause-codes
@@ -607,3 +607,21 @@ returns-in-Err-Wrong-clause-derive g c = λ own. absurd (wrong_never c.in-Err-Wr
 
 pub returns-in-Err-NoMemory-clause-derive : goal.returns-in-Err-NoMemory-clause-derive
 returns-in-Err-NoMemory-clause-derive g c = λ own. inl (c.status_of-in-Err-NoMemory.ensures.code, refl)
+
+pub returns-in-Ok-clause-retain : goal.returns-in-Ok-clause-retain
+returns-in-Ok-clause-retain g c = λ own. inr (by_words c.in-Ok.command Retain _ _ _ c.in-Ok.ensures.command own.1 c.status_of_command.ensures.does)
+
+pub returns-in-Err-Wrong-clause-retain : goal.returns-in-Err-Wrong-clause-retain
+returns-in-Err-Wrong-clause-retain g c = λ own. absurd (wrong_never c.in-Err-Wrong.place _ Retain own.0 own.1 (wrong_end c.in-Err-Wrong.field-0 c.in-Err-Wrong.place _ c.in-Err-Wrong.field-0-is c.in-Err-Wrong.ensures.wrong))
+
+pub returns-in-Err-NoMemory-clause-retain : goal.returns-in-Err-NoMemory-clause-retain
+returns-in-Err-NoMemory-clause-retain g c = λ own. inl (c.status_of-in-Err-NoMemory.ensures.code, refl)
+
+pub returns-in-Ok-clause-live : goal.returns-in-Ok-clause-live
+returns-in-Ok-clause-live g c = λ own. inr (by_words c.in-Ok.command Live _ _ _ c.in-Ok.ensures.command own.1 c.status_of_command.ensures.does)
+
+pub returns-in-Err-Wrong-clause-live : goal.returns-in-Err-Wrong-clause-live
+returns-in-Err-Wrong-clause-live g c = λ own. absurd (wrong_never c.in-Err-Wrong.place _ Live own.0 own.1 (wrong_end c.in-Err-Wrong.field-0 c.in-Err-Wrong.place _ c.in-Err-Wrong.field-0-is c.in-Err-Wrong.ensures.wrong))
+
+pub returns-in-Err-NoMemory-clause-live : goal.returns-in-Err-NoMemory-clause-live
+returns-in-Err-NoMemory-clause-live g c = λ own. inl (c.status_of-in-Err-NoMemory.ensures.code, refl)

@@ -3,6 +3,7 @@ use Rattle.block_disk.specs.View.{Beside}
 use Rattle.chart_world.specs.FaultLaws.{counts_then}
 use Rattle.chart_world.specs.Faults.{CountsFault, fault_in}
 use Rattle.line_raster.specs.Canvas.{Canvas}
+use Rattle.run_ends.specs.Faults.{end_fault}
 use Rattle.run_ends.specs.declared.ending.End.{End}
 use Rattle.page_space.specs.declared.superblock.Superblock.{Superblock}
 use Rattle.pbm_writer.specs.Picture.{picture}
@@ -13,7 +14,6 @@ use Rattle.derive_command.specs.WorkLaws.{goes_further}
 use Rattle.derive_command.proofs.DoingLemmas.{causes_later, chart_cause, chart_fault, goes_looks, goes_sends, request_drawn, request_refused, request_undrawn, sent_cause}
 use Rattle.store_commands.specs.Faulting.{counts_told}
 use Rattle.store_commands.specs.Sides.{AreBeside, side_of}
-use Rattle.store_commands.specs.Status.{end_fault}
 use Rattle.derive_command.specs.Doing.{end_at}
 use Rattle.derive_command.proofs.answering.answer_request.Goals as goal
 

@@ -1,19 +1,18 @@
-use Rattle.std.proofs.Common.{◌∙◌, ap, subst, sym, arith}
-use Rattle.block_disk.specs.View.{Beside}
+use Rattle.std.proofs.Common.{ap, subst, sym, arith}
 use Rattle.chart_world.specs.FaultLaws.{counts_no_disk, counts_then}
 use Rattle.chart_world.specs.Faults.{CountsFault}
 use Rattle.gate_pages.specs.GatePages.{IsClosed}
 use Rattle.run_ends.specs.Statuses.{status_of}
+use Rattle.run_ends.specs.Faults.{end_fault}
 use Rattle.run_ends.specs.declared.ending.End.{End}
 use Rattle.series_store.specs.Shown as shown
 use Rattle.store_commands.proofs.Held.{rests_new}
 use Rattle.store_commands.proofs.TurnedAway.{away_never}
-use Rattle.store_commands.proofs.WorldLemmas.{away_over, unopened_over}
+use Rattle.store_commands.proofs.WorldLemmas.{away_over, traffic_over, unopened_over}
 use Rattle.store_commands.specs.Faulting.{counts_unopened_end}
-use Rattle.store_commands.specs.Status.{end_fault}
 use Rattle.store_commands.specs.Traffic.{Traffic, traffic}
 use Rattle.derive_command.specs.Derived.{DeriveEnds}
-use Rattle.derive_command.proofs.DiskLemmas.{derived_by, traffic_from, unopened_ends}
+use Rattle.derive_command.proofs.DiskLemmas.{derived_by, unopened_ends}
 use Rattle.derive_command.proofs.command.derive.Goals as goal
 
 pub returns-in-Ok-clause-ends : goal.returns-in-Ok-clause-ends
@@ -39,12 +38,7 @@ returns-in-Ok-clause-ends g c =
     let all = derived_by pages.count end_pages.count pages.sound end_pages.sound (view first) (view old) (view new) (shown.total before) (shown.total after) t made.goes
     (rests_new pages.count (view old) (shown.numbers before) (pages.at_rest opened.sound) (before.space.spelled opened.sound)) closed (omega (arith, before.space.rules.total_high)) opened.count opened.opens opened.quiet
     c.draw_lines-end.result made.within made.cause made.ends in
-    let beside = opened.opens.beside_is in
-    let same = traffic_from t (left first) (sent first) (reads first) (sends first)
-    (sym (w.beside_left old) ∙ ap (λ (b : Beside). b.left) beside ∙ w.beside_left first)
-    (sym (w.beside_sent old) ∙ ap (λ (b : Beside). b.sent) beside ∙ w.beside_sent first)
-    (sym (w.beside_read_faults old) ∙ ap (λ (b : Beside). b.read_faults) beside ∙ w.beside_read_faults first)
-    (sym (w.beside_send_faults old) ∙ ap (λ (b : Beside). b.send_faults) beside ∙ w.beside_send_faults first) in
+    let same = traffic_over view left sent reads sends w.beside_left w.beside_sent w.beside_read_faults w.beside_send_faults first old new opened.opens.beside_is in
     let T : Traffic → Type 0 = λ x. DeriveEnds (view first) (view new) x c.draw_lines-end.result in
     let D : g.row.W.Denot → Type 0 = λ d. DeriveEnds (view first) (view d) (traffic left sent reads sends first d) c.draw_lines-end.result in
     subst D (sym c.disk_of.ensures.disk) (subst T same all)

@@ -1,14 +1,15 @@
 use Rattle.std.proofs.Common.{◌≡◌, ◌≢◌, ◌≤◌, ◌^◌, IfSome, length, sym, subst}
 use Rattle.chart_world.specs.Faults.{CountsFault}
+use Rattle.line_runs.specs.EndLaws.{came_to_end, end_cause, same_fault}
+use Rattle.run_ends.specs.Faults.{end_fault}
 use Rattle.run_ends.specs.declared.ending.End.{End}
 use Rattle.run_ends.specs.declared.ending.End.TheVariants.{Done}
 use Rattle.series_store.specs.Shown as shown
 use Rattle.store_commands.specs.Sides.{side_of}
 use Rattle.derive_command.specs.Doing.{IsCause}
 use Rattle.derive_command.specs.Shown.{EndsOn}
-use Rattle.derive_command.specs.WorkLaws.{besides}
 use Rattle.derive_command.specs.Working.{StandFor}
-use Rattle.derive_command.proofs.RunLemmas.{end_faults, ends_cause, ends_told, ends_within, none_told}
+use Rattle.derive_command.proofs.RunLemmas.{ends_told, none_told}
 use Rattle.derive_command.proofs.drawing.draw_lines.Goals as goal
 
 pub returns-in_default-clause-ends : goal.returns-in_default-clause-ends
@@ -24,7 +25,7 @@ returns-clause-ends g c = λ total book told stands.
     let new = c.run_lines-answer.new.from in
     let e = c.run_lines-answer.ensures in
     let E : End → Type 0 = λ end. EndsOn g.P.Streams book c.args.store.now new end in
-    subst E (sym c.end_of.ensures)
+    subst E (sym c.run_end.ensures)
     (ends_told book (λ b. StandFor (shown.IsTold new) (shown.image new) b) (left pages) (left (shown.pages new)) (sent pages) (sent (shown.pages new))
     (g.P.Streams.pieces pages) (g.P.Streams.pieces (shown.pages new)) c.run_lines-answer.result
     (e.done book (told, (total, stands))) (e.stops book (told, (total, stands))))
@@ -35,7 +36,7 @@ returns-clause-within g c =
     let side = side_of g.P.Streams in
     let e = c.run_lines-answer.ensures in
     let W : End → Type 0 = λ end. end ≡ Done → IfSome (g.P.Streams.left pages) (λ input. length input ≤ 2 ^ 32) in
-    subst W (sym c.end_of.ensures) (ends_within side c.args.store.now c.run_lines-answer.new.from (g.P.Streams.left pages) c.run_lines-answer.result e.within e.cause)
+    subst W (sym c.run_end.ensures) (came_to_end (λ end s s'. IsCause end (side s) (side s')) c.args.store.now c.run_lines-answer.new.from c.run_lines-answer.result (λ none. none) e.within e.cause)
 
 pub returns-clause-cause : goal.returns-clause-cause
 returns-clause-cause g c =
@@ -45,14 +46,14 @@ returns-clause-cause g c =
     let new = c.run_lines-answer.new.from in
     let e = c.run_lines-answer.ensures in
     let C : End → Type 0 = λ end. end ≢ Done → IsCause end (side old) (side new) in
-    subst C (sym c.end_of.ensures)
-    (ends_cause side old new c.run_lines-answer.result (besides (w.beside_read_faults (shown.pages old)) (w.beside_send_faults (shown.pages old)))
-    (besides (w.beside_read_faults (shown.pages new)) (w.beside_send_faults (shown.pages new))) e.faults e.cause)
+    subst C (sym c.run_end.ensures)
+    (end_cause (λ s. shown.view s) (λ s. g.P.Streams.read_faults (shown.pages s)) (λ s. w.beside_read_faults (shown.pages s))
+    (λ end s s'. IsCause end (side s) (side s')) old new c.run_lines-answer.result (λ risen. risen) tt e.faults e.cause)
 
 pub returns-clause-faults : goal.returns-clause-faults
 returns-clause-faults g c =
     let old = shown.view c.args.store.now in
     let new = shown.view c.run_lines-answer.new.from in
     let F : _ → Type 0 = λ fault. CountsFault fault old new in
-    let E : End → Type 0 = λ end. CountsFault (Rattle.store_commands.specs.Status.end_fault end) old new in
-    subst E (sym c.end_of.ensures) (subst F (sym (end_faults c.run_lines-answer.result)) c.run_lines-answer.ensures.faults)
+    let E : End → Type 0 = λ end. CountsFault (end_fault end) old new in
+    subst E (sym c.run_end.ensures) (subst F (sym (same_fault c.run_lines-answer.result)) c.run_lines-answer.ensures.faults)

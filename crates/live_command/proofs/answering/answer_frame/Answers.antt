@@ -16,7 +16,7 @@ use Rattle.live_command.proofs.EventLemmas.{by_answer, reads_answer, sound_repli
 use Rattle.live_command.proofs.GoesLemmas.{held_same}
 use Rattle.live_command.proofs.LineLemmas.{frame_does, line_read, made_moments, nothing_with, unmade_does}
 use Rattle.chart_world.specs.FaultLaws.{counts_then}
-use Rattle.chart_service.specs.Faulting.{serve_fault}
+use Rattle.run_ends.specs.Faults.{end_fault}
 use Rattle.chart_world.specs.Faults.{fault_in}
 use Rattle.live_command.proofs.FaultLemmas.{unmade_counts}
 use Rattle.live_command.proofs.answering.answer_frame.Goals as goal
@@ -73,7 +73,7 @@ returns-in-Err-clause-does g c = λ total book told stands sound.
     by_answer (Some text) f state after c.requires.idle (subst L (text_is text c.requires.short) replied) in
     let passes = e.moments total book told stands in
     let R : Option (List ℕ) → Type 0 = λ l. ReadsLine l state.state (view at).reads (view between).reads in
-    unmade_does (Some text ∷ []) total state (held_by mid) (view at) (view between) (sent at) (sent between) c.in-Err.error c.end_of_step.result c.end_of_step.ensures (e.standing total book told stands)
+    unmade_does (Some text ∷ []) total state (held_by mid) (view at) (view between) (sent at) (sent between) c.in-Err.error c.step_end.result c.step_end.ensures (e.standing total book told stands)
     (nothing_with c.in-Err.error _ (view at) (view between) total book told e.unchanged stands)
     (sym (w.beside_sent between) ∙ ap (λ (b : Beside). b.sent) e.steps.beside ∙ w.beside_sent at)
     (made_moments (Some text ∷ []) total state Reply one (view at) (view between) passes)
@@ -106,9 +106,9 @@ returns-in-Err-clause-syncs g c =
 pub returns-in-Ok-clause-faults : goal.returns-in-Ok-clause-faults
 returns-in-Ok-clause-faults g c =
     let view = g.P.Pages.view in
-    counts_then (fault_in serve_fault c.send_frame.result) (view (pages c.args.live.now)) (view (pages c.step_line.new.live)) (view (pages c.send_frame.new.live)) c.in-Ok.ensures.faults c.send_frame.ensures.faults
+    counts_then (fault_in end_fault c.send_frame.result) (view (pages c.args.live.now)) (view (pages c.step_line.new.live)) (view (pages c.send_frame.new.live)) c.in-Ok.ensures.faults c.send_frame.ensures.faults
 
 pub returns-in-Err-clause-faults : goal.returns-in-Err-clause-faults
 returns-in-Err-clause-faults g c =
     let view = g.P.Pages.view in
-    unmade_counts c.in-Err.error c.end_of_step.result (view (pages c.args.live.now)) (view (pages c.step_line.new.live)) c.end_of_step.ensures c.in-Err.ensures.faults
+    unmade_counts c.in-Err.error c.step_end.result (view (pages c.args.live.now)) (view (pages c.step_line.new.live)) c.step_end.ensures c.in-Err.ensures.faults

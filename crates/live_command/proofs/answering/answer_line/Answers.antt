@@ -7,7 +7,7 @@ use Rattle.live_command.specs.Doing.{held_by, held_with}
 use Rattle.live_command.specs.Shown.{pages}
 use Rattle.live_command.proofs.LineLemmas.{line_empty, line_some, then_does}
 use Rattle.chart_world.specs.FaultLaws.{counts_then}
-use Rattle.chart_service.specs.Faulting.{serve_fault}
+use Rattle.run_ends.specs.Faults.{end_fault}
 use Rattle.chart_world.specs.Faults.{fault_in}
 use Rattle.live_command.proofs.answering.answer_line.Goals as goal
 
@@ -64,4 +64,4 @@ returns-in-Err-clause-syncs g c =
 pub returns-in-Ok-clause-faults : goal.returns-in-Ok-clause-faults
 returns-in-Ok-clause-faults g c =
     let view = g.P.Pages.view in
-    counts_then (fault_in serve_fault c.send_pushes.result) (view (pages c.args.live.now)) (view (pages c.answer_frame.new.live)) (view (pages c.send_pushes.new.live)) c.in-Ok.ensures.faults c.send_pushes.ensures.faults
+    counts_then (fault_in end_fault c.send_pushes.result) (view (pages c.args.live.now)) (view (pages c.answer_frame.new.live)) (view (pages c.send_pushes.new.live)) c.in-Ok.ensures.faults c.send_pushes.ensures.faults

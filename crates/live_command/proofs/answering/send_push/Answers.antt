@@ -12,7 +12,7 @@ use Rattle.live_command.proofs.EventLemmas.{by_push, reads_push, sound_pushed}
 use Rattle.live_command.proofs.GoesLemmas.{held_same}
 use Rattle.live_command.proofs.LineLemmas.{frame_does, nothing_pushed, of_frame, push_moments, push_read, unmade_does}
 use Rattle.chart_world.specs.FaultLaws.{counts_then}
-use Rattle.chart_service.specs.Faulting.{serve_fault}
+use Rattle.run_ends.specs.Faults.{end_fault}
 use Rattle.chart_world.specs.Faults.{fault_in}
 use Rattle.live_command.proofs.FaultLemmas.{unmade_counts}
 use Rattle.live_command.proofs.answering.send_push.Goals as goal
@@ -56,7 +56,7 @@ returns-in-Err-clause-does g c = λ total book told stands sound.
     let e = c.in-Err.ensures in
     let state = held_with total book (held_by old) in
     let there = let S : _ → Type 0 = λ i. Rattle.stored_book.specs.Standing.StandsForBook i total book in subst S (sym (e.unchanged.image told)) stands in
-    unmade_does [] total state (held_by mid) (view at) (view between) (sent at) (sent between) c.in-Err.error c.end_of_step.result c.end_of_step.ensures (e.standing total book told stands)
+    unmade_does [] total state (held_by mid) (view at) (view between) (sent at) (sent between) c.in-Err.error c.step_end.result c.step_end.ensures (e.standing total book told stands)
     (nothing_pushed c.in-Err.error (view between).image total book there)
     (sym (w.beside_sent between) ∙ ap (λ (b : Beside). b.sent) e.steps.beside ∙ w.beside_sent at)
     (push_moments [] total state (view at) (view between) (g.met.P.Pages.rests at c.requires.sound) stands e.moments)
@@ -73,9 +73,9 @@ returns-in-Err-clause-syncs g c = c.in-Err.ensures.unchanged.syncs
 pub returns-in-Ok-Some-clause-faults : goal.returns-in-Ok-Some-clause-faults
 returns-in-Ok-Some-clause-faults g c =
     let view = g.P.Pages.view in
-    counts_then (fault_in serve_fault c.send_frame.result) (view (pages c.args.live.now)) (view (pages c.push.new.live)) (view (pages c.send_frame.new.live)) c.in-Ok-Some.ensures.faults c.send_frame.ensures.faults
+    counts_then (fault_in end_fault c.send_frame.result) (view (pages c.args.live.now)) (view (pages c.push.new.live)) (view (pages c.send_frame.new.live)) c.in-Ok-Some.ensures.faults c.send_frame.ensures.faults
 
 pub returns-in-Err-clause-faults : goal.returns-in-Err-clause-faults
 returns-in-Err-clause-faults g c =
     let view = g.P.Pages.view in
-    unmade_counts c.in-Err.error c.end_of_step.result (view (pages c.args.live.now)) (view (pages c.push.new.live)) c.end_of_step.ensures c.in-Err.ensures.faults
+    unmade_counts c.in-Err.error c.step_end.result (view (pages c.args.live.now)) (view (pages c.push.new.live)) c.step_end.ensures c.in-Err.ensures.faults

@@ -1,17 +1,16 @@
-use Rattle.std.proofs.Common.{◌∙◌, ap, sym}
+use Rattle.std.proofs.Common.{◌∙◌, ap, subst, sym}
 use Rattle.block_disk.specs.View.{Beside}
+use Rattle.chart_world.specs.FaultLaws.{counts_no_disk, counts_then}
+use Rattle.run_ends.specs.Faults.{end_fault}
+use Rattle.run_ends.specs.Statuses.{status_of}
+use Rattle.run_ends.specs.declared.ending.End.{End}
 use Rattle.series_store.specs.Shown as stored
 use Rattle.store_commands.proofs.TurnedAway.{away_never}
-use Rattle.store_commands.proofs.WorldLemmas.{away_over, unopened_over}
-use Rattle.live_command.proofs.DiskLemmas.{reads_on, reads_unopened, served_on, syncs_on, syncs_unopened}
-use Rattle.live_command.proofs.StatusLemmas.{ends_by, unopened_ends}
-use Rattle.chart_service.specs.Faulting.{serve_fault}
-use Rattle.chart_world.specs.FaultLaws.{counts_no_disk, counts_then}
-use Rattle.chart_world.specs.Faults.{fault_in}
-use Rattle.store_commands.specs.Faulting.{counts_as, counts_told, counts_unopened}
-use Rattle.store_commands.specs.Status.{code_fault, opening_status}
-use Rattle.live_command.specs.Ending.{answer_status}
-use Rattle.live_command.proofs.FaultLemmas.{serve_fault_is}
+use Rattle.store_commands.proofs.WorldLemmas.{away_over, traffic_over, unopened_over}
+use Rattle.store_commands.specs.Faulting.{counts_unopened_end}
+use Rattle.store_commands.specs.Traffic.{Traffic, traffic}
+use Rattle.live_command.specs.Ended.{LiveEnds}
+use Rattle.live_command.proofs.DiskLemmas.{live_ends, reads_on, reads_unopened, syncs_on, syncs_unopened, unopened_ends}
 use Rattle.live_command.proofs.command.live.Goals as goal
 
 pub returns-in-Ok-clause-ends : goal.returns-in-Ok-clause-ends
@@ -21,30 +20,35 @@ returns-in-Ok-clause-ends g c =
     let sent = g.W.Streams.sent in
     let reads = g.W.Streams.read_faults in
     let sends = g.W.Streams.send_faults in
-    let old = c.args.world in
+    let w = g.met.W.World in
+    let first = c.args.world in
     let opened = stored.pages c.in-Ok.store in
     let start = opened.disk in
-    let new = c.serve_store-answer.result.1 in
-    let beside = c.in-Ok.ensures.opens.beside_is in
-    let w = g.met.W.World in
-    let s = served_on opened.count (view old) (view start) (view new) (left start) (left old) (left new) (sent start) (sent old) (sent new) (reads start) (reads old) (reads new) (sends start) (sends old) (sends new) c.serve_store-answer.result.0 c.in-Ok.ensures.count c.in-Ok.ensures.opens c.in-Ok.ensures.quiet
-    (sym (w.beside_left start) ∙ ap (λ (b : Beside). b.left) beside ∙ w.beside_left old)
-    (sym (w.beside_sent start) ∙ ap (λ (b : Beside). b.sent) beside ∙ w.beside_sent old)
-    (sym (w.beside_read_faults start) ∙ ap (λ (b : Beside). b.read_faults) beside ∙ w.beside_read_faults old)
-    (sym (w.beside_send_faults start) ∙ ap (λ (b : Beside). b.send_faults) beside ∙ w.beside_send_faults old)
-    c.serve_store-answer.ensures.serves in
-    ends_by (view old) (view new) (left old) (left new) (sent old) (sent new) (reads old) (reads new) (sends old) (sends new) c.serve_store-answer.result.0 c.answer_status.result c.answer_status.ensures s
+    let new = c.serve_store.result.1 in
+    let end = c.serve_store.result.0 in
+    let e = c.in-Ok.ensures in
+    let all = live_ends (view first) (view start) (view new) (traffic left sent reads sends start new) e.opens e.quiet opened.count end e.count c.serve_store.ensures.serves in
+    let same = traffic_over view left sent reads sends w.beside_left w.beside_sent w.beside_read_faults w.beside_send_faults first start new e.opens.beside_is in
+    let T : Traffic → Type 0 = λ t. LiveEnds (view first) (view new) t end in
+    subst T same all
 
 pub returns-in-Err-clause-ends : goal.returns-in-Err-clause-ends
 returns-in-Err-clause-ends g c =
-    unopened_ends _ _ _ _ _ _ (g.W.Streams.read_faults c.args.world) (g.W.Streams.read_faults c.in-Err.field-0.value) (g.W.Streams.send_faults c.args.world) (g.W.Streams.send_faults c.in-Err.field-0.value) c.in-Err.field-0.cause (unopened_over g.W.Disk.view g.W.Streams.left g.W.Streams.sent g.met.W.World.beside_left g.met.W.World.beside_sent c.args.world c.in-Err.field-0.value c.in-Err.field-0.cause c.in-Err.ensures.opens.beside_is c.in-Err.ensures.opens c.in-Err.ensures.cause c.in-Err.ensures.a_store) c.opening_status.result c.opening_status.ensures
+    let view = g.W.Disk.view in
+    let left = g.W.Streams.left in
+    let sent = g.W.Streams.sent in
+    let old = c.args.world in
+    let back = c.in-Err.field-0 in
+    let e = c.in-Err.ensures in
+    unopened_ends (view old) (view back.value) (traffic left sent g.W.Streams.read_faults g.W.Streams.send_faults old back.value) back.cause c.opening_end.result c.opening_end.ensures
+    (unopened_over view left sent g.met.W.World.beside_left g.met.W.World.beside_sent old back.value back.cause e.opens.beside_is e.opens e.cause e.a_store)
 
 pub returns-in-Ok-clause-away : goal.returns-in-Ok-clause-away
 returns-in-Ok-clause-away g c = away_never _ _ c.in-Ok.ensures.large
 
 pub returns-in-Err-clause-away : goal.returns-in-Err-clause-away
 returns-in-Err-clause-away g c =
-    away_over g.W.Disk.view g.W.Streams.left g.W.Streams.sent g.met.W.World.beside_left g.met.W.World.beside_sent c.args.world c.in-Err.field-0.value c.in-Err.field-0.cause c.in-Err.ensures.opens.beside_is c.opening_status.result c.opening_status.ensures c.in-Err.ensures.cause
+    away_over g.W.Disk.view g.W.Streams.left g.W.Streams.sent g.met.W.World.beside_left g.met.W.World.beside_sent c.args.world c.in-Err.field-0.value c.in-Err.field-0.cause c.in-Err.ensures.opens.beside_is (status_of c.opening_end.result) (ap (λ (e : End). status_of e) c.opening_end.ensures) c.in-Err.ensures.cause
 
 pub returns-in-Ok-clause-reads : goal.returns-in-Ok-clause-reads
 returns-in-Ok-clause-reads g c =
@@ -53,10 +57,10 @@ returns-in-Ok-clause-reads g c =
     let old = c.args.world in
     let opened = stored.pages c.in-Ok.store in
     let start = opened.disk in
-    let new = c.serve_store-answer.result.1 in
+    let new = c.serve_store.result.1 in
     let w = g.met.W.World in
     reads_on opened.count (view old) (view start) (view new) (left start) (left old) c.in-Ok.ensures.count c.in-Ok.ensures.opens
-    (sym (w.beside_left start) ∙ ap (λ (b : Beside). b.left) c.in-Ok.ensures.opens.beside_is ∙ w.beside_left old) c.serve_store-answer.ensures.reads
+    (sym (w.beside_left start) ∙ ap (λ (b : Beside). b.left) c.in-Ok.ensures.opens.beside_is ∙ w.beside_left old) c.serve_store.ensures.reads
 
 pub returns-in-Err-clause-reads : goal.returns-in-Err-clause-reads
 returns-in-Err-clause-reads g c =
@@ -69,10 +73,10 @@ returns-in-Ok-clause-syncs g c =
     let left = g.W.Streams.left in
     let old = c.args.world in
     let start = (stored.pages c.in-Ok.store).disk in
-    let new = c.serve_store-answer.result.1 in
+    let new = c.serve_store.result.1 in
     let w = g.met.W.World in
     syncs_on (view old) (view start) (view new) (left start) (left old) c.in-Ok.ensures.opens
-    (sym (w.beside_left start) ∙ ap (λ (b : Beside). b.left) c.in-Ok.ensures.opens.beside_is ∙ w.beside_left old) c.serve_store-answer.ensures.syncs
+    (sym (w.beside_left start) ∙ ap (λ (b : Beside). b.left) c.in-Ok.ensures.opens.beside_is ∙ w.beside_left old) c.serve_store.ensures.syncs
 
 pub returns-in-Err-clause-syncs : goal.returns-in-Err-clause-syncs
 returns-in-Err-clause-syncs g c =
@@ -84,16 +88,12 @@ returns-in-Ok-clause-faults g c =
     let view = g.W.Disk.view in
     let old = view c.args.world in
     let start = view (stored.pages c.in-Ok.store).disk in
-    let new = view c.serve_store-answer.result.1 in
-    let answer = c.serve_store-answer.result.0 in
-    let fault = fault_in serve_fault answer in
     let e = c.in-Ok.ensures in
-    let answered = counts_then fault old start new (counts_no_disk old start e.opens.beside_is e.quiet) c.serve_store-answer.ensures.faults in
-    counts_as c.answer_status.result (answer_status answer) old new c.answer_status.ensures (counts_told fault (code_fault (answer_status answer).code) old new (serve_fault_is answer) answered)
+    counts_then (end_fault c.serve_store.result.0) old start (view c.serve_store.result.1) (counts_no_disk old start e.opens.beside_is e.quiet) c.serve_store.ensures.faults
 
 pub returns-in-Err-clause-faults : goal.returns-in-Err-clause-faults
 returns-in-Err-clause-faults g c =
     let view = g.W.Disk.view in
     let back = c.in-Err.field-0 in
     let e = c.in-Err.ensures in
-    counts_as c.opening_status.result (opening_status back.cause) (view c.args.world) (view back.value) c.opening_status.ensures (counts_unopened back.cause (view c.args.world) (view back.value) e.opens.beside_is e.cause e.quiet_err)
+    counts_unopened_end back.cause c.opening_end.result (view c.args.world) (view back.value) c.opening_end.ensures e.opens.beside_is e.cause e.quiet_err

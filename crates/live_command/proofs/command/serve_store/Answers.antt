@@ -1,15 +1,16 @@
-use Rattle.std.proofs.Common.{ℕ, None, Err, refl, sym, subst, ◌∙◌}
+use Rattle.std.proofs.Common.{ℕ, None, refl, sym, subst, ◌∙◌}
 use Rattle.std.specs.Prelude.{IfSome, IsTrue}
-use Rattle.chart_service.specs.declared.failure.ServeEnd.TheVariants.{NoMemory}
+use Rattle.run_ends.specs.Faults.{end_fault}
+use Rattle.run_ends.specs.declared.ending.End.TheVariants.{NoMemory}
 use Rattle.series_store.specs.Shown as stored
+use Rattle.store_commands.specs.Traffic.{traffic}
 use Rattle.store_commands.proofs.Stores.{store_disk, store_count, store_sound}
 use Rattle.live_command.specs.Ended.{ReadsFrom}
 use Rattle.live_command.specs.Syncs.{SyncsLines}
 use Rattle.live_command.proofs.SyncLemmas.{syncs_nothing}
 use Rattle.live_command.specs.Ending.{Served}
 use Rattle.live_command.proofs.DiskLemmas.{reads_untaken, served_none}
-use Rattle.chart_service.specs.Faulting.{serve_fault}
-use Rattle.chart_world.specs.Faults.{CountsFault, fault_in}
+use Rattle.chart_world.specs.Faults.{CountsFault}
 use Rattle.live_command.proofs.command.serve_store.Goals as goal
 
 pub serve_service-requires-clause-sound : goal.serve_service-requires-clause-sound
@@ -26,9 +27,9 @@ returns-in-Ok-clause-serves g c =
     let made = c.in-Ok.service.store in
     let disk = (stored.pages store).disk in
     let new = c.serve_service.result.1 in
-    let answer = c.serve_service.result.0 in
-    let D : g.row.W.Denot → Type 0 = λ d. Served (stored.pages made).count (view d) (view new) (left d) (left new) (sent d) (sent new) (reads d) (reads new) (sends d) (sends new) answer in
-    let C : ℕ → Type 0 = λ n. Served n (view disk) (view new) (left disk) (left new) (sent disk) (sent new) (reads disk) (reads new) (sends disk) (sends new) answer in
+    let end = c.serve_service.result.0 in
+    let D : g.row.W.Denot → Type 0 = λ d. Served (stored.pages made).count (view d) (view new) (traffic left sent reads sends d new) end in
+    let C : ℕ → Type 0 = λ n. Served n (view disk) (view new) (traffic left sent reads sends disk new) end in
     subst C (store_count made store c.in-Ok.ensures.store) (subst D (store_disk made store c.in-Ok.ensures.store) c.serve_service.ensures.serves)
 
 pub returns-in-Err-clause-serves : goal.returns-in-Err-clause-serves
@@ -41,9 +42,9 @@ returns-in-Err-clause-serves g c =
     let store = c.args.store in
     let disk = (stored.pages store).disk in
     let back = c.in-Err.field-0.value in
-    let D : g.row.W.Denot → Type 0 = λ d. Served (stored.pages store).count (view disk) (view d) (left disk) (left d) (sent disk) (sent d) (reads disk) (reads d) (sends disk) (sends d) (Err NoMemory) in
+    let D : g.row.W.Denot → Type 0 = λ d. Served (stored.pages store).count (view disk) (view d) (traffic left sent reads sends disk d) NoMemory in
     subst D (sym (c.disk_of.ensures.disk ∙ store_disk back store c.in-Err.ensures.back))
-    (served_none (stored.pages store).count (view disk) (left disk) (sent disk) (reads disk) (sends disk))
+    (served_none (stored.pages store).count (view disk) (traffic left sent reads sends disk disk) refl)
 
 pub returns-in-Ok-clause-reads : goal.returns-in-Ok-clause-reads
 returns-in-Ok-clause-reads g c =
@@ -88,7 +89,7 @@ returns-in-Err-clause-syncs g c =
 pub returns-in-Ok-clause-faults : goal.returns-in-Ok-clause-faults
 returns-in-Ok-clause-faults g c =
     let view = g.W.Disk.view in
-    let D : g.row.W.Denot → Type 0 = λ d. CountsFault (fault_in serve_fault c.serve_service.result.0) (view d) (view c.serve_service.result.1) in
+    let D : g.row.W.Denot → Type 0 = λ d. CountsFault (end_fault c.serve_service.result.0) (view d) (view c.serve_service.result.1) in
     subst D (store_disk c.in-Ok.service.store c.args.store c.in-Ok.ensures.store) c.serve_service.ensures.faults
 
 pub returns-in-Err-clause-faults : goal.returns-in-Err-clause-faults

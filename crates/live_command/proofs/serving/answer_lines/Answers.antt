@@ -12,12 +12,14 @@ use Rattle.chart_service.specs.Syncing.{edits_of}
 use Rattle.live_command.proofs.SyncLemmas.{FarSynced, far_synced_first, far_synced_kept, far_synced_line, none_syncs, syncs_far}
 use Rattle.live_command.proofs.RunLemmas.{Far, all_on, far_first, far_kept, far_line, fault_on, lasts_on_first, lasts_on_line, lasts_on_take, line_stops}
 use Rattle.live_command.specs.Doing.{held_by, side_of}
-use Rattle.live_command.specs.Shown.{StopSo, pages}
+use Rattle.live_command.specs.Shown.{EndsOn, pages}
 use Rattle.chart_service.specs.Faulting.{serve_fault}
+use Rattle.run_ends.specs.Faults.{end_fault}
+use Rattle.run_ends.specs.declared.ending.End.{End}
 use Rattle.chart_world.specs.FaultLaws.{counts_then, counts_kept}
 use Rattle.chart_service.proofs.Faulting.{counts_lines}
 use Rattle.store_commands.specs.Faulting.{counts_told}
-use Rattle.live_command.proofs.FaultLemmas.{same_fault}
+use Rattle.live_command.proofs.FaultLemmas.{input_fault_is, same_fault}
 use Rattle.live_command.proofs.serving.answer_lines.Goals as goal
 
 pub lines-init : goal.lines-init
@@ -63,8 +65,8 @@ returns-in-Err-clause-stops g c = λ total book told stands.
     let no = c.in-Err.ensures in
     let state = its.state start total book in
     let far = far_kept (left first) (unread c.lines.lines (left mid)) c.lines.lines.given total state (view mid).image (view taken).image (held_by c.lines.live) (held_by c.next.new.from) (sent first) (sent mid) (sent taken) kept.image same c.next.ensures.sent (inv.far total book told stands) in
-    let E : _ → Type 0 = λ end. StopSo g.P.Streams total book start c.next.new.from end in
-    subst E (sym c.end_of.ensures) (fault_on (left first) total state (view taken).image (held_by c.next.new.from) (sent first) (sent taken) (beside.pending_same ∙ inv.idle) c.lines.lines c.next.new.self (left mid) (left taken) c.in-Err.fault inv.within (λ h. inv.stands_in.whole (no.not_ended (ap Err h))) (λ h. no.read_before (ap Err h)) (λ h. no.past_before (ap Err h)) (λ h. no.past (ap Err h)) no.left_on_err inv.counted no.total far)
+    let E : _ → Type 0 = λ end. EndsOn g.P.Streams total book start c.next.new.from end in
+    subst E (sym c.input_end.ensures) (fault_on (left first) total state (view taken).image (held_by c.next.new.from) (sent first) (sent taken) (beside.pending_same ∙ inv.idle) c.lines.lines c.next.new.self (left mid) (left taken) c.in-Err.fault inv.within (λ h. inv.stands_in.whole (no.not_ended (ap Err h))) (λ h. no.read_before (ap Err h)) (λ h. no.past_before (ap Err h)) (λ h. no.past (ap Err h)) no.left_on_err inv.counted no.total far)
 
 pub returns-in-Err-clause-crash : goal.returns-in-Err-clause-crash
 returns-in-Err-clause-crash g c = λ total book told stands.
@@ -570,8 +572,8 @@ returns-in-Err-clause-faults g c =
     let no = c.in-Err.ensures in
     let unread = counts_lines fault view g.P.Streams.read_faults g.P.Streams.send_faults w.beside_read_faults w.beside_send_faults mid taken kept
     (λ is. no.read_fault (ap Err is)) (λ other. no.quiet (λ is. other (same_fault fault _ is))) c.next.ensures.send_faults in
-    counts_then (serve_fault c.end_of.result) (view first) (view mid) (view taken) inv.faults
-    (counts_told (serve_fault (end_of fault)) (serve_fault c.end_of.result) (view mid) (view taken) (ap serve_fault c.end_of.ensures) unread)
+    counts_then (end_fault c.input_end.result) (view first) (view mid) (view taken) inv.faults
+    (counts_told (serve_fault (end_of fault)) (end_fault c.input_end.result) (view mid) (view taken) (ap (λ (e : End). end_fault e) c.input_end.ensures ∙ input_fault_is fault) unread)
 
 pub returns-in-End-clause-faults : goal.returns-in-End-clause-faults
 returns-in-End-clause-faults g c =
@@ -596,7 +598,7 @@ returns-in-Err-refuse_line-clause-faults g c =
     let kept = w.take_keeps mid taken c.next.ensures.beside.changed.store_is.pages_are in
     let new = pages c.refuse_line.new.live in
     let next = counts_kept view g.P.Streams.read_faults g.P.Streams.send_faults w.beside_read_faults w.beside_send_faults mid taken kept (c.in-Ok.ensures.quiet (ok_err _ _)) c.next.ensures.send_faults in
-    counts_then (serve_fault c.in-Err-refuse_line.end) (view first) (view taken) (view new) (counts_then None (view first) (view mid) (view taken) inv.faults next) c.in-Err-refuse_line.ensures.faults
+    counts_then (end_fault c.in-Err-refuse_line.end) (view first) (view taken) (view new) (counts_then None (view first) (view mid) (view taken) inv.faults next) c.in-Err-refuse_line.ensures.faults
 
 pub returns-in-Err-answer_line-clause-faults : goal.returns-in-Err-answer_line-clause-faults
 returns-in-Err-answer_line-clause-faults g c =
@@ -609,4 +611,4 @@ returns-in-Err-answer_line-clause-faults g c =
     let kept = w.take_keeps mid taken c.next.ensures.beside.changed.store_is.pages_are in
     let new = pages c.answer_line.new.live in
     let next = counts_kept view g.P.Streams.read_faults g.P.Streams.send_faults w.beside_read_faults w.beside_send_faults mid taken kept (c.in-Ok.ensures.quiet (ok_err _ _)) c.next.ensures.send_faults in
-    counts_then (serve_fault c.in-Err-answer_line.end) (view first) (view taken) (view new) (counts_then None (view first) (view mid) (view taken) inv.faults next) c.in-Err-answer_line.ensures.faults
+    counts_then (end_fault c.in-Err-answer_line.end) (view first) (view taken) (view new) (counts_then None (view first) (view mid) (view taken) inv.faults next) c.in-Err-answer_line.ensures.faults

@@ -4,7 +4,7 @@ use Rattle.series_store.specs.Shown as shown
 use Rattle.retain_command.specs.Answers.{swept_text}
 use Rattle.chart_world.specs.Faults.{fault_in}
 use Rattle.chart_world.specs.FaultLaws.{counts_then}
-use Rattle.retain_command.specs.Faults.{retain_fault}
+use Rattle.run_ends.specs.Faults.{end_fault}
 use Rattle.retain_command.proofs.Counting.{sweep_counts}
 use Rattle.retain_command.proofs.DoingLemmas.{rule_answered, rule_stopped, swept_there}
 use Rattle.retain_command.proofs.answering.answer_rule.Goals as goal
@@ -38,7 +38,7 @@ returns-in-Err-clause-does g c = λ total book told stands.
 
 pub returns-in-Ok-clause-faults : goal.returns-in-Ok-clause-faults
 returns-in-Ok-clause-faults g c =
-    counts_then (fault_in retain_fault c.send_swept.result) (shown.view c.args.store.now) (shown.view c.sweep.new.store) (shown.view c.send_swept.new.store) c.in-Ok.ensures.faults c.send_swept.ensures.faults
+    counts_then (fault_in end_fault c.send_swept.result) (shown.view c.args.store.now) (shown.view c.sweep.new.store) (shown.view c.send_swept.new.store) c.in-Ok.ensures.faults c.send_swept.ensures.faults
 
 pub returns-in-Err-clause-faults : goal.returns-in-Err-clause-faults
 returns-in-Err-clause-faults g c = sweep_counts c.args.at c.in-Err.error c.end_at.result (shown.view c.args.store.now) (shown.view c.sweep.new.store) c.end_at.ensures c.in-Err.ensures.faults

@@ -1,17 +1,19 @@
-use Rattle.std.proofs.Common.{◌∙◌, ap, sym}
-use Rattle.block_disk.specs.View.{Beside}
-use Rattle.series_store.specs.Shown as shown
-use Rattle.store_commands.proofs.TurnedAway.{away_never}
-use Rattle.store_commands.proofs.WorldLemmas.{away_over, unopened_over}
-use Rattle.chart_world.specs.Faults.{fault_in}
+use Rattle.std.proofs.Common.{◌≢◌, ap, subst, sym, arith}
 use Rattle.chart_world.specs.FaultLaws.{counts_no_disk, counts_then}
-use Rattle.store_commands.specs.Faulting.{counts_as, counts_told, counts_unopened}
-use Rattle.store_commands.specs.Status.{code_fault, opening_status}
-use Rattle.retain_command.specs.Retaining.{answer_status}
-use Rattle.retain_command.specs.Faults.{retain_fault}
-use Rattle.retain_command.proofs.Counting.{code_tells}
-use Rattle.retain_command.proofs.DiskLemmas.{swept_on}
-use Rattle.retain_command.proofs.StatusLemmas.{ends_by, unopened_ends}
+use Rattle.chart_world.specs.Faults.{CountsFault}
+use Rattle.gate_pages.specs.GatePages.{IsClosed}
+use Rattle.run_ends.specs.Faults.{end_fault}
+use Rattle.run_ends.specs.Statuses.{status_of}
+use Rattle.run_ends.specs.declared.ending.End.{End}
+use Rattle.run_ends.specs.declared.ending.End.TheVariants.{DiskFault}
+use Rattle.series_store.specs.Shown as shown
+use Rattle.store_commands.proofs.Held.{rests_new}
+use Rattle.store_commands.proofs.TurnedAway.{away_never}
+use Rattle.store_commands.proofs.WorldLemmas.{away_over, traffic_over, unopened_over}
+use Rattle.store_commands.specs.Faulting.{counts_unopened_end}
+use Rattle.store_commands.specs.Traffic.{Traffic, traffic}
+use Rattle.retain_command.specs.Retained.{RetainEnds}
+use Rattle.retain_command.proofs.DiskLemmas.{retained_by, unopened_ends}
 use Rattle.retain_command.proofs.command.retain.Goals as goal
 
 pub returns-in-Ok-clause-ends : goal.returns-in-Ok-clause-ends
@@ -21,46 +23,62 @@ returns-in-Ok-clause-ends g c =
     let sent = g.W.Streams.sent in
     let reads = g.W.Streams.read_faults in
     let sends = g.W.Streams.send_faults in
-    let old = c.args.world in
-    let opened = shown.pages c.in-Ok.store in
-    let start = opened.disk in
-    let new = c.sweep_store-answer.result.1 in
-    let beside = c.in-Ok.ensures.opens.beside_is in
     let w = g.met.W.World in
-    let s = swept_on opened.count (view old) (view start) (view new) (left start) (left old) (left new) (sent start) (sent old) (sent new) (reads start) (reads old) (reads new) (sends start) (sends old) (sends new) c.sweep_store-answer.result.0 c.in-Ok.ensures.count c.in-Ok.ensures.opens c.in-Ok.ensures.quiet
-    (sym (w.beside_left start) ∙ ap (λ (b : Beside). b.left) beside ∙ w.beside_left old)
-    (sym (w.beside_sent start) ∙ ap (λ (b : Beside). b.sent) beside ∙ w.beside_sent old)
-    (sym (w.beside_read_faults start) ∙ ap (λ (b : Beside). b.read_faults) beside ∙ w.beside_read_faults old)
-    (sym (w.beside_send_faults start) ∙ ap (λ (b : Beside). b.send_faults) beside ∙ w.beside_send_faults old)
-    c.sweep_store-answer.ensures.swept in
-    ends_by (view old) (view new) (left old) (left new) (sent old) (sent new) (reads old) (reads new) (sends old) (sends new) c.sweep_store-answer.result.0 c.answer_status.result c.answer_status.ensures s
+    let first = c.args.world in
+    let before = c.in-Ok.store in
+    let after = c.sweep_lines-end.new.store in
+    let pages = shown.pages before in
+    let end_pages = shown.pages after in
+    let old = pages.disk in
+    let new = end_pages.disk in
+    let end = c.sweep_lines-end.result in
+    let opened = c.in-Ok.ensures in
+    let made = c.sweep_lines-end.ensures in
+    let closed : end ≢ DiskFault → IsClosed (view new) =
+    λ other.
+    let P : g.row.W.Denot → Type 0 = λ d. IsClosed (view d) in
+    subst P c.disk_of.ensures.disk (c.disk_of.ensures.rests (made.sound other)) in
+    let all = retained_by pages.count end_pages.count pages.sound end_pages.sound (view first) (view old) (view new) (shown.total before) (shown.total after) (traffic left sent reads sends old new) made.goes
+    (rests_new pages.count (view old) (shown.numbers before) (pages.at_rest opened.sound) (before.space.spelled opened.sound)) (omega (arith, before.space.rules.total_high)) opened.count opened.opens opened.quiet
+    end made.within made.cause made.ends made.crash closed in
+    let same = traffic_over view left sent reads sends w.beside_left w.beside_sent w.beside_read_faults w.beside_send_faults first old new opened.opens.beside_is in
+    let T : Traffic → Type 0 = λ t. RetainEnds (view first) (view new) t end in
+    let D : g.row.W.Denot → Type 0 = λ d. RetainEnds (view first) (view d) (traffic left sent reads sends first d) end in
+    subst D (sym c.disk_of.ensures.disk) (subst T same all)
 
 pub returns-in-Err-clause-ends : goal.returns-in-Err-clause-ends
 returns-in-Err-clause-ends g c =
-    unopened_ends _ _ _ _ _ _ (g.W.Streams.read_faults c.args.world) (g.W.Streams.read_faults c.in-Err.field-0.value) (g.W.Streams.send_faults c.args.world) (g.W.Streams.send_faults c.in-Err.field-0.value) c.in-Err.field-0.cause (unopened_over g.W.Disk.view g.W.Streams.left g.W.Streams.sent g.met.W.World.beside_left g.met.W.World.beside_sent c.args.world c.in-Err.field-0.value c.in-Err.field-0.cause c.in-Err.ensures.opens.beside_is c.in-Err.ensures.opens c.in-Err.ensures.cause c.in-Err.ensures.a_store) c.opening_status.result c.opening_status.ensures
+    let view = g.W.Disk.view in
+    let left = g.W.Streams.left in
+    let sent = g.W.Streams.sent in
+    let old = c.args.world in
+    let back = c.in-Err.field-0 in
+    let e = c.in-Err.ensures in
+    unopened_ends (view old) (view back.value) (traffic left sent g.W.Streams.read_faults g.W.Streams.send_faults old back.value) back.cause c.opening_end.result c.opening_end.ensures
+    (unopened_over view left sent g.met.W.World.beside_left g.met.W.World.beside_sent old back.value back.cause e.opens.beside_is e.opens e.cause e.a_store)
 
 pub returns-in-Ok-clause-away : goal.returns-in-Ok-clause-away
 returns-in-Ok-clause-away g c = away_never _ _ c.in-Ok.ensures.large
 
 pub returns-in-Err-clause-away : goal.returns-in-Err-clause-away
 returns-in-Err-clause-away g c =
-    away_over g.W.Disk.view g.W.Streams.left g.W.Streams.sent g.met.W.World.beside_left g.met.W.World.beside_sent c.args.world c.in-Err.field-0.value c.in-Err.field-0.cause c.in-Err.ensures.opens.beside_is c.opening_status.result c.opening_status.ensures c.in-Err.ensures.cause
+    away_over g.W.Disk.view g.W.Streams.left g.W.Streams.sent g.met.W.World.beside_left g.met.W.World.beside_sent c.args.world c.in-Err.field-0.value c.in-Err.field-0.cause c.in-Err.ensures.opens.beside_is (status_of c.opening_end.result)
+    (ap (λ (e : End). status_of e) c.opening_end.ensures) c.in-Err.ensures.cause
 
 pub returns-in-Ok-clause-faults : goal.returns-in-Ok-clause-faults
 returns-in-Ok-clause-faults g c =
     let view = g.W.Disk.view in
-    let old = view c.args.world in
-    let start = view (shown.pages c.in-Ok.store).disk in
-    let answer = c.sweep_store-answer.result.0 in
-    let new = view c.sweep_store-answer.result.1 in
-    let told = fault_in retain_fault answer in
-    counts_as c.answer_status.result (answer_status answer) old new c.answer_status.ensures
-    (counts_told told (code_fault (answer_status answer).code) old new (code_tells answer) (counts_then told old start new (counts_no_disk old start c.in-Ok.ensures.opens.beside_is c.in-Ok.ensures.quiet) c.sweep_store-answer.ensures.faults))
+    let first = view c.args.world in
+    let old = view (shown.pages c.in-Ok.store).disk in
+    let e = c.in-Ok.ensures in
+    let end = c.sweep_lines-end.result in
+    let D : g.row.W.Denot → Type 0 = λ d. CountsFault (end_fault end) first (view d) in
+    subst D (sym c.disk_of.ensures.disk)
+    (counts_then (end_fault end) first old (view (shown.pages c.sweep_lines-end.new.store).disk) (counts_no_disk first old e.opens.beside_is e.quiet) c.sweep_lines-end.ensures.faults)
 
 pub returns-in-Err-clause-faults : goal.returns-in-Err-clause-faults
 returns-in-Err-clause-faults g c =
     let view = g.W.Disk.view in
-    let cause = c.in-Err.field-0.cause in
-    let old = view c.args.world in
-    let new = view c.in-Err.field-0.value in
-    counts_as c.opening_status.result (opening_status cause) old new c.opening_status.ensures (counts_unopened cause old new c.in-Err.ensures.opens.beside_is c.in-Err.ensures.cause c.in-Err.ensures.quiet_err)
+    let back = c.in-Err.field-0 in
+    let e = c.in-Err.ensures in
+    counts_unopened_end back.cause c.opening_end.result (view c.args.world) (view back.value) c.opening_end.ensures e.opens.beside_is e.cause e.quiet_err

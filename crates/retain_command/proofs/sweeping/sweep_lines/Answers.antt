@@ -1,62 +1,77 @@
-use Rattle.std.proofs.Common.{◌≡◌, ◌∙◌, Err, ap, subst, sym}
-use Rattle.line_runs.specs.Runs.{harms_of}
-use Rattle.line_runs.specs.declared.lines_stop.LinesStop.{LinesStop}
-use Rattle.line_runs.specs.declared.lines_stop.LinesStop.TheVariants as stop
+use Rattle.std.proofs.Common.{◌≡◌, ◌≢◌, ◌≤◌, ◌^◌, IfSome, length, subst, sym}
+use Rattle.chart_world.specs.Faults.{CountsFault}
+use Rattle.line_runs.specs.EndLaws.{came_to_end, end_cause, harmless, same_fault}
+use Rattle.run_ends.specs.Faults.{end_fault}
+use Rattle.run_ends.specs.declared.ending.End.{End}
+use Rattle.run_ends.specs.declared.ending.End.TheVariants.{Done, DiskFault}
 use Rattle.series_store.specs.Shown as shown
-use Rattle.retain_command.specs.Shown.{StopSo}
-use Rattle.retain_command.specs.Working.{Harms, end_of_stop}
-use Rattle.retain_command.specs.declared.retain_end.RetainEnd.{RetainEnd}
-use Rattle.retain_command.specs.declared.retain_end.RetainEnd.TheVariants.{DiskFault}
-use Rattle.retain_command.proofs.RunLemmas.{all_told, lasts_none, lasts_told, none_swept, stops_told}
+use Rattle.store_commands.specs.Sides.{side_of}
+use Rattle.retain_command.specs.Doing.{IsCause}
+use Rattle.retain_command.specs.Shown.{EndsOn}
+use Rattle.retain_command.specs.Working.{Held}
+use Rattle.retain_command.proofs.RunLemmas.{ends_told, lasts_none, lasts_told, none_swept}
 use Rattle.retain_command.proofs.sweeping.sweep_lines.Goals as goal
 
-pub returns-in_default-clause-stops : goal.returns-in_default-clause-stops
-returns-in_default-clause-stops g c = λ total book told stands.
+pub returns-in_default-clause-ends : goal.returns-in_default-clause-ends
+returns-in_default-clause-ends g c = λ total book told stands.
     let pages = shown.pages c.args.store.now in
     none_swept total book (g.P.Streams.left pages) (g.P.Streams.left pages) (g.P.Streams.sent pages) (shown.image c.args.store.now) stands
 
 pub returns-in_default-clause-crash : goal.returns-in_default-clause-crash
 returns-in_default-clause-crash g c = λ total book told stands.
     let pages = shown.pages c.args.store.now in
-    lasts_none total book (g.P.Streams.left pages) (g.P.Streams.sent pages) (shown.view c.args.store.now)
-    (g.met.P.Pages.rests pages c.requires.sound) stands
+    lasts_none total book (g.P.Streams.left pages) (g.P.Streams.sent pages) (shown.view c.args.store.now) (g.met.P.Pages.rests pages c.requires.sound) stands
 
-pub returns-in-Ok-run_lines-clause-done : goal.returns-in-Ok-run_lines-clause-done
-returns-in-Ok-run_lines-clause-done g c = λ total book told stands.
-    let pages = shown.pages c.args.store.now in
-    let new = c.run_lines.new.from in
-    all_told total book (shown.IsTold new) (shown.image new) (g.P.Streams.left pages) (g.P.Streams.sent pages)
-    (g.P.Streams.sent (shown.pages new))
-    (g.P.Streams.pieces pages) (g.P.Streams.pieces (shown.pages new)) (c.in-Ok-run_lines.ensures.done (record { total = total; book = book }) (told, stands))
-
-pub returns-clause-stops : goal.returns-clause-stops
-returns-clause-stops g c = λ total book told stands.
+pub returns-clause-ends : goal.returns-clause-ends
+returns-clause-ends g c = λ total book told stands.
     let left = g.P.Streams.left in
     let sent = g.P.Streams.sent in
     let pages = shown.pages c.args.store.now in
-    let new = c.run_lines.new.from in
-    let E : RetainEnd → Type 0 = λ end. StopSo g.P.Streams total book c.args.store.now new end in
-    subst E (sym c.end_of_stop.ensures)
-    (stops_told total book (shown.IsTold new) (shown.image new) (left pages) (left (shown.pages new)) (sent pages)
-    (sent (shown.pages new)) (g.P.Streams.pieces pages) (g.P.Streams.pieces (shown.pages new)) c.in-Err.stop (c.in-Err.ensures.stops (record { total = total; book = book }) (told, stands)))
-
-pub returns-in-Ok-run_lines-clause-crash : goal.returns-in-Ok-run_lines-clause-crash
-returns-in-Ok-run_lines-clause-crash g c = λ total book told stands.
-    let pages = shown.pages c.args.store.now in
-    lasts_told total book (g.P.Streams.left pages) (g.P.Streams.sent pages) (shown.view c.args.store.now)
-    (shown.view c.run_lines.new.from) (c.run_lines.ensures.crash (record { total = total; book = book }) (told, stands) tt)
+    let new = c.run_lines-answer.new.from in
+    let e = c.run_lines-answer.ensures in
+    let held : Held = record { total = total; book = book } in
+    let E : End → Type 0 = λ end. EndsOn g.P.Streams total book c.args.store.now new end in
+    subst E (sym c.run_end.ensures)
+    (ends_told total book (shown.IsTold new) (shown.image new) (left pages) (left (shown.pages new)) (sent pages) (sent (shown.pages new))
+    (g.P.Streams.pieces pages) (g.P.Streams.pieces (shown.pages new)) c.run_lines-answer.result
+    (e.done held (told, stands)) (e.stops held (told, stands)))
 
 pub returns-clause-crash : goal.returns-clause-crash
 returns-clause-crash g c = λ total book told stands.
     let pages = shown.pages c.args.store.now in
     lasts_told total book (g.P.Streams.left pages) (g.P.Streams.sent pages) (shown.view c.args.store.now)
-    (shown.view c.run_lines.new.from) (c.run_lines.ensures.crash (record { total = total; book = book }) (told, stands) tt)
+    (shown.view c.run_lines-answer.new.from) (c.run_lines-answer.ensures.crash (record { total = total; book = book }) (told, stands) tt)
 
--- another end than a fault of the disk does no harm
-harmless : (s : LinesStop RetainEnd) (end : RetainEnd) → end ≡ end_of_stop s → harms_of Harms s → end ≡ DiskFault
-harmless (stop.Fault why) end is none = absurd none
-harmless (stop.Work e) end is harms = is ∙ harms
+pub returns-clause-within : goal.returns-clause-within
+returns-clause-within g c =
+    let side = side_of g.P.Streams in
+    let e = c.run_lines-answer.ensures in
+    let W : End → Type 0 = λ end. end ≡ Done → IfSome (g.P.Streams.left (shown.pages c.args.store.now)) (λ input. length input ≤ 2 ^ 32) in
+    subst W (sym c.run_end.ensures)
+    (came_to_end (λ end s s'. IsCause end (side s) (side s')) c.args.store.now c.run_lines-answer.new.from c.run_lines-answer.result (λ none. none) e.within e.cause)
+
+pub returns-clause-cause : goal.returns-clause-cause
+returns-clause-cause g c =
+    let w = g.met.P.PageWorld in
+    let side = side_of g.P.Streams in
+    let old = c.args.store.now in
+    let new = c.run_lines-answer.new.from in
+    let e = c.run_lines-answer.ensures in
+    let C : End → Type 0 = λ end. end ≢ Done → IsCause end (side old) (side new) in
+    subst C (sym c.run_end.ensures)
+    (end_cause (λ s. shown.view s) (λ s. g.P.Streams.read_faults (shown.pages s)) (λ s. w.beside_read_faults (shown.pages s))
+    (λ end s s'. IsCause end (side s) (side s')) old new c.run_lines-answer.result (λ risen. risen) tt e.faults e.cause)
+
+pub returns-clause-faults : goal.returns-clause-faults
+returns-clause-faults g c =
+    let old = shown.view c.args.store.now in
+    let new = shown.view c.run_lines-answer.new.from in
+    let F : _ → Type 0 = λ fault. CountsFault fault old new in
+    let E : End → Type 0 = λ end. CountsFault (end_fault end) old new in
+    subst E (sym c.run_end.ensures) (subst F (sym (same_fault c.run_lines-answer.result)) c.run_lines-answer.ensures.faults)
 
 pub returns-clause-sound : goal.returns-clause-sound
-returns-clause-sound g c = λ other. c.in-Err.ensures.fit_on_err
-    (λ harms. other (ap Err (harmless c.in-Err.stop c.end_of_stop.result c.end_of_stop.ensures harms)))
+returns-clause-sound g c =
+    let e = c.run_lines-answer.ensures in
+    let S : End → Type 0 = λ end. end ≢ DiskFault → shown.IsSound c.run_lines-answer.new.from in
+    subst S (sym c.run_end.ensures) (harmless DiskFault c.run_lines-answer.result e.fit e.fit_on_err)

@@ -88,6 +88,12 @@ load_lines-requires-clause-fresh g c = c.in_ok-lines.ensures.lines
 pub load_lines-requires-clause-none : goal.load_lines-requires-clause-none
 load_lines-requires-clause-none g c = c.in_ok-loader.ensures.none
 
+pub load_lines-requires-clause-sets : goal.load_lines-requires-clause-sets
+load_lines-requires-clause-sets g c = c.in_ok-loader.ensures.sets
+
+pub load_lines-requires-clause-ats : goal.load_lines-requires-clause-ats
+load_lines-requires-clause-ats g c = c.in_ok-loader.ensures.ats
+
 pub load_lines-requires-clause-first : goal.load_lines-requires-clause-first
 load_lines-requires-clause-first g c = c.in_ok-loader.ensures.first
 

@@ -4,10 +4,11 @@ use Rattle.series_load.specs.Ends.{Stopped}
 use Rattle.series_load.specs.declared.load_end.LoadEnd.{LoadEnd}
 use Rattle.series_store.specs.Shown as shown
 use Rattle.series_load.proofs.Reached.{finished_so, start, start_stands, stopped_so}
+use Rattle.series_load.proofs.SetLemmas.{edits_none}
 use Rattle.series_load.proofs.loading.load_lines.Goals as goal
 
 pub run_lines-requires : goal.run_lines-requires
-run_lines-requires g c = record { fit = (c.requires.sound, omega (arith, c.requires.points)); fresh = c.requires.fresh }
+run_lines-requires g c = record { fit = (c.requires.sound, omega (arith, c.requires.points), edits_none c.args.loader.now.kept.sets.items c.args.loader.now.kept.ats.items c.requires.sets); fresh = c.requires.fresh }
 
 pub returns-in-Ok-clause-outcome : goal.returns-in-Ok-clause-outcome
 returns-in-Ok-clause-outcome g c = λ total book series told stands step scale.
@@ -16,7 +17,7 @@ returns-in-Ok-clause-outcome g c = λ total book series told stands step scale.
     let loader = c.args.loader.now in
     let at = shown.view old in
     let begin = start total loader.name book series at.clock (sent_now at) in
-    let is = start_stands (shown.IsTold old) total book series loader at told stands c.requires.none c.requires.first c.requires.points
+    let is = start_stands (shown.IsTold old) total book series loader at told stands c.requires.none c.requires.sets c.requires.ats c.requires.first c.requires.points
     step scale in
     finished_so total loader.name book series at.clock (sent_now at) (shown.IsTold new) c.run_lines.new.work
     (g.P.Streams.left (shown.pages old))
@@ -33,7 +34,7 @@ returns-in-Err-clause-outcome g c = λ total book series told stands step scale.
     let loader = c.args.loader.now in
     let at = shown.view old in
     let begin = start total loader.name book series at.clock (sent_now at) in
-    let is = start_stands (shown.IsTold old) total book series loader at told stands c.requires.none c.requires.first c.requires.points
+    let is = start_stands (shown.IsTold old) total book series loader at told stands c.requires.none c.requires.sets c.requires.ats c.requires.first c.requires.points
     step scale in
     let E : LoadEnd → Type 0 = λ e. Stopped total loader.name book series (left (shown.pages old)) (left (shown.pages new)) e at
     (shown.view new) in

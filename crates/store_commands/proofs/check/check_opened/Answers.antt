@@ -7,9 +7,9 @@ use Rattle.series_store.specs.Counting.{AreSound}
 use Rattle.stored_book.specs.Standing.{AreCatalog}
 use Rattle.store_commands.specs.Checked.{counts_text}
 use Rattle.series_store.specs.Shown as shown
+use Rattle.run_ends.specs.Faults.{end_fault}
 use Rattle.run_ends.specs.declared.ending.End.{End}
 use Rattle.store_commands.specs.Checking.{ChecksStore}
-use Rattle.store_commands.specs.Status.{end_fault}
 use Rattle.store_commands.proofs.FaultLemmas.{counts_unchecked}
 use Rattle.store_commands.specs.Sending.{SendsText}
 use Rattle.store_commands.proofs.Held.{rests_new, stands_held}

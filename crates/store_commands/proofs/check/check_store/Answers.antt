@@ -3,9 +3,9 @@ use Rattle.block_disk.specs.View.{Beside}
 use Rattle.chart_world.specs.FaultLaws.{counts_no_disk, counts_then}
 use Rattle.series_store.specs.Shown as shown
 use Rattle.run_ends.specs.Statuses.{status_of}
+use Rattle.run_ends.specs.Faults.{end_fault}
 use Rattle.run_ends.specs.declared.ending.End.{End}
 use Rattle.store_commands.specs.Faulting.{counts_unopened_end}
-use Rattle.store_commands.specs.Status.{end_fault}
 use Rattle.store_commands.proofs.CheckEnds.{ends_opened, unchecked}
 use Rattle.store_commands.proofs.Held.{opened_book}
 use Rattle.store_commands.proofs.TurnedAway.{away_never}

@@ -5,9 +5,9 @@ use Rattle.chart_world.specs.FaultLaws.{counts_no_disk, counts_then}
 use Rattle.demo_workload.specs.Ending.{demo_fault}
 use Rattle.series_store.specs.Shown as shown
 use Rattle.run_ends.specs.Statuses.{status_of}
+use Rattle.run_ends.specs.Faults.{end_fault}
 use Rattle.run_ends.specs.declared.ending.End.{End}
 use Rattle.store_commands.specs.Faulting.{counts_told, counts_unopened_end}
-use Rattle.store_commands.specs.Status.{end_fault}
 use Rattle.store_commands.proofs.FaultLemmas.{demo_fault_is}
 use Rattle.demo_workload.specs.Summaries.{summary_line}
 use Rattle.demo_workload.specs.Workload.{workload}

@@ -5,10 +5,10 @@ use Rattle.gate_pages.specs.GatePages.{IsClosed}
 use Rattle.series_export.specs.Faults.{send_fault}
 use Rattle.series_store.specs.Shown as shown
 use Rattle.run_ends.specs.declared.ending.End.{End}
+use Rattle.run_ends.specs.Faults.{end_fault}
 use Rattle.run_ends.specs.declared.ending.End.TheVariants.{UnknownSeries}
 use Rattle.store_commands.specs.Exporting.{ExportsStore, export_end}
 use Rattle.store_commands.specs.Faulting.{counts_told}
-use Rattle.store_commands.specs.Status.{end_fault}
 use Rattle.store_commands.proofs.FaultLemmas.{send_fault_is}
 use Rattle.store_commands.proofs.Held.{rests_new}
 use Rattle.store_commands.proofs.ExportEnds.{series_sent, none_found}

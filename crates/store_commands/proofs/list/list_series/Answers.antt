@@ -4,9 +4,9 @@ use Rattle.chart_world.specs.Faults.{CountsFault}
 use Rattle.chart_world.specs.FaultLaws.{counts_no_disk, counts_then}
 use Rattle.series_store.specs.Shown as shown
 use Rattle.run_ends.specs.Statuses.{status_of}
+use Rattle.run_ends.specs.Faults.{end_fault}
 use Rattle.run_ends.specs.declared.ending.End.{End}
 use Rattle.store_commands.specs.Faulting.{counts_unopened_end}
-use Rattle.store_commands.specs.Status.{end_fault}
 use Rattle.store_commands.specs.Listed.{list_text}
 use Rattle.store_commands.specs.Sending.{SendsMade}
 use Rattle.store_commands.proofs.ListEnds.{listed, unlisted, text_in, made_is}

@@ -6,7 +6,7 @@ use Rattle.chart_world.specs.FaultLaws.{counts_no_disk, counts_then}
 use Rattle.series_load.specs.Faults.{load_fault}
 use Rattle.series_store.specs.Shown as shown
 use Rattle.store_commands.specs.Faulting.{counts_as, counts_end, counts_told, counts_unopened}
-use Rattle.store_commands.specs.Status.{code_fault, end_fault, opening_status}
+use Rattle.store_commands.specs.Status.{code_fault, opening_status}
 use Rattle.store_commands.proofs.FaultLemmas.{load_fault_is}
 use Rattle.store_commands.specs.Loaded.{LoadEnds, loaded_text}
 use Rattle.store_commands.proofs.LoadEnds.{opening_ends_so, stopped_ends_so, sent_ends, stores_on}
@@ -14,6 +14,7 @@ use Rattle.block_disk.specs.View.{sent_now}
 use Rattle.gate_pages.specs.Journal.{page_count}
 use Rattle.series_load.specs.declared.load_end.LoadEnd.{LoadEnd}
 use Rattle.series_load.specs.declared.load_end.LoadEnd.TheVariants as load_end
+use Rattle.run_ends.specs.Faults.{end_fault}
 use Rattle.run_ends.specs.declared.status.Status.{Status}
 use Rattle.store_commands.specs.Storing.{end_status}
 use Rattle.store_commands.proofs.HoldsAgain.{again_opened, again_sent, again_loaded}

@@ -1,9 +1,6 @@
-use Rattle.std.proofs.Common.{◌∙◌, Some, ap, sym}
+use Rattle.std.proofs.Common.{◌∙◌, ap, sym}
 use Rattle.block_disk.specs.View.{Beside}
-use Rattle.line_runs.specs.Given.{Line}
-use Rattle.series_load.specs.Loading.{BadBy, EndsBy, seen}
 use Rattle.series_store.specs.Shown as shown
-use Rattle.series_load.proofs.LineLemmas.{adds_at}
 use Rattle.series_load.proofs.WorkLemmas.{line_done, line_leaves, line_stops}
 use Rattle.series_load.proofs.load_work.LoaderLineWorkStoreLoadEnd.line.Goals as goal
 
@@ -17,13 +14,10 @@ returns-clause-does g c = λ held stands.
     let loader' = c.take_line.new.self in
     let e = c.take_line.ensures in
     line_done (shown.IsTold old) (shown.IsTold new) held loader loader' (shown.view old) (shown.view new) stands
-    (e.carries.is_told stands.is_told)
-    (EndsBy (seen held loader) (Line c.args.at (Some c.args.line.now)))
-    (BadBy (seen held loader) (Line c.args.at (Some c.args.line.now)) (shown.image new)) c.args.at c.args.line.now
-    (sent (shown.pages old)) (sent (shown.pages new)) c.take_line.result
-    (record { name_is = e.name; scale_is = e.scale; step_is = e.step })
+    (e.carries.is_told stands.is_told) c.args.at c.args.line.now
+    (sent (shown.pages old)) (sent (shown.pages new)) c.take_line.result (record { name_is = e.name; scale_is = e.scale; step_is = e.step })
     (sym (w.beside_sent (shown.pages new)) ∙ ap (λ (b : Beside). b.sent) e.carries.beside ∙ w.beside_sent (shown.pages old))
-    (e.does held.total held.book held.open_run stands.is_told stands.stands stands.keeps)
+    (e.does held.total held.book held.waiting held.open_run stands.is_told stands.stands stands.keeps)
 
 pub returns-clause-stops : goal.returns-clause-stops
 returns-clause-stops g c = λ held stands.
@@ -35,9 +29,8 @@ returns-clause-stops g c = λ held stands.
     let loader' = c.take_line.new.self in
     let e = c.take_line.ensures in
     line_stops (shown.IsTold old) (shown.IsTold new) held loader loader' (shown.view old) (shown.view new) stands
-    (e.carries.is_told stands.is_told) (Line c.args.at (Some c.args.line.now))
-    (adds_at loader.scale loader.step c.args.at c.args.line.now loader.first held.open_run loader.points loader'.first loader'.points)
-    c.take_line.result (e.does held.total held.book held.open_run stands.is_told stands.stands stands.keeps)
+    (e.carries.is_told stands.is_told) c.args.at c.args.line.now c.take_line.result
+    (e.does held.total held.book held.waiting held.open_run stands.is_told stands.stands stands.keeps)
 
 pub returns-clause-leaves : goal.returns-clause-leaves
 returns-clause-leaves g c = λ held stands lasting.
@@ -49,7 +42,5 @@ returns-clause-leaves g c = λ held stands lasting.
     let loader' = c.take_line.new.self in
     let e = c.take_line.ensures in
     line_leaves (shown.IsTold old) (shown.IsTold new) held loader loader' (shown.view old) (shown.view new) stands
-    (e.carries.is_told stands.is_told) (Line c.args.at (Some c.args.line.now))
-    (adds_at loader.scale loader.step c.args.at c.args.line.now loader.first held.open_run loader.points loader'.first loader'.points)
-    (BadBy (seen held loader) (Line c.args.at (Some c.args.line.now)) (shown.image new)) c.take_line.result
-    (e.does held.total held.book held.open_run stands.is_told stands.stands stands.keeps)
+    (e.carries.is_told stands.is_told) c.args.at c.args.line.now c.take_line.result
+    (e.does held.total held.book held.waiting held.open_run stands.is_told stands.stands stands.keeps)

@@ -1,9 +1,9 @@
-use Rattle.std.proofs.Common.{None, Err}
+use Rattle.std.proofs.Common.{◌++◌, None, Err, refl}
 use Rattle.line_runs.specs.Given.{Line}
 use Rattle.series_load.specs.Loading.{BadBy, seen}
-use Rattle.series_load.specs.Steps.{Closes}
+use Rattle.series_load.specs.Steps.{closed}
 use Rattle.series_store.specs.Shown as shown
-use Rattle.series_load.proofs.WorkLemmas.{line_leaves, line_stops}
+use Rattle.series_load.proofs.WorkLemmas.{runs_leave, runs_stops}
 use Rattle.series_load.proofs.load_work.LoaderLineWorkStoreLoadEnd.long_line.Goals as goal
 
 pub returns-clause-stops : goal.returns-clause-stops
@@ -15,9 +15,9 @@ returns-clause-stops g c = λ held stands.
     let new = c.stop.new.store in
     let loader' = c.stop.new.self in
     let e = c.stop.ensures in
-    line_stops (shown.IsTold old) (shown.IsTold new) held loader loader' (shown.view old) (shown.view new) stands
-    (e.carries.is_told stands.is_told) (Line c.args.at None)
-    (Closes held.open_run) (Err c.stop.result) (e.does held.total held.book held.open_run stands.is_told stands.stands stands.keeps)
+    runs_stops (shown.IsTold old) (shown.IsTold new) held loader loader' (shown.view old) (shown.view new) stands
+    (e.carries.is_told stands.is_told) (Line c.args.at None) (held.waiting ++ closed held.open_run) (Err c.stop.result) refl
+    (e.does held.total held.book held.waiting held.open_run stands.is_told stands.stands stands.keeps)
 
 pub returns-clause-leaves : goal.returns-clause-leaves
 returns-clause-leaves g c = λ held stands lasting.
@@ -28,7 +28,6 @@ returns-clause-leaves g c = λ held stands lasting.
     let new = c.stop.new.store in
     let loader' = c.stop.new.self in
     let e = c.stop.ensures in
-    line_leaves (shown.IsTold old) (shown.IsTold new) held loader loader' (shown.view old) (shown.view new) stands
-    (e.carries.is_told stands.is_told) (Line c.args.at None)
-    (Closes held.open_run) (BadBy (seen held loader) (Line c.args.at None) (shown.image new)) (Err c.stop.result)
-    (e.does held.total held.book held.open_run stands.is_told stands.stands stands.keeps)
+    runs_leave (shown.IsTold old) (shown.IsTold new) held loader loader' (shown.view old) (shown.view new) stands
+    (e.carries.is_told stands.is_told) (Line c.args.at None) (BadBy (seen held loader) (Line c.args.at None) (shown.image new)) (held.waiting ++ closed held.open_run) (Err c.stop.result) refl
+    (e.does held.total held.book held.waiting held.open_run stands.is_told stands.stands stands.keeps)

@@ -1,19 +1,18 @@
-use Rattle.std.proofs.Common.{refl}
-use Rattle.series_load.specs.Steps.{Closes, NoBad, TooLongDone}
-use Rattle.series_load.proofs.Carrying.{err_less}
-use Rattle.series_load.proofs.SetLemmas.{stopped}
+use Rattle.std.proofs.Common.{◌++◌}
+use Rattle.series_load.specs.Steps.{IsAtLine, closed}
+use Rattle.series_load.proofs.SetLemmas.{not_stopped, stopped}
 use Rattle.series_store.specs.Shown as shown
 use Rattle.series_load.proofs.loader.Loader.stop.Goals as goal
 
 pub returns-in-Ok-clause-does : goal.returns-in-Ok-clause-does
-returns-in-Ok-clause-does g c = λ total book old told stands keeps.
-    stopped c.args.at total c.args.self.now.name book old c.in-Ok.field-0 c.close.new.self.run (shown.view c.args.store.now) (shown.view c.close.new.store)
-    (c.in-Ok.ensures.does total book old told stands keeps)
+returns-in-Ok-clause-does g c = λ total book waiting old told stands keeps.
+    stopped c.args.at total c.args.self.now.name book (waiting ++ closed old) c.in-Ok.field-0 (shown.view c.args.store.now) (shown.view c.end.new.store)
+    (c.in-Ok.ensures.does total book waiting old told stands keeps)
 
 pub returns-in-Err-clause-does : goal.returns-in-Err-clause-does
-returns-in-Err-clause-does g c = λ total book old told stands keeps.
-    err_less (Closes old) (Closes old) (Closes old) (Closes old) NoBad (TooLongDone c.args.at total c.args.self.now.name book old (shown.image c.close.new.store)) total c.args.self.now.name book c.in-Err.end _ c.close.new.self.run c.close.new.self.run (shown.view c.args.store.now) (shown.view c.close.new.store) refl
-    (λ ends new closes. (new, closes)) (λ at no_line. absurd no_line) (c.in-Err.ensures.does total book old told stands keeps)
+returns-in-Err-clause-does g c = λ total book waiting old told stands keeps.
+    not_stopped (IsAtLine c.args.at total c.args.self.now.name book (waiting ++ closed old) (shown.image c.end.new.store)) total c.args.self.now.name book (waiting ++ closed old) c.in-Err.end (shown.view c.args.store.now) (shown.view c.end.new.store)
+    (c.in-Err.ensures.does total book waiting old told stands keeps)
 
 pub returns-in-Ok-clause-faults : goal.returns-in-Ok-clause-faults
 returns-in-Ok-clause-faults g c = c.in-Ok.ensures.faults

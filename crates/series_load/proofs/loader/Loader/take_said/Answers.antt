@@ -1,37 +1,32 @@
-use Rattle.std.proofs.Common.{refl, subst, false}
-use Rattle.series_load.specs.Steps.{SaysSo, BadDone}
+use Rattle.std.proofs.Common.{◌++◌, None, false, subst}
+use Rattle.series_load.proofs.SetLemmas.{ok_keeps_as}
+use Rattle.series_load.specs.Steps.{SaysSo, closed}
 use Rattle.series_load.specs.declared.said.Said.{Said}
-use Rattle.series_load.proofs.LineLemmas.{adds_at, ends_at, adds_header, does_nothing, point_does, gap_does, bad_does}
-use Rattle.series_store.specs.Shown as shown
+use Rattle.series_load.proofs.LineLemmas.{adds_at, adds_header, gap_took, point_took, took_nothing}
 use Rattle.series_load.proofs.loader.Loader.take_said.Goals as goal
 
-pub take_reading-requires-clause-near : goal.take_reading-requires-clause-near
-take_reading-requires-clause-near g c = c.requires.near c.in-Point.reading c.in-Point.is
+pub take_reading-requires : goal.take_reading-requires
+take_reading-requires c = record { near = c.requires.near c.in-Point.reading c.in-Point.is }
 
 pub returns-in-Header-clause-does : goal.returns-in-Header-clause-does
-returns-in-Header-clause-does g c = λ total book old text told stands keeps some says.
+returns-in-Header-clause-does c = λ waiting old text keeps some says.
     let at = c.args.self.now in
     let P : Said → Type 0 = λ s. SaysSo at.scale at.first text s in
-    does_nothing (adds_at at.scale at.step c.args.at text at.first old at.points false at.points) (ends_at at.scale at.step c.args.at text at.first old at.points) (BadDone at.scale c.args.at at.first text total at.name book old (shown.image c.args.store.now)) total at.name book old _ at.run (shown.view c.args.store.now)
-    (adds_header at.scale at.step c.args.at text at.first old at.points some (subst P c.in-Header.is says)) keeps stands
+    took_nothing (adds_at at.scale at.step c.args.at text at.first old at.points false at.points) at.name waiting old at.kept at.run
+    (adds_header at.scale at.step c.args.at text at.first old at.points some (subst P c.in-Header.is says)) keeps
 
 pub returns-in-Point-clause-does : goal.returns-in-Point-clause-does
-returns-in-Point-clause-does g c = λ total book old text told stands keeps some says.
+returns-in-Point-clause-does c = λ waiting old text keeps some says.
     let at = c.args.self.now in
+    let new = c.take_reading.new.self in
     let P : Said → Type 0 = λ s. SaysSo at.scale at.first text s in
-    point_does at.scale at.step c.args.at text at.first c.take_reading.new.self.first at.points c.take_reading.new.self.points c.in-Point.reading.time c.in-Point.reading.value total at.name book old c.take_reading.result c.take_reading.new.self.run (shown.view c.args.store.now) (shown.view c.take_reading.new.store) some (subst P c.in-Point.is says)
-    c.take_reading.ensures.first c.take_reading.ensures.points (c.take_reading.ensures.does total book old told stands keeps)
+    point_took at.scale at.step c.args.at text at.first new.first at.points new.points c.in-Point.reading.time c.in-Point.reading.value at.name waiting old c.take_reading.result new.kept new.run some (subst P c.in-Point.is says)
+    c.take_reading.ensures.first c.take_reading.ensures.points (c.take_reading.ensures.does waiting old keeps)
 
 pub returns-in-Gap-clause-does : goal.returns-in-Gap-clause-does
-returns-in-Gap-clause-does g c = λ total book old text told stands keeps some says.
+returns-in-Gap-clause-does c = λ waiting old text keeps some says.
     let at = c.args.self.now in
+    let new = c.close.new.self in
     let P : Said → Type 0 = λ s. SaysSo at.scale at.first text s in
-    gap_does at.scale at.step c.args.at text at.first c.close.new.self.first at.points c.close.new.self.points total at.name book old c.close.result c.close.new.self.run (shown.view c.args.store.now) (shown.view c.close.new.store) some (subst P c.in-Gap.is says)
-    c.close.ensures.first c.close.ensures.points (c.close.ensures.does total book old told stands keeps)
-
-pub returns-in-Bad-clause-does : goal.returns-in-Bad-clause-does
-returns-in-Bad-clause-does g c = λ total book old text told stands keeps some says.
-    let at = c.args.self.now in
-    let P : Said → Type 0 = λ s. SaysSo at.scale at.first text s in
-    bad_does at.scale at.step c.args.at text at.first c.stop.new.self.first at.points c.stop.new.self.points total at.name book old c.stop.result _ c.stop.new.self.run c.stop.new.self.run (shown.view c.args.store.now) (shown.view c.stop.new.store) some (subst P c.in-Bad.is says)
-    refl (c.stop.ensures.does total book old told stands keeps)
+    gap_took at.scale at.step c.args.at text at.first new.first at.points new.points at.name waiting old c.close.result new.kept new.run some (subst P c.in-Gap.is says)
+    c.close.ensures.first c.close.ensures.points (ok_keeps_as c.close.result at.name new.name (waiting ++ closed old) None new.kept new.run c.close.ensures.name (c.close.ensures.keeps waiting old keeps))

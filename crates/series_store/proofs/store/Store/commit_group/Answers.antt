@@ -49,6 +49,6 @@ returns-clause-grouped g c = rw (shown.ForBook, shown.IsTold, shown.image, shown
     let answers = c.commit_all.new.answers.items in
     let left : left_by c.in_ok-txn.txn (g.P.Pages.view old).image ≡ (g.P.Pages.view old).image = c.in_ok-txn.ensures.left told in
     let S : Image → Type 0 = λ i. StandsForBook i total book in
-    let N : ℕ → Type 0 = λ n. IsGroupedBy total book n false c.args.edits.now (drop (length c.args.answers.now.items) answers) c.commit_all.result (g.P.Pages.view old) (g.P.Pages.view new) in
-    let B : List (Result Outcome Refusal) → Type 0 = λ before. IsGroupedBy total book 1 false c.args.edits.now (drop (length before) answers) c.commit_all.result (g.P.Pages.view old) (g.P.Pages.view new) in
+    let N : ℕ → Type 0 = λ n. IsGroupedBy total book n c.args.ends false c.args.edits.now (drop (length c.args.answers.now.items) answers) c.commit_all.result (g.P.Pages.view old) (g.P.Pages.view new) in
+    let B : List (Result Outcome Refusal) → Type 0 = λ before. IsGroupedBy total book 1 c.args.ends false c.args.edits.now (drop (length before) answers) c.commit_all.result (g.P.Pages.view old) (g.P.Pages.view new) in
     subst B c.requires.none (subst N c.in_ok-txn.ensures.len (c.commit_all.ensures.grouped total book told (subst S (sym left) stands) (λ none. left))))

@@ -1,3 +1,4 @@
+use Rattle.std.proofs.Common.{refl}
 use Rattle.series_store.specs.Shown as shown
 use Rattle.series_store.proofs.store.Store.edit_group.Goals as goal
 
@@ -5,7 +6,7 @@ pub returns-clause-done : goal.returns-clause-done
 returns-clause-done g c = rw (shown.ForBook, shown.IsTold, shown.image, shown.view, shown.pages, ← c.select_none.ensures.space) (λ total book told stands. (c.edit_some.ensures.answered total book told stands).done)
 
 pub returns-clause-many : goal.returns-clause-many
-returns-clause-many g c = rw (shown.ForBook, shown.IsTold, shown.image, shown.view, shown.pages, ← c.select_none.ensures.space) (λ total book told stands. (c.edit_some.ensures.answered total book told stands).many)
+returns-clause-many g c = rw (shown.ForBook, shown.IsTold, shown.image, shown.view, shown.pages, ← c.select_none.ensures.space) (λ total book told stands. (c.edit_some.ensures.answered total book told stands).many refl)
 
 pub returns-clause-outside : goal.returns-clause-outside
 returns-clause-outside g c = rw (shown.ForBook, shown.IsTold, shown.image, shown.view, shown.pages, ← c.select_none.ensures.space) (λ total book told stands. (c.edit_some.ensures.answered total book told stands).outside)

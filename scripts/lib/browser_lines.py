@@ -1,0 +1,267 @@
+"""What scripts/gate/browser looks at where something changes: edits, a window that follows, slow and lost lines, an ended program, a full house."""
+import http.client
+import os
+import re
+import signal
+import subprocess
+import urllib.parse
+
+from browser_driver import KEYS, require, wait_for
+from browser_page import PROGRAM, ROOT, SLOTS, START, STEP, edit, make_store, served
+import browser_looks
+import browser_page
+
+# The next answer is no frame, and of the next client the first drawing fails.
+FAIL_TWICE = """
+const [sent, made] = [window.fetch, WebAssembly.Instance];
+window.fetch = async (path, ...words) => {
+  if (path !== "request") {
+    return sent(path, ...words);
+  }
+  window.fetch = sent;
+  return new Response(new Uint8Array([0, 0, 0, 5, 99, 0, 0, 0, 0]));
+};
+WebAssembly.Instance = function (...words) {
+  WebAssembly.Instance = made;
+  const fails = () => {
+    throw new WebAssembly.RuntimeError("unreachable");
+  };
+  return { exports: { ...new made(...words).exports, chart_draw: fails } };
+};
+"""
+
+
+# The next answer is no frame, so another session is begun; that one is told to have given way.
+GIVE_WAY = """
+const sent = window.fetch;
+const answers = { request: new Uint8Array([0, 0, 0, 5, 99, 0, 0, 0, 0]), events: "event: closed\\ndata: true\\n\\n" };
+window.fetch = async (path, ...words) => {
+  const answer = answers[path];
+  delete answers[path];
+  return answer ? new Response(answer) : sent(path, ...words);
+};
+"""
+# Answers wait until they are let go.
+HOLD = """
+const sent = window.fetch;
+const held = new Promise((done) => (window.letGo = done));
+window.fetch = async (path, ...words) => {
+  await (path === "request" ? held : null);
+  return sent(path, ...words);
+};
+"""
+
+
+def wait_until_live(page):
+    wait_for(lambda: page.read()["state"] == "live", lambda: f"the page isn't live: {page.read()}")
+
+
+def fail_module(page):
+    """A frame that is none gives the client up. The next one's module traps at its first drawing, and is given up too; then a new one draws."""
+    if not os.path.exists(browser_page.MODULE):
+        return
+    page.open("panel=sea")
+    page.browser.run(FAIL_TWICE)
+    page.do(lambda: page.browser.click("#in"))
+    wait_until_live(page)
+    page.compare()
+
+
+def give_way(page):
+    """A page whose session gave way says so, and a click begins another one."""
+    page.open("panel=sea")
+    page.browser.run(GIVE_WAY)
+    page.browser.click("#in")
+    wait_for(lambda: "This page was idle" in page.read()["why"], lambda: f"the page says {page.read()['why']!r}")
+    require(page.read()["state"] == "waiting", "a page that gave way doesn't say that it waits")
+    page.do(lambda: page.browser.click("#all"))
+    wait_until_live(page)
+    page.compare()
+
+
+def rest_unseen(page):
+    """A page that nobody sees lets its session go, and begins another one when it is seen."""
+    page.open("panel=sea")
+    see = "Object.defineProperty(document, 'visibilityState', { value: arguments[0], configurable: true });"
+    page.browser.run(see + "document.dispatchEvent(new Event('visibilitychange'))", "hidden")
+    wait_for(lambda: page.read()["state"] == "resting", lambda: f"the page says {page.read()['status']}")
+    page.request("append sea 321")
+    frames = [page.request(f"open {number}") for number in range(1, 17)]
+    require(all(frame[4] == 3 for frame in frames), "the session isn't let go")
+    for number in range(1, 17):
+        page.request(f"close {number}")
+    page.do(lambda: page.browser.run(see + "document.dispatchEvent(new Event('visibilitychange'))", "visible"))
+    wait_until_live(page)
+    require(page.window()[1] == page.end("sea"), "what came in between isn't drawn")
+    page.compare()
+
+
+def fall_behind(page):
+    """Where a change isn't drawn within a second the page says so, until it is."""
+    page.open("panel=few")
+    page.browser.run(HOLD)
+    page.request("set few 0 5")
+    wait_for(lambda: page.read()["state"] == "behind", lambda: f"the page says {page.read()['status']}")
+    require(re.fullmatch(r"Behind since \d\d:\d\d:\d\d", page.read()["status"]), f"the page says {page.read()['status']}")
+    page.do(lambda: page.browser.run("window.letGo()"))
+    wait_until_live(page)
+    page.compare()
+
+
+def draw_pushes(page):
+    """Each edit is drawn as it comes, in the panels that show its series."""
+    page.open(f"panel=few&panel=sea&from={START}&to={START + 100 * STEP}")
+    page.do(lambda: page.browser.type("#line", f"set sea {START + 50 * STEP} 7777"))
+    told = page.read()
+    slots = (page.end("sea") - START) // STEP
+    require(told["answer"] == f"done: {slots} slots" and told["panels"][1]["label"].endswith("to 7777"), f"the corrected value isn't drawn: {told}")
+    page.compare()
+    drawn = [panel["drawings"] for panel in told["panels"]]
+    for value in (9000, -5000, 12):
+        page.do(lambda: page.request(f"set sea {START + 51 * STEP} {value}"))
+        page.compare()
+    now = [panel["drawings"] for panel in page.read()["panels"]]
+    require(now[0] == drawn[0] and now[1] >= drawn[1] + 3, f"drawn were {now} behind {drawn}")
+    page.browser.type("#line", f"set sea {START + 1} 5")
+    wait_for(lambda: page.read()["answer"].startswith("the time is no slot's"), lambda: f"a wrong edit is answered by {page.read()['answer']!r}")
+    page.request(f"set sea {START + 51 * STEP} 0")
+
+
+def follow_end(page):
+    """A window stays at the last hour, pauses while somebody looks back, and goes on."""
+    page.open("panel=tide&panel=sea&last=3600")
+    end = page.end("sea")
+    require(page.window() == (end - 3600, end), f"the last hour is {page.window()}")
+    page.do(lambda: page.request("append sea 5"))
+    require(page.window() == (end + STEP - 3600, end + STEP), f"behind an append the window is {page.window()}")
+    page.compare()
+    page.do(lambda: page.press(KEYS["left"]))
+    back = page.window()
+    page.do(lambda: page.request("append sea 6"))
+    require(page.window() == back, "the window moves while somebody looks back")
+    page.compare()
+    page.do(lambda: page.browser.click("#resume"))
+    require(page.window()[1] == end + 2 * STEP, f"behind the end again the window is {page.window()}")
+    page.compare()
+    page.do(lambda: page.browser.choose("#last", "86400"))
+    require(page.window()[1] - page.window()[0] >= 86400, "the last day isn't shown")
+    page.compare()
+
+
+def come_slowly(page):
+    """Over a slow line an answer is shown by its covers, and then by its picture."""
+    page.open(f"panel=sea&from={START}&to={START + STEP}")
+    conditions = {"network_conditions": {"offline": False, "latency": 0, "download_throughput": 16000, "upload_throughput": 24000}}
+    page.browser.send("/chromium/network_conditions", conditions)
+    try:
+        page.browser.run("document.querySelector('#all').click()")
+        if not os.path.exists(browser_page.MODULE):
+            return
+        covers = []
+        wait_for(lambda: covers.append(page.cover()) or covers[-1], "no cover is shown, and marked as one")
+        pbm, count, size = covers[-1]
+        lines = ["open 1 131072", *(f"view 1 sea {size[0]} {size[1]} {START} {to} auto" for to in (START + STEP, page.end("sea")))]
+        frames = page.program(["serve"], "".join(line + "\n" for line in lines).encode())
+        wanted = subprocess.run([PROGRAM, "-", "cover", count], input=frames, stdout=subprocess.PIPE, check=True).stdout
+        require(pbm in wanted, f"the canvas isn't the cover after {count} coefficients")
+        page.show("cover")
+    finally:
+        page.browser.send("/chromium/network_conditions", method="DELETE")
+    wait_for(lambda: not page.read()["panels"][0]["covered"] and page.window()[1] == page.end("sea"), "the picture doesn't follow its covers")
+    page.compare()
+
+
+def wait_for_place(browser, store, folder, screenshots):
+    """A seventeenth viewer is told why it has to wait, and begins once another one goes."""
+    with served(browser, store, screenshots, "--edit") as (page, _):
+        streams = []  # of sixteen viewers that aren't browsers
+        for number in range(1, 17):
+            page.request(f"open {number}")
+            stream = http.client.HTTPConnection(urllib.parse.urlsplit(page.address).netloc)
+            stream.request("POST", "/events", str(number), {"X-Chart-Token": page.token})
+            streams.append((stream, stream.getresponse()))
+        browser.send("/url", {"url": f"{page.address.partition('?')[0]}?panel=sea#{page.fragment}"})
+        wait_for(lambda: "Sixteen pages look at this store" in page.read()["why"], "a seventeenth viewer isn't told why")
+        require(page.read()["state"] == "waiting", "the page doesn't say that it waits")
+        page.show("waiting")
+        streams[3][1].close()
+        streams[3][0].close()
+        wait_for(lambda: page.read()["drawings"] > 0, "a place that is free isn't taken")
+        page.compare()
+
+
+def lose_line(browser, store, folder, screenshots):
+    """A server that is gone is told, since when; one that comes back is used by itself."""
+    token = os.path.join(folder, "token")
+    with served(browser, store, screenshots, "--edit", "--token-file", token) as (page, server):
+        page.open("panel=sea&last=3600")
+        port = urllib.parse.urlsplit(page.address).port
+        server.terminate()
+        server.wait()
+        wait_for(lambda: page.read()["state"] == "cut", lambda: f"the page says {page.read()['status']}")
+        require(re.fullmatch(r"Cut off since \d\d:\d\d:\d\d", page.read()["status"]), f"the page says {page.read()['status']}")
+        page.show("cut")
+        edit(store, "append sea 77")
+    with served(browser, store, screenshots, "--edit", "--token-file", token, "--port", str(port)) as (page, server):
+        wait_until_live(page)
+        wait_for(lambda: page.window()[1] == page.end("sea"), "what came in between isn't drawn")
+        page.compare()
+        end_program(page, server)
+
+
+def end_program(page, server):
+    with open(f"/proc/{server.pid}/task/{server.pid}/children", encoding="ascii") as file:
+        child = int(file.read())
+    os.kill(child, signal.SIGKILL)
+    wait_for(lambda: "the program has ended with status -9" in page.read()["why"], lambda: f"the page says {page.read()['why']!r}")
+    require(page.read()["state"] == "ended", "the page doesn't say that it is ended")
+    with open(f"/proc/{server.pid}/task/{server.pid}/children", encoding="ascii") as file:
+        require(file.read() == "", "another program was started")
+    page.show("ended")
+
+
+def without_module(browser, folder):
+    """Without the module the client in JavaScript draws, and the page says so."""
+    store = os.path.join(folder, "plain.store")
+    make_store(store, SLOTS)
+    with served(browser, store, None, "--module", "/nowhere/chart_client.wasm") as (page, _):
+        page.open("panel=sea+tide&panel=few")
+        said = page.browser.run("const it = document.getElementById('client'); return [it.dataset.proved, it.textContent]")
+        require(said == ["false", "Drawn by the client in JavaScript, which isn't proved: its module isn't built."], f"the page says {said}")
+        page.compare()
+        require(page.browser.run("return document.getElementById('edit').hidden"), "the page asks for edits without --edit")
+        browser_looks.see_crosshair(page)
+
+
+def show_sunspots(browser, folder, screenshots):
+    """The pages of README's pictures, by its commands: a real series, and later values as if they came in now."""
+    store = os.path.join(folder, "months.store")
+    examples = os.path.join(ROOT, "examples")
+    for name in ("make_store", "months", "later_months"):
+        require(os.path.exists(os.path.join(examples, name)), f"examples/{name} isn't there")
+    subprocess.run([os.path.join(examples, "make_store"), store, "2400"], stdout=subprocess.PIPE, check=True)
+    browser.size(1000, 560)
+    with subprocess.Popen([os.path.join(examples, "later_months"), "2400", "0.02"], stdout=subprocess.PIPE) as feeder:
+        with served(browser, store, screenshots, "sunspots", "--feed", stdin=feeder.stdout) as (page, _):
+            page.open("panel=sunspots&zone=utc")
+            before = page.window()
+            wait_for(lambda: page.window()[1] > before[1], "the later months aren't drawn as they come")
+            feeder.terminate()
+            feeder.wait()
+            wait_until_quiet(page)
+            page.compare()
+            page.show("page")
+
+
+def wait_until_quiet(page):
+    """Waits until all is drawn that the store has, and nothing more comes to it."""
+    seen = []
+
+    def is_quiet():
+        seen.append((page.end("sunspots"), page.read()["drawings"]))
+        return len(seen) > 4 and len(set(seen[-4:])) == 1 and page.window()[1] == seen[-1][0]
+
+    wait_for(is_quiet, lambda: f"what comes doesn't end, or isn't drawn: {seen[-1]} and the window {page.window()}")
+
+
+EDITING = (fail_module, give_way, rest_unseen, fall_behind, draw_pushes, follow_end, come_slowly)
