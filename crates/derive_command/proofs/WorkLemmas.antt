@@ -1,10 +1,11 @@
 -- What a line of `derive` does, as a work of lines says it.
-use Rattle.std.proofs.Common.{ℕ, List, Option, Result, Ok, Err, refl, sym, subst}
+use Rattle.std.proofs.Common.{◌≡◌, ◌≢◌, ℕ, List, Option, Result, Ok, Err, refl, ap, sym, subst}
 use Rattle.std.specs.Prelude.{OnOk, IfErr}
 use Rattle.block_disk.specs.View.{Image}
 use Rattle.line_runs.specs.Carried.{DoesOne}
 use Rattle.line_runs.specs.Given.{Line}
 use Rattle.run_ends.specs.declared.ending.End.{End}
+use Rattle.run_ends.specs.declared.ending.End.TheVariants.{InputTooLong}
 use Rattle.series_book.specs.declared.one_series.Series.{Series}
 use Rattle.stored_book.specs.Standing.{StandsForBook}
 use Rattle.store_commands.specs.Sides.{Side}
@@ -26,3 +27,8 @@ pub work_stops : {T : Type 0} (book : List Series) (line : Option (List ℕ)) (a
     → IfErr result (λ end. LineStopsSo book (Line at line) before now end)
 work_stops {T} book line at before now (Ok v) does = tt
 work_stops {T} book line at before now (Err end) does = does.stops
+
+-- a cause of an end that isn't the input's length
+pub cause_short : {T : Type 0} (Causes : End → Type 0) (result : Result T End) → IfErr result Causes → (result ≡ Err InputTooLong → ⊥) → IfErr result (λ end. Causes end × (end ≢ InputTooLong))
+cause_short {T} Causes (Ok done) causes short = tt
+cause_short {T} Causes (Err end) causes short = (causes, λ is. short (ap Err is))

@@ -1,5 +1,5 @@
 //! A line is answered.
-ghost use Rattle.std.specs.Prelude.{◌≡◌, ◌≤◌, Err, Some, length, IfErr, OnOk};
+ghost use Rattle.std.specs.Prelude.{◌≡◌, ◌≢◌, ◌≤◌, Err, Some, length, IfErr, OnOk};
 ghost use Rattle.block_disk.specs.Counts.{HasRisen};
 ghost use Rattle.block_disk.specs.Streams.{sent_after};
 ghost use Rattle.chart_world.specs.Faults.{CountsFault, fault_in};
@@ -27,6 +27,7 @@ use std::alloc::Global;
 /// The end where the line at this offset is refused.
 fn refused_at(at: u32, refusal: DeriveRefusal) -> End
     ensures { result ≡ refused_at at refusal }
+    ensures short { result ≢ End.InputTooLong }
 {
     End::RefusedLine {
         at,
@@ -37,6 +38,7 @@ fn refused_at(at: u32, refusal: DeriveRefusal) -> End
 /// What an error of a chart is for the line at this offset.
 fn end_at(at: u32, error: SumError) -> End
     ensures { result ≡ end_at at error }
+    ensures short { result ≢ End.InputTooLong }
 {
     match error {
         SumError::TooLarge { .. } => refused_at(at, DeriveRefusal::TooLarge),
@@ -55,6 +57,7 @@ fn send_picture<P: PageWorld>(
     ensures whole { OnOk result (P.sent (shown.pages store.new) ≡ sent_after (picture chart.now) (P.sent (shown.pages store.old))) }
     ensures stops { IfErr result (TextStops (picture chart.now) (P.sent (shown.pages store.old)) (P.sent (shown.pages store.new))) }
     ensures cause { result ≡ Err End.SendFault → HasRisen (P.send_faults (shown.pages store.old)) (P.send_faults (shown.pages store.new)) }
+    ensures long { result ≢ Err End.InputTooLong }
     ensures send_faults { P.send_faults (shown.pages store.old) ≤ P.send_faults (shown.pages store.new) }
     ensures left { P.left (shown.pages store.new) ≡ P.left (shown.pages store.old) }
     ensures pieces { P.pieces (shown.pages store.new) ≡ P.pieces (shown.pages store.old) }
@@ -84,6 +87,7 @@ fn answer_request<P: PageWorld>(
     ensures does { shown.ForBook store.old (λ total book. DoesRequest book request.now at result (P.sent (shown.pages store.old)) (P.sent (shown.pages store.new))) }
     ensures goes { Goes (side_of P.Streams store.old) (side_of P.Streams store.new) }
     ensures cause { IfErr result (λ e. IsCause e (side_of P.Streams store.old) (side_of P.Streams store.new)) }
+    ensures long { result ≢ Err End.InputTooLong }
     ensures left { P.left (shown.pages store.new) ≡ P.left (shown.pages store.old) }
     ensures pieces { P.pieces (shown.pages store.new) ≡ P.pieces (shown.pages store.old) }
     ensures faults { CountsFault (fault_in end_fault result) (shown.view store.old) (shown.view store.new) }
@@ -118,6 +122,7 @@ pub(crate) fn answer_line<P: PageWorld>(
     ensures does { shown.ForBook store.old (λ total book. DoesLine book (Some line.now) at result (P.sent (shown.pages store.old)) (P.sent (shown.pages store.new))) }
     ensures goes { Goes (side_of P.Streams store.old) (side_of P.Streams store.new) }
     ensures cause { IfErr result (λ e. IsCause e (side_of P.Streams store.old) (side_of P.Streams store.new)) }
+    ensures long { result ≢ Err End.InputTooLong }
     ensures left { P.left (shown.pages store.new) ≡ P.left (shown.pages store.old) }
     ensures pieces { P.pieces (shown.pages store.new) ≡ P.pieces (shown.pages store.old) }
     ensures faults { CountsFault (fault_in end_fault result) (shown.view store.old) (shown.view store.new) }
