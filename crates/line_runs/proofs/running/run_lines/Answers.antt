@@ -1,14 +1,14 @@
 use Rattle.std.proofs.Common.{◌≡◌, ◌∙◌, ℕ, ◌+◌, ◌≤◌, List, Option, None, Some, Ok, Err, IsTrue, ◌^◌, length, refl, ap, sym, subst, arith}
 use Rattle.chart_world.specs.FaultLaws.{counts_then, counts_kept}
-use Rattle.chart_world.specs.FrontLaws.{gives_by, same_line}
+use Rattle.chart_world.specs.FrontLaws.{gives_by, longer, read_up, same_line}
 use Rattle.chart_world.specs.Fronts.{Gives}
-use Rattle.chart_world.specs.Reading.{IsNone, Reading, input_length}
+use Rattle.chart_world.specs.Reading.{IsNone, IsReadUp, Reading, input_length}
 use Rattle.chart_world.specs.StandsLaws.{stands_beside, stands_first}
 use Rattle.line_runs.specs.CarriedLaws.{carries_on}
 use Rattle.line_runs.specs.Given.{Line, Pause, End}
 use Rattle.line_runs.specs.Runs.{AreAll}
 use Rattle.line_runs.proofs.GoingLemmas.{Going, Stands, Waiting, end_all, end_next, fault_stops, few_left, few_line, few_stands, going_first, going_one, lasts_first, lasts_one, lasts_take, line_at, line_next, one_stops, pause_next, waiting}
-use Rattle.line_runs.proofs.Outcomes.{ok_err}
+use Rattle.line_runs.proofs.Outcomes.{fault_same, ok_err}
 use Rattle.line_runs.proofs.running.run_lines.Goals as goal
 
 later_pieces : (a b c : ℕ) → a ≤ b → b ≤ c → a ≤ c
@@ -160,6 +160,14 @@ returns-in-Err-next-clause-crash g c = λ state stands lasting.
     (laws.take_passes paused taken takes) lasts_paused in
     so_far
 
+pub returns-in-Err-next-clause-long : goal.returns-in-Err-next-clause-long
+returns-in-Err-next-clause-long g c = λ same.
+    let left = g.S.Streams.left in
+    let inv = c.lines.invariant in
+    let no = c.in-Err-next.ensures in
+    longer (left c.args.from.now) (left c.next.new.from) c.next.new.self.taken (2 ^ 32) (no.past (ap Err (fault_same c.in-Err-next.fault same)))
+    (no.total ∙ ap (input_length c.lines.lines.taken) c.pause_for.ensures.left ∙ inv.whole)
+
 pub returns-in-Err-next-clause-fit_on_err : goal.returns-in-Err-next-clause-fit_on_err
 returns-in-Err-next-clause-fit_on_err g c =
     let laws = g.met.W.LineWork in
@@ -213,6 +221,18 @@ returns-in-Ok-finish-clause-done g c = λ state stands.
     going_one w.does w.rests w.leaves state (left first) (Waiting r (left paused) (pieces first) (pieces paused)) (λ s. w.stands s work taken) (sent first) (sent taken) here (AreAll (pieces first) (pieces c.finish.new.from))
     (λ s. w.stands s c.finish.new.self c.finish.new.from) End (sent c.finish.new.from) (end_all here.done.given r (left paused) (pieces first) (pieces paused) (pieces c.finish.new.from) (later_pieces (pieces paused) (pieces taken) (pieces c.finish.new.from) next.pieces c.finish.ensures.pieces) none)
     (c.in-Ok-finish.ensures.does here.done.behind here.stands)
+
+pub returns-in-Ok-finish-clause-whole : goal.returns-in-Ok-finish-clause-whole
+returns-in-Ok-finish-clause-whole g c =
+    let left = g.S.Streams.left in
+    let first = left c.args.from.now in
+    let taken = left c.next.new.from in
+    let r = c.lines.lines in
+    let e = c.in-Ok-next.ensures in
+    let U : Option (List ℕ) → Type 0 = λ l. IsReadUp first l in
+    subst U (sym c.finish.ensures.left)
+    (read_up first (left c.pause_for.new.from) taken r c.next.new.self (e.end (ap Ok c.in-End.is)) e.rest
+    (e.total ∙ ap (input_length r.taken) c.pause_for.ensures.left ∙ c.lines.invariant.whole))
 
 pub returns-in-Ok-finish-clause-crash : goal.returns-in-Ok-finish-clause-crash
 returns-in-Ok-finish-clause-crash g c = λ state stands lasting.
