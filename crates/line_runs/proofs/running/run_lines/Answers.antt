@@ -117,7 +117,7 @@ returns-in-Err-next-clause-stops g c = λ state stands.
     let next = c.next.ensures in
     let here = waiting w.does w.rests w.leaves state (left first) (λ s. w.stands s c.lines.work mid) (λ s. w.stands s work paused)
     (λ s. w.stands s work taken) r (left mid) (left paused) (pieces first) (pieces mid) (pieces paused) (sent first) (sent mid)
-    (sent paused) (sent taken) pausing.left pausing.pieces (λ s. laws.stands_taken s work paused taken takes) next.sent
+    (sent paused) (sent taken) pausing.left pausing.pieces (λ s. laws.stands_taken s work paused taken takes next.sent) next.sent
     (inv.far state stands) (pauses.does (inv.far state stands).done.behind (inv.far state stands).stands) in
     fault_stops w.does w.rests w.leaves state (left first) (λ s it end before. w.stops s it end work taken before) (λ s. w.stands s work taken) (sent first) (sent taken) r r' (left paused) (left taken) (pieces first)
     (pieces paused) (pieces taken) c.in-Err-next.fault (λ h. inv.stands_in.whole (c.in-Err-next.ensures.not_ended (ap Err h)))
@@ -216,7 +216,7 @@ returns-in-Ok-finish-clause-done g c = λ state stands.
     let none = e.end (ap Ok c.in-End.is) in
     let here = waiting w.does w.rests w.leaves state (left first) (λ s. w.stands s c.lines.work mid) (λ s. w.stands s work paused)
     (λ s. w.stands s work taken) r (left mid) (left paused) (pieces first) (pieces mid) (pieces paused) (sent first) (sent mid)
-    (sent paused) (sent taken) pausing.left pausing.pieces (λ s. laws.stands_taken s work paused taken takes) next.sent
+    (sent paused) (sent taken) pausing.left pausing.pieces (λ s. laws.stands_taken s work paused taken takes next.sent) next.sent
     (inv.far state stands) (pauses.does (inv.far state stands).done.behind (inv.far state stands).stands) in
     going_one w.does w.rests w.leaves state (left first) (Waiting r (left paused) (pieces first) (pieces paused)) (λ s. w.stands s work taken) (sent first) (sent taken) here (AreAll (pieces first) (pieces c.finish.new.from))
     (λ s. w.stands s c.finish.new.self c.finish.new.from) End (sent c.finish.new.from) (end_all here.done.given r (left paused) (pieces first) (pieces paused) (pieces c.finish.new.from) (later_pieces (pieces paused) (pieces taken) (pieces c.finish.new.from) next.pieces c.finish.ensures.pieces) none)
@@ -260,7 +260,7 @@ returns-in-Ok-finish-clause-crash g c = λ state stands lasting.
     (pauses.does (inv.far state stands).done.behind (inv.far state stands).stands) in
     let here = waiting w.does w.rests w.leaves state (left first) (λ s. w.stands s c.lines.work mid) (λ s. w.stands s work paused)
     (λ s. w.stands s work taken) r (left mid) (left paused) (pieces first) (pieces mid) (pieces paused) (sent first) (sent mid)
-    (sent paused) (sent taken) pausing.left pausing.pieces (λ s. laws.stands_taken s work paused taken takes) next.sent
+    (sent paused) (sent taken) pausing.left pausing.pieces (λ s. laws.stands_taken s work paused taken takes next.sent) next.sent
     (inv.far state stands) (pauses.does (inv.far state stands).done.behind (inv.far state stands).stands) in
     let lasting_far = carries_on w.does w.lasting laws.lasting_on (inv.far state stands).done.given state (inv.far state stands).done.text
     (inv.far state stands).done.behind (inv.far state stands).done.carries lasting in
@@ -306,7 +306,7 @@ returns-in-Err-finish-clause-crash g c = λ state stands lasting.
     (pauses.does (inv.far state stands).done.behind (inv.far state stands).stands) in
     let here = waiting w.does w.rests w.leaves state (left first) (λ s. w.stands s c.lines.work mid) (λ s. w.stands s work paused)
     (λ s. w.stands s work taken) r (left mid) (left paused) (pieces first) (pieces mid) (pieces paused) (sent first) (sent mid)
-    (sent paused) (sent taken) pausing.left pausing.pieces (λ s. laws.stands_taken s work paused taken takes) next.sent
+    (sent paused) (sent taken) pausing.left pausing.pieces (λ s. laws.stands_taken s work paused taken takes next.sent) next.sent
     (inv.far state stands) (pauses.does (inv.far state stands).done.behind (inv.far state stands).stands) in
     let lasting_far = carries_on w.does w.lasting laws.lasting_on (inv.far state stands).done.given state (inv.far state stands).done.text
     (inv.far state stands).done.behind (inv.far state stands).done.carries lasting in
@@ -348,7 +348,7 @@ returns-in-Err-finish-clause-stops g c = λ state stands.
     let none = e.end (ap Ok c.in-End.is) in
     let here = waiting w.does w.rests w.leaves state (left first) (λ s. w.stands s c.lines.work mid) (λ s. w.stands s work paused)
     (λ s. w.stands s work taken) r (left mid) (left paused) (pieces first) (pieces mid) (pieces paused) (sent first) (sent mid)
-    (sent paused) (sent taken) pausing.left pausing.pieces (λ s. laws.stands_taken s work paused taken takes) next.sent
+    (sent paused) (sent taken) pausing.left pausing.pieces (λ s. laws.stands_taken s work paused taken takes next.sent) next.sent
     (inv.far state stands) (pauses.does (inv.far state stands).done.behind (inv.far state stands).stands) in
     one_stops w.does w.rests w.leaves state (left first) (Waiting r (left paused) (pieces first) (pieces paused)) (λ s. w.stands s work taken) (sent first) (sent taken) here
     (λ s it end before. w.stops s it end c.finish.new.self c.finish.new.from before) (λ s. w.stands s c.finish.new.self c.finish.new.from) End
@@ -440,7 +440,7 @@ lines-preserved-in-Ok-long_line g c =
       far = λ state stands.
           let here = waiting w.does w.rests w.leaves state (left first) (λ s. w.stands s c.lines.work mid) (λ s. w.stands s work paused)
           (λ s. w.stands s work taken) r (left mid) (left paused) (pieces first) (pieces mid) (pieces paused) (sent first) (sent mid)
-          (sent paused) (sent taken) pausing.left pausing.pieces (λ s. laws.stands_taken s work paused taken takes) next.sent
+          (sent paused) (sent taken) pausing.left pausing.pieces (λ s. laws.stands_taken s work paused taken takes next.sent) next.sent
           (inv.far state stands) (pauses.does (inv.far state stands).done.behind (inv.far state stands).stands) in
           let G : Option (List ℕ) → Type 0 = λ l. Going w.does w.rests w.leaves state (left first)
           (Stands r' l (pieces first) (pieces c.long_line.new.from)) (λ s. w.stands s c.long_line.new.self c.long_line.new.from) (sent first) (sent c.long_line.new.from) in
@@ -453,7 +453,7 @@ lines-preserved-in-Ok-long_line g c =
       lasts = λ state stands lasting.
           let here = waiting w.does w.rests w.leaves state (left first) (λ s. w.stands s c.lines.work mid) (λ s. w.stands s work paused)
           (λ s. w.stands s work taken) r (left mid) (left paused) (pieces first) (pieces mid) (pieces paused) (sent first) (sent mid)
-          (sent paused) (sent taken) pausing.left pausing.pieces (λ s. laws.stands_taken s work paused taken takes) next.sent
+          (sent paused) (sent taken) pausing.left pausing.pieces (λ s. laws.stands_taken s work paused taken takes next.sent) next.sent
           (inv.far state stands) (pauses.does (inv.far state stands).done.behind (inv.far state stands).stands) in
           let ready = waiting w.does w.rests w.leaves state (left first) (λ s. w.stands s c.lines.work mid) (λ s. w.stands s work paused)
           (λ s. w.stands s work paused) r (left mid) (left paused) (pieces first) (pieces mid) (pieces paused) (sent first) (sent mid)
@@ -505,7 +505,7 @@ returns-in-Err-long_line-clause-stops g c = λ state stands.
     let at_long_is : at_long ≡ r.given = c.offset_of.ensures ∙ e.offset_too_long is_long in
     let here = waiting w.does w.rests w.leaves state (left first) (λ s. w.stands s c.lines.work mid) (λ s. w.stands s work paused)
     (λ s. w.stands s work taken) r (left mid) (left paused) (pieces first) (pieces mid) (pieces paused) (sent first) (sent mid)
-    (sent paused) (sent taken) pausing.left pausing.pieces (λ s. laws.stands_taken s work paused taken takes) next.sent
+    (sent paused) (sent taken) pausing.left pausing.pieces (λ s. laws.stands_taken s work paused taken takes next.sent) next.sent
     (inv.far state stands) (pauses.does (inv.far state stands).done.behind (inv.far state stands).stands) in
     one_stops w.does w.rests w.leaves state (left first) (Waiting r (left paused) (pieces first) (pieces paused)) (λ s. w.stands s work taken) (sent first) (sent taken) here
     (λ s it end before. w.stops s it end c.long_line.new.self c.long_line.new.from before) (λ s. w.stands s c.long_line.new.self c.long_line.new.from) (Line at_long None)
@@ -545,7 +545,7 @@ returns-in-Err-long_line-clause-crash g c = λ state stands lasting.
     (pauses.does (inv.far state stands).done.behind (inv.far state stands).stands) in
     let here = waiting w.does w.rests w.leaves state (left first) (λ s. w.stands s c.lines.work mid) (λ s. w.stands s work paused)
     (λ s. w.stands s work taken) r (left mid) (left paused) (pieces first) (pieces mid) (pieces paused) (sent first) (sent mid)
-    (sent paused) (sent taken) pausing.left pausing.pieces (λ s. laws.stands_taken s work paused taken takes) next.sent
+    (sent paused) (sent taken) pausing.left pausing.pieces (λ s. laws.stands_taken s work paused taken takes next.sent) next.sent
     (inv.far state stands) (pauses.does (inv.far state stands).done.behind (inv.far state stands).stands) in
     let lasting_far = carries_on w.does w.lasting laws.lasting_on (inv.far state stands).done.given state (inv.far state stands).done.text
     (inv.far state stands).done.behind (inv.far state stands).done.carries lasting in
@@ -664,7 +664,7 @@ lines-preserved g c =
       far = λ state stands.
           let here = waiting w.does w.rests w.leaves state (left first) (λ s. w.stands s c.lines.work mid) (λ s. w.stands s work paused)
           (λ s. w.stands s work taken) r (left mid) (left paused) (pieces first) (pieces mid) (pieces paused) (sent first) (sent mid)
-          (sent paused) (sent taken) pausing.left pausing.pieces (λ s. laws.stands_taken s work paused taken takes) next.sent
+          (sent paused) (sent taken) pausing.left pausing.pieces (λ s. laws.stands_taken s work paused taken takes next.sent) next.sent
           (inv.far state stands) (pauses.does (inv.far state stands).done.behind (inv.far state stands).stands) in
           let G : Option (List ℕ) → Type 0 = λ l. Going w.does w.rests w.leaves state (left first)
           (Stands r' l (pieces first) (pieces c.line-in-Line.new.from)) (λ s. w.stands s c.line-in-Line.new.self c.line-in-Line.new.from) (sent first) (sent c.line-in-Line.new.from) in
@@ -677,7 +677,7 @@ lines-preserved g c =
       lasts = λ state stands lasting.
           let here = waiting w.does w.rests w.leaves state (left first) (λ s. w.stands s c.lines.work mid) (λ s. w.stands s work paused)
           (λ s. w.stands s work taken) r (left mid) (left paused) (pieces first) (pieces mid) (pieces paused) (sent first) (sent mid)
-          (sent paused) (sent taken) pausing.left pausing.pieces (λ s. laws.stands_taken s work paused taken takes) next.sent
+          (sent paused) (sent taken) pausing.left pausing.pieces (λ s. laws.stands_taken s work paused taken takes next.sent) next.sent
           (inv.far state stands) (pauses.does (inv.far state stands).done.behind (inv.far state stands).stands) in
           let ready = waiting w.does w.rests w.leaves state (left first) (λ s. w.stands s c.lines.work mid) (λ s. w.stands s work paused)
           (λ s. w.stands s work paused) r (left mid) (left paused) (pieces first) (pieces mid) (pieces paused) (sent first) (sent mid)
@@ -731,7 +731,7 @@ returns-in-Err-line-clause-stops g c = λ state stands.
     let at_line_is : at_line ≡ r.given = c.offset_of-in-Line.ensures ∙ e.offset is_line in
     let here = waiting w.does w.rests w.leaves state (left first) (λ s. w.stands s c.lines.work mid) (λ s. w.stands s work paused)
     (λ s. w.stands s work taken) r (left mid) (left paused) (pieces first) (pieces mid) (pieces paused) (sent first) (sent mid)
-    (sent paused) (sent taken) pausing.left pausing.pieces (λ s. laws.stands_taken s work paused taken takes) next.sent
+    (sent paused) (sent taken) pausing.left pausing.pieces (λ s. laws.stands_taken s work paused taken takes next.sent) next.sent
     (inv.far state stands) (pauses.does (inv.far state stands).done.behind (inv.far state stands).stands) in
     one_stops w.does w.rests w.leaves state (left first) (Waiting r (left paused) (pieces first) (pieces paused)) (λ s. w.stands s work taken) (sent first) (sent taken) here
     (λ s it end before. w.stops s it end c.line-in-Line.new.self c.line-in-Line.new.from before) (λ s. w.stands s c.line-in-Line.new.self c.line-in-Line.new.from) (Line at_line (Some text))
@@ -773,7 +773,7 @@ returns-in-Err-line-clause-crash g c = λ state stands lasting.
     (pauses.does (inv.far state stands).done.behind (inv.far state stands).stands) in
     let here = waiting w.does w.rests w.leaves state (left first) (λ s. w.stands s c.lines.work mid) (λ s. w.stands s work paused)
     (λ s. w.stands s work taken) r (left mid) (left paused) (pieces first) (pieces mid) (pieces paused) (sent first) (sent mid)
-    (sent paused) (sent taken) pausing.left pausing.pieces (λ s. laws.stands_taken s work paused taken takes) next.sent
+    (sent paused) (sent taken) pausing.left pausing.pieces (λ s. laws.stands_taken s work paused taken takes next.sent) next.sent
     (inv.far state stands) (pauses.does (inv.far state stands).done.behind (inv.far state stands).stands) in
     let lasting_far = carries_on w.does w.lasting laws.lasting_on (inv.far state stands).done.given state (inv.far state stands).done.text
     (inv.far state stands).done.behind (inv.far state stands).done.carries lasting in
