@@ -31,7 +31,7 @@ use Rattle.store_commands.specs.Codes.{too_small, unopened}
 use Rattle.store_commands.specs.Damaged.{IsDamagedLater}
 use Rattle.store_commands.specs.Sides.{Side}
 use Rattle.store_commands.specs.Status.{opening_end}
-use Rattle.store_commands.specs.Traffic.{IsLong, TookAll, Traffic}
+use Rattle.store_commands.specs.Traffic.{IsLong, Traffic, WasRead}
 use Rattle.derive_command.specs.Derived.{DeriveEnds, IsDeriveCause}
 use Rattle.derive_command.specs.Doing.{Goes, IsCause}
 use Rattle.derive_command.specs.Lines.{EndsSo}
@@ -58,7 +58,7 @@ module _ (count count' : ℕ) (sound sound' : Bool) (first old new : View) (tota
       let on = on_at count count' total sound sound' old new goes.size (within_held count total book old holds) Q S (λ pages is. book) (λ pages is. is) passes at image low high left in
       recovers_new count image total book on.readable on.within on.so)
 
-  cause_on : (end : End) → (end ≡ Done → TookAll t) → (end ≡ InputTooLong → IsLong t) → (end ≢ Done → IsCause end (disk_side count sound old total t.reads t.sends) (disk_side count' sound' new total' t.reads_now t.sends_now)) → IsDeriveCause end first new t
+  cause_on : (end : End) → (end ≡ Done → WasRead t.left t.left_now) → (end ≡ InputTooLong → IsLong t.left) → (end ≢ Done → IsCause end (disk_side count sound old total t.reads t.sends) (disk_side count' sound' new total' t.reads_now t.sends_now)) → IsDeriveCause end first new t
   cause_on Done whole long cause = whole refl
   cause_on NoMemory whole long cause = tt
   cause_on ReadFault whole long cause = cause (λ is. cc)
@@ -78,7 +78,7 @@ module _ (count count' : ℕ) (sound sound' : Bool) (first old new : View) (tota
   sent_on None end ends = tt
   sent_on (Some input) end ends = λ total book holds. let here = held_open total book holds in ends total book here.honest (stands_held count total book old rests here)
 
-  pub derived_by : (end : End) → (end ≡ Done → TookAll t) → (end ≡ InputTooLong → IsLong t)
+  pub derived_by : (end : End) → (end ≡ Done → WasRead t.left t.left_now) → (end ≡ InputTooLong → IsLong t.left)
       → (end ≢ Done → IsCause end (disk_side count sound old total t.reads t.sends) (disk_side count' sound' new total' t.reads_now t.sends_now))
       → ((total : ℕ) (book : List Series) → Honest old → StandsForBook (pages_of count old.image) total book → IfSome t.left (λ input. EndsSo book input t.left_now t.sent t.sent_now end))
       → DeriveEnds first new t end

@@ -12,7 +12,7 @@ use Rattle.series_book.specs.declared.one_series.Series.{Series}
 use Rattle.stored_book.specs.Damage.{IsBadForRequest}
 use Rattle.store_commands.specs.Books.{LeavesSame, OfBook}
 use Rattle.store_commands.specs.Damaged.{IsDamagedAtFirst, IsDamagedLater}
-use Rattle.store_commands.specs.Traffic.{IsLong, TookAll, Traffic}
+use Rattle.store_commands.specs.Traffic.{IsLong, Traffic, WasRead}
 use Rattle.derive_command.specs.Answers.{number_of}
 use Rattle.derive_command.specs.Lines.{DrawsAll, DrawsFirst, DrawsPart, DrawsTaken, DrawsToBad, DrawsToRefused, DrawsWithin, EndsSo}
 use Rattle.derive_command.specs.declared.derive_refusal.DeriveRefusal.{DeriveRefusal}
@@ -54,7 +54,7 @@ DerivesToRefused count disk input place before now = OfBook count disk (λ total
 
 -- Why `derive` ended, whatever the disk holds. Where its store wasn't opened no input was taken and nothing was sent.
 abbrev pub IsDeriveCause : End → View → View → Traffic → Type 0
-IsDeriveCause Done old new t = TookAll t
+IsDeriveCause Done old new t = WasRead t.left t.left_now
 IsDeriveCause NoMemory old new t = ⊤
 IsDeriveCause ReadFault old new t = HasRisen t.reads t.reads_now
 IsDeriveCause SendFault old new t = HasRisen t.sends t.sends_now
@@ -62,7 +62,7 @@ IsDeriveCause DiskFault old new t = HasRisen old.faults new.faults
 IsDeriveCause (DamagedBlock block) old new t = IsDamagedAtFirst old block × ((t.left_now ≡ t.left) × (t.sent_now ≡ t.sent))
 IsDeriveCause (DamagedPage page) old new t = IsDamagedLater IsBadForRequest (page_count old.size) new (66 + page)
 IsDeriveCause (BadInput at) old new t = ⊤
-IsDeriveCause InputTooLong old new t = IsLong t
+IsDeriveCause InputTooLong old new t = IsLong t.left
 IsDeriveCause (TooSmall blocks) old new t = (blocks ≡ old.size) × (old.size < 128)
 IsDeriveCause (RefusedLine at refusal) old new t = ⊤
 IsDeriveCause end old new t = ⊥

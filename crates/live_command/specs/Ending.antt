@@ -8,18 +8,18 @@ use Rattle.run_ends.specs.declared.ending.End.{End}
 use Rattle.run_ends.specs.declared.ending.End.TheVariants.{Done, NoMemory, ReadFault, SendFault, DiskFault, DamagedPage, InputTooLong}
 use Rattle.stored_book.specs.Damage.{IsBadForRequest}
 use Rattle.store_commands.specs.Damaged.{IsDamagedLater}
-use Rattle.store_commands.specs.Traffic.{IsLong, TookAll, Traffic}
+use Rattle.store_commands.specs.Traffic.{IsLong, Traffic, WasRead}
 use Rattle.live_command.specs.Ended.{DoesLive, LeavesLived}
 
 -- why the lines were answered so far, whatever the disk holds
 abbrev pub IsServeCause : End → ℕ → View → View → Traffic → Type 0
-IsServeCause Done count old new t = TookAll t
+IsServeCause Done count old new t = WasRead t.left t.left_now
 IsServeCause NoMemory count old new t = ⊤
 IsServeCause ReadFault count old new t = HasRisen t.reads t.reads_now
 IsServeCause SendFault count old new t = HasRisen t.sends t.sends_now
 IsServeCause DiskFault count old new t = HasRisen old.faults new.faults
 IsServeCause (DamagedPage page) count old new t = IsDamagedLater IsBadForRequest count new (block_of page)
-IsServeCause InputTooLong count old new t = IsLong t
+IsServeCause InputTooLong count old new t = IsLong t.left
 IsServeCause end count old new t = ⊥
 
 -- The lines of the input were answered over a disk, all of them or some first ones.

@@ -32,7 +32,7 @@ use Rattle.store_commands.specs.Codes.{too_small, unopened}
 use Rattle.store_commands.specs.Damaged.{IsDamagedLater}
 use Rattle.store_commands.specs.Sides.{Side}
 use Rattle.store_commands.specs.Status.{opening_end}
-use Rattle.store_commands.specs.Traffic.{IsLong, TookAll, Traffic}
+use Rattle.store_commands.specs.Traffic.{IsLong, Traffic, WasRead}
 use Rattle.retain_command.specs.Answers.{book_behind}
 use Rattle.retain_command.specs.Doing.{Goes, IsCause}
 use Rattle.retain_command.specs.Retained.{IsRetainCause, LeavesSwept, RetainEnds}
@@ -104,7 +104,7 @@ module _ (count count' : ℕ) (sound sound' : Bool) (first old new : View) (tota
   held_open : (total : ℕ) (book : List Series) → HoldsBook (page_count first.size) total book first → HoldsBook count total book old
   held_open total book holds = let C : ℕ → Type 0 = λ n. HoldsBook n total book old in subst C (sym counted) (held first old opens total book holds)
 
-  cause_on : (end : End) → (end ≡ Done → TookAll t) → (end ≡ InputTooLong → IsLong t) → (end ≢ Done → IsCause end (disk_side count sound old total t.reads t.sends) (disk_side count' sound' new total' t.reads_now t.sends_now)) → IsRetainCause end first new t
+  cause_on : (end : End) → (end ≡ Done → WasRead t.left t.left_now) → (end ≡ InputTooLong → IsLong t.left) → (end ≢ Done → IsCause end (disk_side count sound old total t.reads t.sends) (disk_side count' sound' new total' t.reads_now t.sends_now)) → IsRetainCause end first new t
   cause_on Done whole long cause = whole refl
   cause_on NoMemory whole long cause = tt
   cause_on ReadFault whole long cause = cause (λ is. cc)
@@ -170,7 +170,7 @@ module _ (count count' : ℕ) (sound sound' : Bool) (first old new : View) (tota
   next_held n total book input (NoSeries at) other s = (_, s.swept.there)
   next_held n total book input end other s = absurd s
 
-  pub retained_by : (end : End) → (end ≡ Done → TookAll t) → (end ≡ InputTooLong → IsLong t)
+  pub retained_by : (end : End) → (end ≡ Done → WasRead t.left t.left_now) → (end ≡ InputTooLong → IsLong t.left)
       → (end ≢ Done → IsCause end (disk_side count sound old total t.reads t.sends) (disk_side count' sound' new total' t.reads_now t.sends_now))
       → OfPages count old (λ total book. IfSome t.left (λ input. SweptOn total book input end))
       → OfPages count old (λ total book. IfSome t.left (λ input. IfSome t.sent (λ bytes. Since (pages_view count sound old) (pages_view count' sound' new) (λ pages sent. IsAhead (Stands total pages) total book input (sent_now (pages_view count sound old)) sent))))

@@ -9,7 +9,7 @@ use Rattle.stored_book.specs.Damage.{IsBadForRequest}
 use Rattle.stored_book.specs.Standing.{RecoversTo}
 use Rattle.store_commands.specs.Books.{HoldsAgain, OfBook, Holds}
 use Rattle.store_commands.specs.Damaged.{IsDamagedAtFirst, IsDamagedLater}
-use Rattle.store_commands.specs.Traffic.{IsLong, TookAll, Traffic}
+use Rattle.store_commands.specs.Traffic.{IsLong, Traffic, WasRead}
 use Rattle.run_ends.specs.Statuses.{block_of}
 use Rattle.run_ends.specs.declared.ending.End.{End}
 use Rattle.run_ends.specs.declared.ending.End.TheVariants.{Done, NoMemory, ReadFault, SendFault, DiskFault, DamagedBlock, DamagedPage}
@@ -56,7 +56,7 @@ LeavesSwept count input old new =
 
 -- Why `retain` ended, whatever the disk holds. Where its store wasn't opened no input was taken and nothing was sent.
 abbrev pub IsRetainCause : End → View → View → Traffic → Type 0
-IsRetainCause Done old new t = TookAll t
+IsRetainCause Done old new t = WasRead t.left t.left_now
 IsRetainCause NoMemory old new t = ⊤
 IsRetainCause ReadFault old new t = HasRisen t.reads t.reads_now
 IsRetainCause SendFault old new t = HasRisen t.sends t.sends_now
@@ -64,7 +64,7 @@ IsRetainCause DiskFault old new t = HasRisen old.faults new.faults
 IsRetainCause (DamagedBlock block) old new t = IsDamagedAtFirst old block × ((t.left_now ≡ t.left) × (t.sent_now ≡ t.sent))
 IsRetainCause (DamagedPage page) old new t = IsDamagedLater IsBadForRequest (page_count old.size) new (block_of page)
 IsRetainCause (BadInput at) old new t = ⊤
-IsRetainCause InputTooLong old new t = IsLong t
+IsRetainCause InputTooLong old new t = IsLong t.left
 IsRetainCause (TooSmall blocks) old new t = (blocks ≡ old.size) × (old.size < 128)
 IsRetainCause (NoSeries at) old new t = ⊤
 IsRetainCause end old new t = ⊥

@@ -26,9 +26,9 @@ traffic left sent read_faults send_faults old new = record {
 }
 
 -- the input, where it is told, is at most 2^32 bytes, and was read to its end
-abbrev pub TookAll : Traffic → Type 0
-TookAll t = IfSome t.left (λ input. (length input ≤ 2 ^ 32) × (t.left_now ≡ Some []))
+abbrev pub WasRead : Option (List ℕ) → Option (List ℕ) → Type 0
+WasRead left left' = IfSome left (λ input. (length input ≤ 2 ^ 32) × (left' ≡ Some []))
 
 -- it has more bytes than that
-abbrev pub IsLong : Traffic → Type 0
-IsLong t = IfSome t.left (λ input. 2 ^ 32 < length input)
+abbrev pub IsLong : Option (List ℕ) → Type 0
+IsLong left = IfSome left (λ input. 2 ^ 32 < length input)
