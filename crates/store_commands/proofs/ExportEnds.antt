@@ -26,7 +26,7 @@ use Rattle.series_store.specs.Sending.{Sends, HasUnfitPage, IsSeriesCause, IsNoD
 use Rattle.series_store.specs.declared.send_errors.SendError.{SendError}
 use Rattle.series_store.specs.declared.send_errors.SendError.TheVariants.{SendFault, DiskFault, Damaged, NoMemory}
 use Rattle.disk_store.specs.Held.{HoldsBook}
-use Rattle.disk_store.specs.Openings.{IsOutside, Opens}
+use Rattle.disk_store.specs.Openings.{Opens}
 use Rattle.disk_store.specs.declared.causes.OpeningCause.{OpeningCause}
 use Rattle.disk_store.specs.declared.causes.OpeningCause.TheVariants as opening
 use Rattle.run_ends.specs.declared.ending.End.{End}
@@ -38,7 +38,7 @@ use Rattle.chart_service.specs.MomentLaws.{since_none}
 use Rattle.chart_service.proofs.DiskKept.{risen_since}
 use Rattle.store_commands.specs.Books.{Never, LeavesSame, SendsPartOf}
 use Rattle.store_commands.specs.Damaged.{IsDamagedLater}
-use Rattle.store_commands.specs.Exported.{ExportEnds, ExportsPart, IsBadForExport, IsExportEnd, unnamed_ends}
+use Rattle.store_commands.specs.Exported.{ExportEnds, ExportsPart, IsBadForExport, IsExportEnd}
 use Rattle.store_commands.specs.Exporting.{EndsExport, ExportsStore, export_end}
 use Rattle.store_commands.specs.Loaded.{OfSeries}
 use Rattle.store_commands.specs.Status.{opening_end}
@@ -48,7 +48,7 @@ use Rattle.store_commands.proofs.Moments.{opened_goes, opened_since, since_on, o
 use Rattle.store_commands.proofs.CheckEnds.{since_both}
 use Rattle.store_commands.proofs.CheckLooks.{left_stands}
 use Rattle.store_commands.proofs.LoadStored.{named_or}
-use Rattle.store_commands.proofs.Unopened.{unopened_end}
+use Rattle.store_commands.proofs.Unopened.{outside_ends, unopened_end}
 use Rattle.store_commands.proofs.WorldLemmas.{IsUnopened}
 
 -- ---- no store was opened
@@ -57,11 +57,6 @@ use Rattle.store_commands.proofs.WorldLemmas.{IsUnopened}
 none_sent : (text : List ℕ) (before now : Option (List ℕ)) → now ≡ before → SendsPartOf text before now
 none_sent text None now same = record { count = 0; within = omega arith; sent = same }
 none_sent text (Some bytes) now same = record { count = 0; within = omega arith; sent = same ∙ ap Some (sym (append-nil bytes)) }
-
--- a store that holds a book is kept from opening by want of memory or a fault alone
-outside_ends : (cause : OpeningCause) → IsOutside cause → Contains unnamed_ends (opening_end cause)
-outside_ends cause (inl fault) = let P : OpeningCause → Type 0 = λ c. Contains unnamed_ends (opening_end c) in subst P (sym fault) (1, omega arith, refl)
-outside_ends cause (inr memory) = let P : OpeningCause → Type 0 = λ c. Contains unnamed_ends (opening_end c) in subst P (sym memory) (0, omega arith, refl)
 
 pub unexported : (name : List ℕ) (window : Option Window) (old new : View) (left left' before now : Option (List ℕ)) (sends sends_now : ℕ) (cause : OpeningCause) (end : End) → IsUnopened old new left left' before now cause → end ≡ opening_end cause
     → ExportEnds name window old new before now sends sends_now end
