@@ -220,8 +220,12 @@ counted total name book runs sets ats answers (Err end) old new are done last ti
     let E : End → Type 0 = λ e. StopsSo NoBad total name book runs new.image e in
     record {
       done = tt;
-      stops = subst E (sym counts.end_is) (record { refusal = counts.refusal; number_is = refl; so = subst I whole (refused_of total name (take n runs) (drop n runs) answers book counts.refusal counts.at new.image (subst P same done.answered) (subst R same last) counts.last
-          (subst B (sym whole) (subst A are.ats_are counts.at_is)) (subst S same done.stands)) });
+      stops = subst E (sym counts.end_is) (record {
+        refusal = counts.refusal;
+        number_is = refl;
+        so = subst I whole (refused_of total name (take n runs) (drop n runs) answers book counts.refusal counts.at new.image (subst P same done.answered) (subst R same last) counts.last
+            (subst B (sym whole) (subst A are.ats_are counts.at_is)) (subst S same done.stands));
+      });
       moments = group_moments total name book runs sets n old new are.sets_are last time;
     }
 

@@ -183,8 +183,8 @@ no_memory_does {T} B total name book runs e (Err x) at is none stands =
     record { done = tt; stops = subst P (sym (is ∙ none)) (part_none total name book runs at.image stands); moments = passes_none at (IsPartDone total name book runs) (Quiet at) }
 
 -- the runs before a bad line were stored
-pub stopped : {T U : Type 0} (at total : ℕ) (name : List ℕ) (book : List Series) (runs : List Run) (v : T) (before now : View) → Does NoBad total name book runs (Ok v) before now → Does {T = U} (IsAtLine at total name book runs now.image) total name book runs (Err (BadInput at)) before now
-stopped at total name book runs v before now does = record { done = tt; stops = record { at_is = refl; after = does.done }; moments = does.moments }
+pub stopped : {T U : Type 0} (at place total : ℕ) (name : List ℕ) (book : List Series) (runs : List Run) (v : T) (before now : View) → place ≡ at → Does NoBad total name book runs (Ok v) before now → Does {T = U} (IsAtLine at total name book runs now.image) total name book runs (Err (BadInput place)) before now
+stopped at place total name book runs v before now same does = record { done = tt; stops = record { at_is = same; after = does.done }; moments = does.moments }
 
 pub stops_more : (B : ℕ → Type 0) (total : ℕ) (name : List ℕ) (book : List Series) (runs : List Run) (image : Image) (e : End) → StopsSo NoBad total name book runs image e → StopsSo B total name book runs image e
 stops_more B total name book runs image (BadInput at) why = absurd why

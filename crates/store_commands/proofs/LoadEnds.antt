@@ -281,9 +281,11 @@ module _ (name : List ℕ) (old mid new : View) (t : Traffic) (readings : ℕ) (
 
   text_sent : (left' now : Option (List ℕ)) (reads_now sends_now : ℕ) (end : End) → IsSent end (loaded_text readings) t.sent now t.sends sends_now → IsLoadEnd end name old new (further t left' now reads_now sends_now)
   text_sent left' now reads_now sends_now Done is = (s.within, still_loaded (now ≡ sent_after (loaded_text readings) t.sent) is)
-  text_sent left' now reads_now sends_now NoMemory is =
-      (some_told name (page_count old.size) old new t.left (λ total book holds series named.
-      pages_kept (page_count old.size) total (IsAfterSome total name book series t.left) mid new kept time (s.some (λ same. cc) total book holds series named)), is)
+  text_sent left' now reads_now sends_now NoMemory is = (
+    some_told name (page_count old.size) old new t.left (λ total book holds series named.
+        pages_kept (page_count old.size) total (IsAfterSome total name book series t.left) mid new kept time (s.some (λ same. cc) total book holds series named)),
+    is,
+  )
   text_sent left' now reads_now sends_now SendFault is = (is.0, still_loaded (SendsPartOf (loaded_text readings) t.sent now) is.1)
   text_sent left' now reads_now sends_now end is = absurd is
 
