@@ -1,5 +1,5 @@
 -- What a command did by how it ended, so by its code and place.
-use Rattle.std.proofs.Common.{◌≡◌, ℕ, ◌-◌, ◌<◌, ◌⊎◌, List, [], ◌∷◌, Option, IfSome, refl, arith}
+use Rattle.std.proofs.Common.{◌≡◌, ℕ, zero, suc, ◌-◌, ◌<◌, ◌⊎◌, List, [], ◌∷◌, Option, IfSome, refl, ap, arith}
 use Rattle.std.specs.Prelude.{Contains, ◌≢◌, ◌+◌, ◌*◌, ◌^◌}
 use Rattle.block_disk.specs.Counts.{HasRisen}
 use Rattle.block_disk.specs.View.{View}
@@ -14,11 +14,19 @@ use Rattle.run_ends.specs.declared.ending.End.TheVariants.{UnknownSeries, Refuse
 use Rattle.store_commands.specs.Away.{IsTurnedAway}
 use Rattle.store_commands.specs.Books.{HoldsAgain}
 use Rattle.store_commands.specs.Codes.{low_code}
+use Rattle.store_commands.specs.Loaded.{unnamed_ends}
 use Rattle.chart_program.specs.CommandStatuses.{codes_of, IsOverStore, TakesNone, Bars}
 use Rattle.chart_program.specs.Served.{Faults}
 use Rattle.chart_program.specs.Ran.{CommandEnds, DrawsReplies, IsBadInput, IsCutShort, IsDamaged, IsFree, IsInput, IsMade, IsOfReplies, IsRefused, IsRefusedLine}
 use Rattle.chart_program.specs.Ran.{IsStreaming, IsThere, IsTooMuch, IsTooSmall, IsUndamaged, IsUnknown, IsWithin, Lacks, LeavesDisk, LeavesTold, Misfits}
 use Rattle.chart_program.specs.Ran.{NamesUnopened, ReadsByInput, ReadsFew, SendsAll, SendsPart, StopsAtDisk, StopsBefore, SyncsByInput, TellsUnnamed, of_done}
+
+-- the codes of the ends that come where no series has the name
+pub unnamed_codes : (end : End) → Contains unnamed_ends end → Contains (3 ∷ 6 ∷ 14 ∷ []) (code_of end)
+unnamed_codes end (zero, inside, is) = (0, omega arith, ap (λ (x : End). code_of x) is)
+unnamed_codes end (suc zero, inside, is) = (1, omega arith, ap (λ (x : End). code_of x) is)
+unnamed_codes end (suc (suc zero), inside, is) = (2, omega arith, ap (λ (x : End). code_of x) is)
+unnamed_codes end (suc (suc (suc k)), inside, is) = absurd (omega (arith, inside))
 
 -- of a command over these disks and streams
 module _ (command : Command) (old new : View) (left left' before now : Option (List ℕ)) (faults : Faults) where

@@ -180,16 +180,17 @@ pub unloaded : (name : List ℕ) (old new : View) (t : Traffic) (cause : Opening
 unloaded name old new t cause end u same =
     let P : End → Type 0 = λ e. LoadEnds name old new t e in
     subst P (sym same) (record {
-      is = by cause (unopened_end old new t.left t.left_now t.sent t.sent_now cause u);
+      is = by cause (unopened_end old new t.left t.left_now t.sent t.sent_now cause u).0;
       unnamed = λ total book holds none. outside_ends cause (u.outside total book holds);
       crash = opened_ahead name old new t.left u.opens;
       kept = λ total book holds none. opened_since old new u.opens total book holds;
       goes_on = opened_goes old new u.opens;
     })
   where
-    by : (cause : OpeningCause) → IsUnopenedEnd (opening_end cause) old new × (t.sent_now ≡ t.sent) → IsLoadEnd (opening_end cause) name old new t
-    by opening.NoMemory is = (opened_some name old new t.left u.opens, is.1)
-    by cause is = is
+    by : (cause : OpeningCause) → IsUnopenedEnd (opening_end cause) old new → IsLoadEnd (opening_end cause) name old new t
+    by opening.NoMemory is = (opened_some name old new t.left u.opens, u.sent_is)
+    by opening.DiskFault is = (is, u.sent_is)
+    by cause is = (is, u.left_is, u.sent_is)
 
 -- ---- not all of the input was loaded
 

@@ -126,7 +126,7 @@ IsLoadEnd UnknownSeries name old new t =
     × LeavesSame (page_count old.size) old new × (t.left_now ≡ t.left) × (t.sent_now ≡ t.sent)
 IsLoadEnd (Refused at number) name old new t =
     IfSome t.left (λ input. RefusesRun name (page_count old.size) old new input at number) × (t.sent_now ≡ t.sent)
-IsLoadEnd end name old new t = IsUnopenedEnd end old new × (t.sent_now ≡ t.sent)
+IsLoadEnd end name old new t = IsUnopenedEnd end old new × (t.left_now ≡ t.left) × (t.sent_now ≡ t.sent)
 
 -- the same, and what is so however it ended
 pub record LoadEnds (name : List ℕ) (old new : View) (t : Traffic) (end : End) : Type 0 where
