@@ -5,7 +5,7 @@ use Rattle.block_disk.specs.View.{View}
 use Rattle.chart_world.specs.LineLaws.{told_so}
 use Rattle.disk_store.specs.Held.{HoldsBook}
 use Rattle.gate_pages.specs.Journal.{page_count}
-use Rattle.run_ends.specs.Statuses.{code_of, place_of}
+use Rattle.run_ends.specs.Statuses.{code_of, place_of, refused_at}
 use Rattle.run_ends.specs.declared.ending.End.{End}
 use Rattle.run_ends.specs.declared.ending.End.TheVariants.{Done, NoMemory, ReadFault, SendFault, DiskFault, DamagedBlock, DamagedPage}
 use Rattle.run_ends.specs.declared.ending.End.TheVariants.{BadInput, InputTooLong, TooSmall, UnknownSeries, Refused}
@@ -49,12 +49,12 @@ module _ (name : List ℕ) (old new : View) (left left' before now : Option (Lis
   unknown_told (Some input) same none holds = ((λ total book held series named. absurd (none total book held series named)), (λ total book held unnamed. (refl, same, holds total book held)))
 
   refused_told : (at number : ℕ) (l : Option (List ℕ)) → IfSome l (λ input. RefusesRun name (page_count old.size) old new input at number) → Unnamed (page_count old.size) old name (λ total book. Contains unnamed_ends (Refused at number))
-      → IfSome l (λ input. IsRefused (Load name) old new input left' (256 * at + number))
+      → IfSome l (λ input. IsRefused (Load name) old new input left' (refused_at at number))
   refused_told at number None refused unnamed = tt
   refused_told at number (Some input) refused unnamed = (
     (λ total book held series named.
         let is = refused total book held series named in
-        (at, is.refusal, ap (λ n. 256 * at + n) is.number_is, is.so)),
+        (at, is.refusal, ap (λ n. refused_at at n) is.number_is, is.so)),
     (λ total book held none. absurd (refused_never at number (unnamed total book held none))),
   )
 

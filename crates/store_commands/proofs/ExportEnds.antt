@@ -29,6 +29,7 @@ use Rattle.disk_store.specs.Held.{HoldsBook}
 use Rattle.disk_store.specs.Openings.{Opens}
 use Rattle.disk_store.specs.declared.causes.OpeningCause.{OpeningCause}
 use Rattle.disk_store.specs.declared.causes.OpeningCause.TheVariants as opening
+use Rattle.run_ends.specs.Statuses.{block_of}
 use Rattle.run_ends.specs.declared.ending.End.{End}
 use Rattle.run_ends.specs.declared.ending.End.TheVariants as ends
 use Rattle.stored_book.specs.Records.{entry}
@@ -161,7 +162,7 @@ module _ (name : List ℕ) (window : Option Window) (count count' : ℕ) (sound 
       by_error DiskFault no_damage cause = cause
       by_error (Damaged page) no_damage cause =
           let image = pages_of count old.image in
-          let bad : IsDamagedLater IsBadForExport count old (66 + page) = record {
+          let bad : IsDamagedLater IsBadForExport count old (block_of page) = record {
             page = page;
             place_is = refl;
             within = omega (arith, cause.0, few);
@@ -210,7 +211,7 @@ module _ (name : List ℕ) (window : Option Window) (old mid new : View) (before
   exported ends.NoMemory is = tt
   exported ends.SendFault is = is
   exported ends.DiskFault is = risen_since old.faults mid.faults new.faults quiet is
-  exported (ends.DamagedPage page) is = (tree_before (page_count old.size) old mid (66 + page) opens.honest pages is.0, λ total book holds. is.1 total book (held old mid opens total book holds))
+  exported (ends.DamagedPage page) is = (tree_before (page_count old.size) old mid (block_of page) opens.honest pages is.0, λ total book holds. is.1 total book (held old mid opens total book holds))
   exported ends.UnknownSeries is = (λ total book holds series named. is.0 total book (held old mid opens total book holds) series named, is.1)
   exported end is = absurd is
 

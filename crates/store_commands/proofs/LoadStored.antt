@@ -17,6 +17,7 @@ use Rattle.chart_service.specs.MomentLaws.{since_none}
 use Rattle.chart_service.specs.Moments.{Since}
 use Rattle.series_load.specs.Sets.{IsNamed, IsAfterSome, OfRefusal}
 use Rattle.series_load.specs.Ends.{IsLoaded, IsAtBad, IsAtRefusal, IsTaken, IsPast, IsLoadCause, KeepsSome, EndsLoad, Outcome}
+use Rattle.run_ends.specs.Statuses.{block_of}
 use Rattle.run_ends.specs.declared.ending.End.{End}
 use Rattle.run_ends.specs.declared.ending.End.TheVariants.{NoMemory, ReadFault, DiskFault, DamagedPage, BadInput, InputTooLong, UnknownSeries, Refused}
 use Rattle.series_load.specs.Steps.{IsSoundFor}
@@ -159,7 +160,7 @@ module _ (name : List ℕ) (count count' : ℕ) (sound sound' : Bool) (old new :
     | inr named ↦ (comes total book named.0 holds.honest (stands_held count total book old rests holds) named.1).some
   ]
 
-  bad_by : (page total : ℕ) → total ≤ count' → (page < total) × (Honest new → IsBadForEdit count' (pages_of count' new.image) page) → IsDamagedLater IsBadForEdit count new (66 + page)
+  bad_by : (page total : ℕ) → total ≤ count' → (page < total) × (Honest new → IsBadForEdit count' (pages_of count' new.image) page) → IsDamagedLater IsBadForEdit count new (block_of page)
   bad_by page total few is =
       let C : ℕ → Type 0 = λ n. IsBadForEdit n (pages_of n new.image) page in
       let D : Image → Type 0 = λ i. IsBadForEdit count i page in

@@ -13,6 +13,7 @@ use Rattle.disk_store.specs.Held.{HoldsBook}
 use Rattle.stored_book.specs.Damage.{SaysNumbers}
 use Rattle.store_commands.specs.Books.{OfBook, Never, LeavesSame, SendsPartOf}
 use Rattle.store_commands.specs.Damaged.{IsDamagedAtFirst, IsDamagedLater}
+use Rattle.run_ends.specs.Statuses.{block_of}
 use Rattle.run_ends.specs.declared.ending.End.{End}
 use Rattle.run_ends.specs.declared.ending.End.TheVariants.{Done, NoMemory, SendFault, DiskFault, DamagedPage, UnknownSeries}
 use Rattle.store_commands.specs.Loaded.{OfSeries, Unnamed}
@@ -46,7 +47,7 @@ IsExportEnd NoMemory name window old new before now sends sends_now = ⊤
 IsExportEnd SendFault name window old new before now sends sends_now = HasRisen sends sends_now
 IsExportEnd DiskFault name window old new before now sends sends_now = HasRisen old.faults new.faults
 IsExportEnd (DamagedPage page) name window old new before now sends sends_now =
-    IsDamagedLater IsBadForExport (page_count old.size) old (66 + page) × Never (page_count old.size) old
+    IsDamagedLater IsBadForExport (page_count old.size) old (block_of page) × Never (page_count old.size) old
 IsExportEnd UnknownSeries name window old new before now sends sends_now = HasNone (page_count old.size) old name × (now ≡ before)
 IsExportEnd end name window old new before now sends sends_now = IsUnopenedEnd end old new × (now ≡ before)
 

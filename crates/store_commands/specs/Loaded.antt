@@ -18,6 +18,7 @@ use Rattle.chart_service.specs.Moments.{Since}
 use Rattle.series_load.specs.Runs.{Run, AreFirst}
 use Rattle.series_load.specs.Sets.{IsNamed, IsAfterSome, Loads, OfRefusal}
 use Rattle.series_load.specs.Ends.{IsLoaded, IsAtBad, IsAtRefusal, IsTaken, IsPast}
+use Rattle.run_ends.specs.Statuses.{block_of, refused_at}
 use Rattle.run_ends.specs.declared.ending.End.{End}
 use Rattle.run_ends.specs.declared.ending.End.TheVariants.{Done, NoMemory, ReadFault, SendFault, DiskFault, DamagedPage}
 use Rattle.run_ends.specs.declared.ending.End.TheVariants.{BadInput, InputTooLong, UnknownSeries, Refused}
@@ -84,7 +85,7 @@ LoadsWithin name count old new input = OfSeries count old name (λ total book se
 -- and the refusal's number.
 abbrev pub RefusesSet : List ℕ → ℕ → View → View → List ℕ → ℕ → Type 0
 RefusesSet name count old new input place = OfSeries count old name (λ total book series.
-    (at : ℕ) × (refusal : Refusal) × (place ≡ 256 * at + number_of refusal) × HoldsPages count total (IsAtRefusal total name book series input at refusal) new)
+    (at : ℕ) × (refusal : Refusal) × (place ≡ refused_at at (number_of refusal)) × HoldsPages count total (IsAtRefusal total name book series input at refusal) new)
 
 -- the same: the run begins at this offset, and its set is refused with this number
 abbrev pub RefusesRun : List ℕ → ℕ → View → View → List ℕ → ℕ → ℕ → Type 0
@@ -118,7 +119,7 @@ IsLoadEnd SendFault name old new t =
     HasRisen t.sends t.sends_now × IfSome t.left (λ input. LoadsAndSendsPart name (page_count old.size) old new input t.sent t.sent_now)
 IsLoadEnd DiskFault name old new t = HasRisen old.faults new.faults × (t.sent_now ≡ t.sent)
 IsLoadEnd (DamagedPage page) name old new t =
-    IsDamagedLater IsBadForEdit (page_count old.size) new (66 + page) × Never (page_count old.size) old × (t.sent_now ≡ t.sent)
+    IsDamagedLater IsBadForEdit (page_count old.size) new (block_of page) × Never (page_count old.size) old × (t.sent_now ≡ t.sent)
 IsLoadEnd (BadInput at) name old new t = IfSome t.left (λ input. LoadsToBad name (page_count old.size) old new input at) × (t.sent_now ≡ t.sent)
 IsLoadEnd InputTooLong name old new t = IfSome t.left (λ input. LoadsWithin name (page_count old.size) old new input) × (t.sent_now ≡ t.sent)
 IsLoadEnd UnknownSeries name old new t =

@@ -6,6 +6,7 @@ use Rattle.block_disk.specs.declared.disk.Disk.{Ghosts}
 use Rattle.gate_pages.specs.Pages.{GoesOn}
 use Rattle.gate_pages.specs.Shown as gate
 use Rattle.gate_pages.specs.declared.gate_pages.GatePages.{GatePages}
+use Rattle.run_ends.specs.Statuses.{block_of}
 use Rattle.run_ends.specs.declared.ending.End.{End}
 use Rattle.run_ends.specs.declared.ending.End.TheVariants.{NoMemory, ReadFault, DiskFault, DamagedPage, BadInput, InputTooLong, UnknownSeries, Refused}
 use Rattle.stored_book.specs.Damage.{IsBadForEdit}
@@ -32,7 +33,7 @@ abbrev pub IsEndCause : End → ℕ → View → View → ℕ → ℕ → Type 0
 IsEndCause NoMemory count old new reads reads_now = ⊤
 IsEndCause ReadFault count old new reads reads_now = HasRisen reads reads_now
 IsEndCause DiskFault count old new reads reads_now = HasRisen old.faults new.faults
-IsEndCause (DamagedPage page) count old new reads reads_now = Never count old × IsDamagedLater IsBadForEdit count new (66 + page)
+IsEndCause (DamagedPage page) count old new reads reads_now = Never count old × IsDamagedLater IsBadForEdit count new (block_of page)
 IsEndCause (BadInput at) count old new reads reads_now = ⊤
 IsEndCause InputTooLong count old new reads reads_now = ⊤
 IsEndCause UnknownSeries count old new reads reads_now = ⊤
