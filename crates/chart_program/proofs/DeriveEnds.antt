@@ -3,7 +3,7 @@ use Rattle.std.proofs.Common.{ℕ, ◌+◌, ◌*◌, ◌<◌, List, Option, Some
 use Rattle.std.specs.Prelude.{Contains}
 use Rattle.block_disk.specs.View.{View}
 use Rattle.gate_pages.specs.Journal.{page_count}
-use Rattle.run_ends.specs.Statuses.{code_of, place_of}
+use Rattle.run_ends.specs.Statuses.{code_of, place_of, refused_at}
 use Rattle.run_ends.specs.declared.ending.End.{End}
 use Rattle.run_ends.specs.declared.ending.End.TheVariants.{Done, NoMemory, ReadFault, SendFault, DiskFault, DamagedBlock, DamagedPage}
 use Rattle.run_ends.specs.declared.ending.End.TheVariants.{BadInput, InputTooLong, TooSmall, RefusedLine}
@@ -50,11 +50,11 @@ taken old (Some input) (Some bytes) before now all = all
 
 -- a line that is refused, by its place
 refused : (old : View) (left before now : Option (List ℕ)) (at number : ℕ) → IfSome left (λ input. OfBook (page_count old.size) old (λ total book. DrawsToNumber book input before now at number))
-    → IfSome left (λ input. DerivesToRefused (page_count old.size) old input (256 * at + number) before now)
+    → IfSome left (λ input. DerivesToRefused (page_count old.size) old input (refused_at at number) before now)
 refused old None before now at number all = tt
 refused old (Some input) before now at number all = λ total book holds.
     let is = all total book holds in
-    record { at = at; refusal = is.why; place_is = ap (λ n. 256 * at + n) is.number_is; draws = is.draws }
+    record { at = at; refusal = is.why; place_is = ap (λ n. refused_at at n) is.number_is; draws = is.draws }
 
 module _ (old new : View) (left left' before now : Option (List ℕ)) (faults : Faults) where
   abbrev passed : Traffic

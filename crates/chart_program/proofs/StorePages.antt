@@ -24,7 +24,7 @@ use Rattle.chart_program.proofs.CommandsEnd.{small_never}
 use Rattle.chart_program.proofs.InitLemmas.{init_keeps, init_leaves}
 
 -- with good input it is done, a stream fails, or there is no memory: so where no store is opened
-unopened_good : (old new : View) → StandsOn old new → (end : End) → IsUnopenedEnd end old new → IsDoneOrCut end
+pub unopened_good : (old new : View) → StandsOn old new → (end : End) → IsUnopenedEnd end old new → IsDoneOrCut end
 unopened_good old new r NoMemory is = tt
 unopened_good old new r DiskFault is = absurd (r.whole is)
 unopened_good old new r (DamagedBlock block) is = absurd (is.1 r.total r.book r.holds)

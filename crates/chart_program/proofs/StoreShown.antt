@@ -12,7 +12,7 @@ use Rattle.store_commands.specs.Away.{IsTurnedAway}
 use Rattle.store_commands.specs.Books.{HoldsAgain}
 use Rattle.store_commands.specs.Checked.{CheckEnds, IsCheckEnd}
 use Rattle.store_commands.specs.Demonstrated.{DemoEnds, IsDemoEnd}
-use Rattle.store_commands.specs.Exported.{ExportEnds, ExportsPart, IsExportEnd, unnamed_ends}
+use Rattle.store_commands.specs.Exported.{ExportEnds, ExportsPart, IsExportEnd}
 use Rattle.store_commands.specs.Listed.{IsListEnd, ListEnds}
 use Rattle.store_commands.specs.Unopened.{IsUnopenedEnd}
 use Rattle.program_words.specs.declared.words.Command.TheVariants.{Check, Demo, Export, ListSeries}
@@ -22,7 +22,7 @@ use Rattle.chart_program.specs.Ran.{CommandEnds, HoldsNamed, StandsOn, of_done}
 use Rattle.chart_program.proofs.Codes.{told_all}
 use Rattle.chart_program.proofs.CommandsEnd.{all_told, small_never}
 use Rattle.chart_program.proofs.Counts.{told_any}
-use Rattle.chart_program.proofs.EndsByCode.{Came, by_code}
+use Rattle.chart_program.proofs.EndsByCode.{Came, by_code, unnamed_codes}
 
 -- with a good input it is done, a stream fails, or there is no memory: so where no store is opened
 unopened_completes : (old new : View) → StandsOn old new → (end : End) → IsUnopenedEnd end old new → Contains of_done (code_of end)
@@ -225,12 +225,6 @@ module _ (old new : View) (left left' before now : Option (List ℕ)) (faults : 
     export_own (TooSmall blocks) is = (5, omega arith, refl)
     export_own UnknownSeries is = (6, omega arith, refl)
     export_own end is = absurd is.0
-
-    unnamed_codes : (end : End) → Contains unnamed_ends end → Contains (3 ∷ 6 ∷ 14 ∷ []) (code_of end)
-    unnamed_codes end (zero, inside, is) = (0, omega arith, ap (λ (x : End). code_of x) is)
-    unnamed_codes end (suc zero, inside, is) = (1, omega arith, ap (λ (x : End). code_of x) is)
-    unnamed_codes end (suc (suc zero), inside, is) = (2, omega arith, ap (λ (x : End). code_of x) is)
-    unnamed_codes end (suc (suc (suc k)), inside, is) = absurd (omega (arith, inside))
 
     export_completes : HoldsNamed name old new → (end : End) → IsExportEnd end name window old new before now faults.sends faults.sends_now → Contains of_done (code_of end)
     export_completes r Done is = (0, omega arith, refl)

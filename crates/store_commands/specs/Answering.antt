@@ -11,6 +11,7 @@ use Rattle.demo_workload.specs.declared.demo_end.DemoEnd.TheVariants.{DiskFault,
 use Rattle.demo_workload.specs.declared.summaries.Summary.{Summary}
 use Rattle.demo_workload.specs.Ending.{IsOutside, MeetsError}
 use Rattle.demo_workload.specs.Replying.{Summarizes}
+use Rattle.run_ends.specs.Statuses.{block_of}
 use Rattle.run_ends.specs.declared.ending.End.{End}
 use Rattle.run_ends.specs.declared.ending.End.TheVariants as ends
 use Rattle.stored_book.specs.Damage.{IsBadForRequest}
@@ -37,7 +38,7 @@ HasNumberedKey NoMemory = ⊤
 -- why it wasn't; want of memory is free
 abbrev pub IsEndCause : DemoEnd → ℕ → View → View → Type 0
 IsEndCause DiskFault count old new = HasRisen old.faults new.faults
-IsEndCause (Damaged page) count old new = IsDamagedLater IsBadForRequest count new (66 + page)
+IsEndCause (Damaged page) count old new = IsDamagedLater IsBadForRequest count new (block_of page)
 IsEndCause (Missing key) count old new = MeetsError (client.Missing key)
 IsEndCause (BadCoefficient key) count old new = MeetsError (client.BadCoefficient key)
 IsEndCause NoMemory count old new = ⊤

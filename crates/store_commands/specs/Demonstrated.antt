@@ -20,6 +20,7 @@ use Rattle.demo_workload.specs.Ending.{MeetsError}
 use Rattle.demo_workload.specs.Replying.{AnswersEach, Summarizes, IsPartWay}
 use Rattle.demo_workload.specs.Summaries.{summary_line}
 use Rattle.demo_workload.specs.Workload.{workload}
+use Rattle.run_ends.specs.Statuses.{block_of}
 use Rattle.run_ends.specs.declared.ending.End.{End}
 use Rattle.run_ends.specs.declared.ending.End.TheVariants.{Done, NoMemory, SendFault, DamagedPage, Missing, BadCoefficient}
 use Rattle.store_commands.specs.Damaged.{IsDamagedLater}
@@ -67,7 +68,7 @@ IsDemoEnd NoMemory seed rounds old new before now sends sends_now =
 IsDemoEnd SendFault seed rounds old new before now sends sends_now =
     HasRisen sends sends_now × FromBook (page_count old.size) old new (λ start state. SendsSummaryPart (workload seed rounds) start state before now)
 IsDemoEnd (DamagedPage page) seed rounds old new before now sends sends_now =
-    IsDamagedLater IsBadForRequest (page_count old.size) new (66 + page) × Never (page_count old.size) old × (now ≡ before)
+    IsDamagedLater IsBadForRequest (page_count old.size) new (block_of page) × Never (page_count old.size) old × (now ≡ before)
 IsDemoEnd (Missing number) seed rounds old new before now sends sends_now =
     Never (page_count old.size) old × ((key : Key) × (number ≡ key_number key) × MeetsError (client.Missing key)) × (now ≡ before)
 IsDemoEnd (BadCoefficient number) seed rounds old new before now sends sends_now =
