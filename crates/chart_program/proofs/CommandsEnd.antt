@@ -37,7 +37,7 @@ lines_completed IsText CanShow old new input left' before now faults code place 
 lines_completed IsText CanShow old new input left' before now faults code place r e (suc (suc (suc zero)), inside, is) = (3, omega arith, is)
 lines_completed IsText CanShow old new input left' before now faults code place r e (suc (suc (suc (suc zero))), inside, is) = absurd (r.whole (e.fault (sym is)))
 lines_completed IsText CanShow old new input left' before now faults code place r e (suc (suc (suc (suc (suc zero)))), inside, is) = absurd (e.undamaged (sym is) r.total r.book r.holds)
-lines_completed IsText CanShow old new input left' before now faults code place r e (suc (suc (suc (suc (suc (suc zero))))), inside, is) = absurd (omega (arith, r.short, ((e.much (sym is)).1 r.total r.book r.holds).1.past))
+lines_completed IsText CanShow old new input left' before now faults code place r e (suc (suc (suc (suc (suc (suc zero))))), inside, is) = absurd (omega (arith, r.short, (e.much (sym is)).1))
 lines_completed IsText CanShow old new input left' before now faults code place r e (suc (suc (suc (suc (suc (suc (suc zero)))))), inside, is) = absurd ((e.missing (sym is)).1.0 r.total r.book r.holds)
 lines_completed IsText CanShow old new input left' before now faults code place r e (suc (suc (suc (suc (suc (suc (suc (suc zero))))))), inside, is) = absurd ((e.misfit (sym is)).1.0 r.total r.book r.holds)
 lines_completed IsText CanShow old new input left' before now faults code place r e (suc (suc (suc (suc (suc (suc (suc (suc (suc zero)))))))), inside, is) = absurd (small_never old r.total r.book r.holds (omega (arith, (e.small (sym is)).1)))

@@ -12,7 +12,7 @@ use Rattle.store_commands.specs.Codes.{low_code}
 use Rattle.run_ends.specs.declared.status.Status.{Status}
 use Rattle.chart_program.specs.Ended.{EndsBy, HasNumberedKey, status_by}
 use Rattle.chart_program.specs.Served.{Says, Faults, IsWorldCause, ServesWorld}
-use Rattle.chart_program.proofs.Codes.{told_both}
+use Rattle.chart_program.proofs.Codes.{told_long}
 use Rattle.chart_program.proofs.Apart.{apart}
 
 -- the first of two facts, where the input is told
@@ -266,7 +266,7 @@ ends_by IsText CanShow old new left left' before now faults (Err (lines_end.Answ
   faulted = λ is. apart is refl;
   damaged = λ is. apart is refl;
   undamaged = λ is. apart is refl;
-  much = λ is. told_both left (2 ^ 32 ≡ 2 ^ 32) _ refl s.ends;
+  much = λ is. told_long left _ (s.long refl) s.ends;
   missing = λ is. apart is refl;
   misfit = λ is. apart is refl;
   small = λ is. apart is refl;

@@ -39,7 +39,7 @@ module _ (command : Command) (old new : View) (left left' before now : Option (L
 
   -- what it did, by how it ended
   abbrev pub Came : End → Type 0
-  Came Done = IfSome left (IsWithin command) × IfSome left (λ input. SendsAll command old new input before now) × IsMade command old new
+  Came Done = IfSome left (IsWithin command left') × IfSome left (λ input. SendsAll command old new input before now) × IsMade command old new
   Came (WrongWords word) = ⊥
   Came NoMemory = IfSome left (λ input. IsCutShort command old new input before now)
   Came ReadFault = HasRisen faults.reads faults.reads_now × IfSome left (λ input. IfSome left' (StopsBefore command old new input before now))

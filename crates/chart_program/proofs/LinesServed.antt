@@ -28,6 +28,7 @@ use Rattle.chart_program.specs.declared.run_end.RunEnd.{RunEnd}
 use Rattle.chart_program.specs.declared.run_end.RunEnd.TheVariants as run_end
 use Rattle.chart_program.specs.Runs.{AreShown, AreShownFrom, EndsRun, EndsAtBad}
 use Rattle.chart_program.specs.Served.{Says, Spelled, AreTexts, Faults, AnswersAll, EndsServing, EndsLines, LeavesBooks, IsAheadOn, IsLinesCause, IsRejected, ReadsFrom, SyncsFrom, ServesLines, served}
+use Rattle.store_commands.specs.Traffic.{IsLong, WasRead}
 use Rattle.store_commands.specs.Books.{OfBook, HoldsAgain, begun}
 use Rattle.store_commands.proofs.HoldsAgain.{again_from}
 use Rattle.chart_program.proofs.Counts.{reads_none, syncs_none}
@@ -100,15 +101,16 @@ module _ (count count' : ℕ) (sound sound' : Bool) (old new : View) (left left'
       (λ input all. leaves_lowered Spelled count count' sound sound' old new input same goes all)
       (crash_for left before (λ total book. HoldsBook count total book old) X (λ total book holds. lasts total book holds.honest (stands_held count total book old rests holds)))
 
-  serve_alone : {T : Type 0} (answer : Result T ServeEnd) → AllDone answer [] → OnOk answer (IfSome left (λ input. length input ≤ 2 ^ 32)) → AllEnds answer [] → AllLasts [] → ((answer ≡ Err serve_end.DiskFault → ⊥) → IsClosed new)
+  serve_alone : {T : Type 0} (answer : Result T ServeEnd) → AllDone answer [] → OnOk answer (WasRead left left') → (answer ≡ Err serve_end.InputTooLong → IsLong left) → AllEnds answer [] → AllLasts [] → ((answer ≡ Err serve_end.DiskFault → ⊥) → IsClosed new)
       → IfErr answer (λ end. IsLinesCause ⊥ count old new faults (run_end.Serve end)) → IfSome left (λ input. ReadsFrom count old new input old.reads) → IfSome left (λ input. SyncsFrom count old new input old.syncs) → ServesLines Spelled ⊥ count old new left left' before now faults (served answer)
-  serve_alone {T} (Ok v) done within ends lasts closed cause reads syncs =
+  serve_alone {T} (Ok v) done within long ends lasts closed cause reads syncs =
       let X : ℕ → List Series → List ℕ → Type 0 = λ total book input. StandsAfter total (pages_of count' new.image) sessions (λ state. SendsText AreSpelled input (begun total book) state before now) in
       record {
         done = told_so (λ input. OfBook count old (λ total book. X total book input)) (λ input. AnswersAll Spelled count old new input before now) left
             (λ input all. from_book count count' old new same told sessions (λ start state. SendsText AreSpelled input start state before now) (closed (λ e. cc)) all)
             (told_for left (λ total book. HoldsBook count total book old) X (λ total book holds. done total book holds.honest (stands_held count total book old rests holds)));
         within = within;
+        long = λ is. cc;
         ends = tt;
         crash = serve_crash lasts;
         cause = tt;
@@ -120,11 +122,12 @@ module _ (count count' : ℕ) (sound sound' : Bool) (old new : View) (left left'
         goes_on = goes;
         risen = risen;
       }
-  serve_alone {T} (Err end) done within ends lasts closed cause reads syncs =
+  serve_alone {T} (Err end) done within long ends lasts closed cause reads syncs =
       let X : ℕ → List Series → List ℕ → Type 0 = λ total book input. EndsServe input (begun total book) (pages_of count' new.image) sessions left' before now end in
       record {
         done = tt;
         within = tt;
+        long = λ is. long (let same : end ≡ serve_end.InputTooLong = cc in ap Err same);
         ends = told_so (λ input. OfBook count old (λ total book. X total book input)) (λ input. EndsServing Spelled count old new input left' before now end) left
             (λ input all. serve_ends count count' old new same told sessions input left' before now end (λ other. closed (λ e. other (cc))) all)
             (told_for left (λ total book. HoldsBook count total book old) X (λ total book holds. ends total book holds.honest (stands_held count total book old rests holds)));
@@ -139,13 +142,13 @@ module _ (count count' : ℕ) (sound sound' : Bool) (old new : View) (left left'
         risen = risen;
       }
 
-  pub serve_made : {T : Type 0} (answer : Result T ServeEnd) (own : List Session) → own ≡ [] → AllDone answer own → OnOk answer (IfSome left (λ input. length input ≤ 2 ^ 32)) → AllEnds answer own → AllLasts own → ((answer ≡ Err serve_end.DiskFault → ⊥) → IsClosed new)
+  pub serve_made : {T : Type 0} (answer : Result T ServeEnd) (own : List Session) → own ≡ [] → AllDone answer own → OnOk answer (WasRead left left') → (answer ≡ Err serve_end.InputTooLong → IsLong left) → AllEnds answer own → AllLasts own → ((answer ≡ Err serve_end.DiskFault → ⊥) → IsClosed new)
       → IfErr answer (λ end. IsLinesCause ⊥ count old new faults (run_end.Serve end)) → IfSome left (λ input. ReadsFrom count old new input old.reads) → IfSome left (λ input. SyncsFrom count old new input old.syncs) → ServesLines Spelled ⊥ count old new left left' before now faults (served answer)
-  serve_made {T} answer own alone done within ends lasts closed cause reads syncs =
+  serve_made {T} answer own alone done within long ends lasts closed cause reads syncs =
       let D : List Session → Type 0 = λ s. AllDone answer s in
       let E : List Session → Type 0 = λ s. AllEnds answer s in
       let L : List Session → Type 0 = λ s. AllLasts s in
-      serve_alone answer (subst D alone done) within (subst E alone ends) (subst L alone lasts) closed cause reads syncs
+      serve_alone answer (subst D alone done) within long (subst E alone ends) (subst L alone lasts) closed cause reads syncs
 
   -- ---- a run over a screen that holds nothing yet
 
@@ -181,15 +184,16 @@ module _ (count count' : ℕ) (sound sound' : Bool) (old new : View) (left left'
         }))
         (crash_for left before (λ total book. HoldsBook count total book old) X (λ total book holds. lasts total book holds.honest (stands_held count total book old rests holds)))
 
-    run_alone : {T : Type 0} (answer : Result T RunEnd) (h : List Holding) → AreSoundStarts [] → RunDone answer [] h [] → OnOk answer (IfSome left (λ input. length input ≤ 2 ^ 32)) → RunEnds answer [] h [] → RunLasts [] [] → ((answer ≡ Err (run_end.Serve serve_end.DiskFault) → ⊥) → IsClosed new)
+    run_alone : {T : Type 0} (answer : Result T RunEnd) (h : List Holding) → AreSoundStarts [] → RunDone answer [] h [] → OnOk answer (WasRead left left') → (answer ≡ Err (run_end.Serve serve_end.InputTooLong) → IsLong left) → RunEnds answer [] h [] → RunLasts [] [] → ((answer ≡ Err (run_end.Serve serve_end.DiskFault) → ⊥) → IsClosed new)
         → IfErr answer (IsLinesCause (Unit {0}) count old new faults) → IfSome left (λ input. ReadsFrom count old new input old.reads) → IfSome left (λ input. SyncsFrom count old new input old.syncs) → ServesLines AreTexts (Unit {0}) count old new left left' before now faults answer
-    run_alone {T} (Ok v) h starts done within ends lasts closed cause reads syncs = record {
+    run_alone {T} (Ok v) h starts done within long ends lasts closed cause reads syncs = record {
       done = for_told left (λ input. AnswersAll AreTexts count old new input before now) (λ input is.
           from_book count count' old new same told sessions (λ start state. SendsText (AreTexts start) input start state before now) (closed (λ e. cc)) (λ total book holds.
           stands_on total (pages_of count' new.image) (pages_of count' new.image) sessions sessions (λ state. IfSome left (λ given. SendsText (AreShown ScreenGives [] h) given (begun total book) state before now)) (λ state. SendsText (AreTexts (begun total book)) input (begun total book) state before now) refl refl
           (λ state sends. texts_all one draws (begun total book) refl (started starts total book holds) input state h before now (of_told left input (λ given. SendsText (AreShown ScreenGives [] h) given (begun total book) state before now) is sends))
           (done total book holds.honest (stands_held count total book old rests holds))));
       within = within;
+      long = λ is. cc;
       ends = tt;
       crash = run_crash starts lasts;
       cause = tt;
@@ -202,9 +206,10 @@ module _ (count count' : ℕ) (sound sound' : Bool) (old new : View) (left left'
       goes_on = goes;
       risen = risen;
     }
-    run_alone {T} (Err end) h starts done within ends lasts closed cause reads syncs = record {
+    run_alone {T} (Err end) h starts done within long ends lasts closed cause reads syncs = record {
       done = tt;
       within = tt;
+      long = long;
       ends = for_told left (λ input. EndsLines AreTexts count old new input left' before now end) (λ input is.
           text_ends count count' old new same told one draws lacks (started starts) h sessions input left' before now end (λ other. closed (λ e. other (cc))) (λ total book holds.
           let O : Option (List ℕ) → Type 0 = λ o. EndsRun ScreenGives [] h o (begun total book) (pages_of count' new.image) sessions left' before now end in
@@ -220,9 +225,9 @@ module _ (count count' : ℕ) (sound sound' : Bool) (old new : View) (left left'
       risen = risen;
     }
 
-    pub run_made : {T : Type 0} (answer : Result T RunEnd) (v h : List Holding) (own : List Session) → v ≡ [] → own ≡ [] → AreSoundStarts own → RunDone answer v h own → OnOk answer (IfSome left (λ input. length input ≤ 2 ^ 32)) → RunEnds answer v h own → RunLasts v own
+    pub run_made : {T : Type 0} (answer : Result T RunEnd) (v h : List Holding) (own : List Session) → v ≡ [] → own ≡ [] → AreSoundStarts own → RunDone answer v h own → OnOk answer (WasRead left left') → (answer ≡ Err (run_end.Serve serve_end.InputTooLong) → IsLong left) → RunEnds answer v h own → RunLasts v own
         → ((answer ≡ Err (run_end.Serve serve_end.DiskFault) → ⊥) → IsClosed new) → IfErr answer (IsLinesCause (Unit {0}) count old new faults) → IfSome left (λ input. ReadsFrom count old new input old.reads) → IfSome left (λ input. SyncsFrom count old new input old.syncs) → ServesLines AreTexts (Unit {0}) count old new left left' before now faults answer
-    run_made {T} answer v h own none alone starts done within ends lasts closed cause reads syncs =
+    run_made {T} answer v h own none alone starts done within long ends lasts closed cause reads syncs =
         let D : List Session → Type 0 = λ s. RunDone answer [] h s in
         let E : List Session → Type 0 = λ s. RunEnds answer [] h s in
         let L : List Session → Type 0 = λ s. RunLasts [] s in
@@ -230,7 +235,7 @@ module _ (count count' : ℕ) (sound sound' : Bool) (old new : View) (left left'
         let DV : List Holding → Type 0 = λ w. RunDone answer w h own in
         let EV : List Holding → Type 0 = λ w. RunEnds answer w h own in
         let LV : List Holding → Type 0 = λ w. RunLasts w own in
-        run_alone answer h (subst S alone starts) (subst D alone (subst DV none done)) within (subst E alone (subst EV none ends)) (subst L alone (subst LV none lasts)) closed cause reads syncs
+        run_alone answer h (subst S alone starts) (subst D alone (subst DV none done)) within long (subst E alone (subst EV none ends)) (subst L alone (subst LV none lasts)) closed cause reads syncs
 
 -- a screen that held nothing was given frames, and rejects the next one
 rejected : OneFrame → (e : ClientError) (v w : List Holding) (own : List Session) (before now : Option (List ℕ)) → v ≡ [] → (stops : ShowStops ScreenGives v w own before now e) → RejectsBytes (spelling stops.frame) e stops.last → IsRejected e
@@ -266,6 +271,7 @@ pub made_none : {T : Type 0} (IsText : Says) (CanShow : Type 0) (count : ℕ) (a
 made_none {T} IsText CanShow count at left before faults none = record {
   done = tt;
   within = tt;
+  long = λ is. cc;
   ends = for_told left (λ input. EndsLines IsText count at at input left before before (run_end.Serve serve_end.NoMemory)) (λ input is. some_none IsText count at at input before none (λ total book holds. holds));
   crash = for_told left (λ input. IfSome before (λ bytes. LeavesBooks IsText count input at at)) (λ input is.
       for_told before (λ bytes. LeavesBooks IsText count input at at) (λ bytes is_told total book holds.

@@ -14,7 +14,7 @@ use Rattle.program_words.specs.declared.words.Command.TheVariants.{Live}
 use Rattle.chart_program.specs.CommandStatuses.{codes_of}
 use Rattle.chart_program.specs.Served.{Faults}
 use Rattle.chart_program.specs.Ran.{AreLines, CommandEnds, of_done}
-use Rattle.chart_program.proofs.Codes.{told_both}
+use Rattle.chart_program.proofs.Codes.{told_long}
 use Rattle.chart_program.proofs.EndsByCode.{Came, by_code}
 
 abbrev passed : (left left' before now : Option (List ℕ)) → Faults → Traffic
@@ -53,7 +53,7 @@ module _ (old new : View) (left left' before now : Option (List ℕ)) (faults : 
   live_came DiskFault cause does = (cause, does)
   live_came (DamagedBlock block) cause does = (inl cause.0, does, inl (cause.0.0, cause.1))
   live_came (DamagedPage page) cause does = (inr cause, does, inr cause)
-  live_came InputTooLong cause does = told_both left _ _ refl does
+  live_came InputTooLong cause does = told_long left _ cause does
   live_came (TooSmall blocks) cause does = cause
   live_came end cause does = absurd cause
 

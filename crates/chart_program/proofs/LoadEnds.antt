@@ -18,7 +18,7 @@ use Rattle.chart_program.specs.CommandStatuses.{codes_of}
 use Rattle.chart_program.specs.Course.{IsDoneOrCut}
 use Rattle.chart_program.specs.Served.{Faults}
 use Rattle.chart_program.specs.Ran.{AreReadings, CommandEnds, IsRefused, of_done}
-use Rattle.chart_program.proofs.Codes.{told_all, told_both}
+use Rattle.chart_program.proofs.Codes.{told_all, told_long}
 use Rattle.chart_program.proofs.CommandsEnd.{both_told}
 use Rattle.chart_program.proofs.Counts.{told_any}
 use Rattle.chart_program.proofs.EndsByCode.{Came, by_code, unnamed_codes}
@@ -67,7 +67,7 @@ module _ (name : List ℕ) (old new : View) (left left' before now : Option (Lis
   load_came (DamagedBlock block) is unnamed = (inl is.0.0, told_all left _ is.0.1, is.2)
   load_came (DamagedPage page) is unnamed = (inr is.0, told_all left _ is.1, is.2)
   load_came (BadInput at) is unnamed = is.0
-  load_came InputTooLong is unnamed = told_both left _ _ refl is.0
+  load_came InputTooLong is unnamed = told_long left _ is.0 is.1
   load_came (TooSmall blocks) is unnamed = is.0
   load_came UnknownSeries is unnamed = (is.4, unknown_told left is.3 is.0 is.1)
   load_came (Refused at number) is unnamed = (is.1, refused_told at number left is.0 unnamed)

@@ -149,6 +149,7 @@ serves_on {T} IsText CanShow old mid new left left' before now faults (Ok done) 
   done = told_so (λ input. AnswersAll IsText (page_count old.size) mid new input before now) (λ input. AnswersAll IsText (page_count old.size) old new input before now) left
       (λ input all total book holds. all total book (held old mid opens total book holds)) s.done;
   within = s.within;
+  long = λ is. cc;
   ends = tt;
   crash = crash_on IsText left before old mid new none opens s.crash;
   cause = tt;
@@ -160,6 +161,7 @@ serves_on {T} IsText CanShow old mid new left left' before now faults (Ok done) 
 serves_on {T} IsText CanShow old mid new left left' before now faults (Err end) none opens quiet s = record {
   done = tt;
   within = tt;
+  long = λ is. s.long (let same : end ≡ run_end.Serve serve_end.InputTooLong = cc in ap Err same);
   ends = told_so (λ input. EndsLines IsText (page_count old.size) mid new input left' before now end) (λ input. EndsLines IsText (page_count old.size) old new input left' before now end) left
       (λ input ends. ends_on IsText old mid new input left' before now end opens ends) s.ends;
   crash = crash_on IsText left before old mid new none opens s.crash;
@@ -200,6 +202,7 @@ opening_at : {T : Type 0} (IsText : Says) (CanShow : Type 0) (old new : View) (l
 opening_at IsText CanShow old new left left' before faults cause none opens prevents a_store = record {
   done = tt;
   within = tt;
+  long = λ is. cc;
   ends = elim left as (λ o. IfSome o (λ input. EndsOpening IsText old new input before before cause)) [
     | None ↦ tt
     | Some input ↦ ends_opening IsText old new input before cause none opens a_store

@@ -30,6 +30,7 @@ use Rattle.stored_book.specs.Standing.{KeepsOldStore, book_pages}
 use Rattle.stored_book.specs.Damage.{IsBadForRequest}
 use Rattle.store_commands.specs.Damaged.{IsDamagedLater}
 use Rattle.store_commands.specs.Books.{begun, OfBook, FromBook, HoldsAgain, Never}
+use Rattle.store_commands.specs.Traffic.{IsLong, WasRead}
 use Rattle.chart_program.specs.Texts.{texts_of}
 use Rattle.run_ends.specs.Statuses.{block_of}
 
@@ -160,7 +161,8 @@ IsLinesCause CanShow count old new faults (run_end.Show client.NoMemory) = ⊤
 -- each moment, and why it ended.
 pub record ServesLines {T : Type 0} (IsText : Says) (CanShow : Type 0) (count : ℕ) (old new : View) (left left' before now : Option (List ℕ)) (faults : Faults) (answer : Result T RunEnd) : Type 0 where
   pub done : OnOk answer (IfSome left (λ input. AnswersAll IsText count old new input before now))
-  pub within : OnOk answer (IfSome left (λ input. length input ≤ 2 ^ 32))
+  pub within : OnOk answer (WasRead left left')
+  pub long : answer ≡ Err (run_end.Serve serve_end.InputTooLong) → IsLong left
   pub ends : IfErr answer (λ end. IfSome left (λ input. EndsLines IsText count old new input left' before now end))
   pub crash : IfSome left (λ input. IfSome before (λ bytes. LeavesBooks IsText count input old new))
   pub cause : IfErr answer (λ end. IsLinesCause CanShow count old new faults end)
@@ -193,7 +195,8 @@ EndsWorld IsText old new input left before now (lines_end.Answering end) = EndsL
 -- the same of a command that opens the store of its disk and serves lines over it
 pub record ServesWorld {T : Type 0} (IsText : Says) (CanShow : Type 0) (old new : View) (left left' before now : Option (List ℕ)) (faults : Faults) (answer : Result T LinesEnd) : Type 0 where
   pub done : OnOk answer (IfSome left (λ input. AnswersAll IsText (page_count old.size) old new input before now))
-  pub within : OnOk answer (IfSome left (λ input. length input ≤ 2 ^ 32))
+  pub within : OnOk answer (WasRead left left')
+  pub long : answer ≡ Err (lines_end.Answering (run_end.Serve serve_end.InputTooLong)) → IsLong left
   pub ends : IfErr answer (λ end. IfSome left (λ input. EndsWorld IsText old new input left' before now end))
   pub crash : IfSome left (λ input. IfSome before (λ bytes. LeavesBooks IsText (page_count old.size) input old new))
   pub cause : IfErr answer (λ end. IsWorldCause CanShow old new faults end)

@@ -57,7 +57,7 @@ pub fn chart<W: World>(alloc: Global, words: &[String], world: W) -> (Status, W)
     ensures misfit { result.0.code ≡ BAD_COEFFICIENT → ForCommand words.now W.view W.left W.sent world result.1 (λ command old new input. Misfits command old input result.0.place) }
     ensures unopened { result.0.code ≡ UNKNOWN_SESSION → ForCommand words.now W.view W.left W.sent world result.1 (λ command old new input. NamesUnopened command old input result.0.place) }
     ensures memory { result.0.code ≡ NO_MEMORY → (result.1 ≡ world) ⊎ ForCommand words.now W.view W.left W.sent world result.1 IsCutShort }
-    ensures within { result.0.code ≡ DONE → ByCommand words.now (λ command. IfSome (W.left world) (IsWithin command)) }
+    ensures within { result.0.code ≡ DONE → ByCommand words.now (λ command. IfSome (W.left world) (IsWithin command (W.left result.1))) }
     ensures fault { result.0.code ≡ DISK_FAULT → HasRisen (W.view world).faults (W.view result.1).faults }
     // with 4, 5 or 6 one call failed, and that count rose by one, or stood at its last value; no other count rose
     ensures faults { CountsFault (code_fault result.0.code) (W.view world) (W.view result.1) }

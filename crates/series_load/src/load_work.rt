@@ -4,7 +4,7 @@ ghost use Rattle.run_ends.specs.Faults.{end_fault};
 ghost use Rattle.series_load.specs.Loading.{Harms, Held, LoadDoes, LoadLeaves, LoadStops, StandsSo};
 ghost use Rattle.series_load.specs.LoadingLaws.{cause_later, fewer, now_stands, stands_taken};
 ghost use Rattle.series_load.specs.Shown as loads;
-ghost use Rattle.run_ends.specs.declared.ending.End.TheVariants.{UnknownSeries};
+ghost use Rattle.run_ends.specs.declared.ending.End.TheVariants.{InputTooLong, UnknownSeries};
 ghost use Rattle.series_load.specs.SideLaws.{goes_further, goes_nowhere, goes_take, same_count, same_total};
 ghost use Rattle.series_load.specs.Sides.{Goes};
 ghost use Rattle.series_store.specs.Shown as shown;
@@ -37,7 +37,7 @@ impl<P: PageWorld> LineWork<Store<P>, End> for Loader {
 
     ghost goes = { λ old new. Goes (loads.side_of P.Streams old) (loads.side_of P.Streams new) };
 
-    ghost cause = { λ end old new. loads.EndsFor P.Streams end old new × (end ≢ UnknownSeries) };
+    ghost cause = { λ end old new. loads.EndsFor P.Streams end old new × (end ≢ UnknownSeries) × (end ≢ InputTooLong) };
 
     ghost harms = { Harms };
 

@@ -22,7 +22,7 @@ use Rattle.run_ends.specs.Statuses.{block_of, refused_at}
 use Rattle.run_ends.specs.declared.ending.End.{End}
 use Rattle.run_ends.specs.declared.ending.End.TheVariants.{Done, NoMemory, ReadFault, SendFault, DiskFault, DamagedPage}
 use Rattle.run_ends.specs.declared.ending.End.TheVariants.{BadInput, InputTooLong, UnknownSeries, Refused}
-use Rattle.store_commands.specs.Traffic.{Traffic}
+use Rattle.store_commands.specs.Traffic.{IsLong, Traffic, WasRead}
 use Rattle.store_commands.specs.Damaged.{IsDamagedLater}
 use Rattle.store_commands.specs.Unopened.{IsUnopenedEnd}
 use Rattle.store_commands.specs.Books.{OfBook, Never, LeavesSame, SendsPartOf, HoldsPages}
@@ -111,7 +111,7 @@ LeavesUnnamed name count old new = Unnamed count old name (λ total book. Since 
 -- why a load ended, and what was done and sent
 abbrev pub IsLoadEnd : End → List ℕ → View → View → Traffic → Type 0
 IsLoadEnd Done name old new t =
-    IfSome t.left (λ input. length input ≤ 2 ^ 32) × IfSome t.left (λ input. LoadsAll name (page_count old.size) old new input t.sent t.sent_now)
+    WasRead t.left t.left_now × IfSome t.left (λ input. LoadsAll name (page_count old.size) old new input t.sent t.sent_now)
 IsLoadEnd NoMemory name old new t = IfSome t.left (λ input. LoadsSome name (page_count old.size) old new input) × (t.sent_now ≡ t.sent)
 IsLoadEnd ReadFault name old new t =
     HasRisen t.reads t.reads_now × IfSome t.left (λ input. IfSome t.left_now (LoadsTaken name (page_count old.size) old new input)) × (t.sent_now ≡ t.sent)
@@ -121,7 +121,8 @@ IsLoadEnd DiskFault name old new t = HasRisen old.faults new.faults × (t.sent_n
 IsLoadEnd (DamagedPage page) name old new t =
     IsDamagedLater IsBadForEdit (page_count old.size) new (block_of page) × Never (page_count old.size) old × (t.sent_now ≡ t.sent)
 IsLoadEnd (BadInput at) name old new t = IfSome t.left (λ input. LoadsToBad name (page_count old.size) old new input at) × (t.sent_now ≡ t.sent)
-IsLoadEnd InputTooLong name old new t = IfSome t.left (λ input. LoadsWithin name (page_count old.size) old new input) × (t.sent_now ≡ t.sent)
+IsLoadEnd InputTooLong name old new t =
+    IsLong t.left × IfSome t.left (λ input. LoadsWithin name (page_count old.size) old new input) × (t.sent_now ≡ t.sent)
 IsLoadEnd UnknownSeries name old new t =
     HasNone (page_count old.size) old name × OfBook (page_count old.size) old (λ total book. HoldsBook (page_count old.size) total book new)
     × LeavesSame (page_count old.size) old new × (t.left_now ≡ t.left) × (t.sent_now ≡ t.sent)

@@ -1,5 +1,5 @@
 -- What is so of an input that was read to its end.
-use Rattle.std.proofs.Common.{◌≤◌, ◌^◌, List, length, Option, None, Some, IfSome}
+use Rattle.std.proofs.Common.{ℕ, ◌≤◌, ◌^◌, List, length, Option, None, Some, Result, Ok, Err, IfSome, OnOk}
 use Rattle.chart_world.specs.Reading.{IsReadUp}
 use Rattle.store_commands.specs.Traffic.{WasRead}
 
@@ -15,3 +15,8 @@ read_within (Some input) left' read = read.0
 pub read_up : (left left' : Option (List ℕ)) → WasRead left left' → IsReadUp left left'
 read_up None left' read = tt
 read_up (Some input) left' read = read.1
+
+-- of what a call answered
+pub read_on : {T E : Type 0} (result : Result T E) (left left' : Option (List ℕ)) → OnOk result (IfSome left (λ input. length input ≤ 2 ^ 32)) → OnOk result (IsReadUp left left') → OnOk result (WasRead left left')
+read_on {T} {E} (Ok done) left left' within whole = was_read left left' within whole
+read_on {T} {E} (Err e) left left' within whole = tt
