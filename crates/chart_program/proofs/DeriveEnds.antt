@@ -103,6 +103,7 @@ module _ (old new : View) (left left' before now : Option (List ℕ)) (faults : 
     holds = λ other. told_all left _ (λ total book held. (book, e.holds total book held));
     crash = all_told left before _ e.crash;
     disk = e.goes_on;
+    honest = e.honest;
     complete = complete old new left left' before now passed end e.cause e.sent;
     drawn = λ command. cc;
     ready = λ command. cc;

@@ -3,6 +3,7 @@ use Rattle.std.proofs.Common.{◌≡◌, ◌≢◌, ◌≤◌, ◌^◌, inl, inr
 use Rattle.std.specs.Prelude.{Contains}
 use Rattle.block_disk.specs.Counts.{HasRisen}
 use Rattle.block_disk.specs.View.{View}
+use Rattle.gate_pages.specs.GateLaws.{kept_told}
 use Rattle.draw_command.specs.Alone.{StaysAlone}
 use Rattle.chart_world.specs.LineLaws.{told_so}
 use Rattle.om3_coeff.specs.declared.key.Key.{Key}
@@ -99,6 +100,7 @@ module _ {T : Type 0} (old new : View) (left left' before now : Option (List ℕ
       holds = λ other. told_all left _ (alone_holds old new disk);
       crash = all_told left before _ (alone_leaves old new disk);
       disk = disk.kept;
+      honest = kept_told old new disk.kept;
       complete = plot_good r ends;
       drawn = λ command. cc;
       ready = λ command. cc;
@@ -163,6 +165,7 @@ module _ {T : Type 0} (old new : View) (left left' before now : Option (List ℕ
     holds = λ other. told_all left _ (alone_holds old new disk);
     crash = all_told left before _ (alone_leaves old new disk);
     disk = disk.kept;
+    honest = kept_told old new disk.kept;
     complete = drawing_good None known stay r ends;
     drawn = λ command. replies_end accepts own_accepts left _ (drawing_good None known stay r ends);
     ready = λ command. cc;
@@ -199,6 +202,7 @@ module _ {T : Type 0} (old new : View) (left left' before now : Option (List ℕ
       holds = λ other. told_all left _ (alone_holds old new disk);
       crash = all_told left before _ (alone_leaves old new disk);
       disk = disk.kept;
+      honest = kept_told old new disk.kept;
       complete = drawing_good (Some every) known stay r ends;
       drawn = λ command. cc;
       ready = λ command. cc;

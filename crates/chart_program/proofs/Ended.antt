@@ -51,6 +51,7 @@ ends_by IsText CanShow old new left left' before now faults (Ok u) s = record {
   crash = s.crash;
   reads = s.reads;
   syncs = s.syncs;
+  honest = s.honest;
   goes_on = s.goes_on;
 }
 ends_by IsText CanShow old new left left' before now faults (Err (lines_end.Opening (opening.TooSmall size))) s = record {
@@ -76,6 +77,7 @@ ends_by IsText CanShow old new left left' before now faults (Err (lines_end.Open
   crash = s.crash;
   reads = s.reads;
   syncs = s.syncs;
+  honest = s.honest;
   goes_on = s.goes_on;
 }
 ends_by IsText CanShow old new left left' before now faults (Err (lines_end.Opening (opening.Damaged block))) s = record {
@@ -101,6 +103,7 @@ ends_by IsText CanShow old new left left' before now faults (Err (lines_end.Open
   crash = s.crash;
   reads = s.reads;
   syncs = s.syncs;
+  honest = s.honest;
   goes_on = s.goes_on;
 }
 ends_by IsText CanShow old new left left' before now faults (Err (lines_end.Opening opening.DiskFault)) s = record {
@@ -126,6 +129,7 @@ ends_by IsText CanShow old new left left' before now faults (Err (lines_end.Open
   crash = s.crash;
   reads = s.reads;
   syncs = s.syncs;
+  honest = s.honest;
   goes_on = s.goes_on;
 }
 ends_by IsText CanShow old new left left' before now faults (Err (lines_end.Opening opening.NoMemory)) s = record {
@@ -151,6 +155,7 @@ ends_by IsText CanShow old new left left' before now faults (Err (lines_end.Open
   crash = s.crash;
   reads = s.reads;
   syncs = s.syncs;
+  honest = s.honest;
   goes_on = s.goes_on;
 }
 ends_by IsText CanShow old new left left' before now faults (Err (lines_end.Answering (run_end.Serve serve_end.ReadFault))) s = record {
@@ -176,6 +181,7 @@ ends_by IsText CanShow old new left left' before now faults (Err (lines_end.Answ
   crash = s.crash;
   reads = s.reads;
   syncs = s.syncs;
+  honest = s.honest;
   goes_on = s.goes_on;
 }
 ends_by IsText CanShow old new left left' before now faults (Err (lines_end.Answering (run_end.Serve serve_end.SendFault))) s = record {
@@ -201,6 +207,7 @@ ends_by IsText CanShow old new left left' before now faults (Err (lines_end.Answ
   crash = s.crash;
   reads = s.reads;
   syncs = s.syncs;
+  honest = s.honest;
   goes_on = s.goes_on;
 }
 ends_by IsText CanShow old new left left' before now faults (Err (lines_end.Answering (run_end.Serve serve_end.DiskFault))) s = record {
@@ -226,6 +233,7 @@ ends_by IsText CanShow old new left left' before now faults (Err (lines_end.Answ
   crash = s.crash;
   reads = s.reads;
   syncs = s.syncs;
+  honest = s.honest;
   goes_on = s.goes_on;
 }
 ends_by IsText CanShow old new left left' before now faults (Err (lines_end.Answering (run_end.Serve (serve_end.Damaged page)))) s = record {
@@ -251,6 +259,7 @@ ends_by IsText CanShow old new left left' before now faults (Err (lines_end.Answ
   crash = s.crash;
   reads = s.reads;
   syncs = s.syncs;
+  honest = s.honest;
   goes_on = s.goes_on;
 }
 ends_by IsText CanShow old new left left' before now faults (Err (lines_end.Answering (run_end.Serve serve_end.InputTooLong))) s = record {
@@ -276,6 +285,7 @@ ends_by IsText CanShow old new left left' before now faults (Err (lines_end.Answ
   crash = s.crash;
   reads = s.reads;
   syncs = s.syncs;
+  honest = s.honest;
   goes_on = s.goes_on;
 }
 ends_by IsText CanShow old new left left' before now faults (Err (lines_end.Answering (run_end.Serve serve_end.NoMemory))) s = record {
@@ -301,6 +311,7 @@ ends_by IsText CanShow old new left left' before now faults (Err (lines_end.Answ
   crash = s.crash;
   reads = s.reads;
   syncs = s.syncs;
+  honest = s.honest;
   goes_on = s.goes_on;
 }
 ends_by IsText CanShow old new left left' before now faults (Err (lines_end.Answering (run_end.Show (client.Missing key)))) s = record {
@@ -326,6 +337,7 @@ ends_by IsText CanShow old new left left' before now faults (Err (lines_end.Answ
   crash = s.crash;
   reads = s.reads;
   syncs = s.syncs;
+  honest = s.honest;
   goes_on = s.goes_on;
 }
 ends_by IsText CanShow old new left left' before now faults (Err (lines_end.Answering (run_end.Show (client.BadCoefficient key)))) s = record {
@@ -351,6 +363,7 @@ ends_by IsText CanShow old new left left' before now faults (Err (lines_end.Answ
   crash = s.crash;
   reads = s.reads;
   syncs = s.syncs;
+  honest = s.honest;
   goes_on = s.goes_on;
 }
 ends_by IsText CanShow old new left left' before now faults (Err (lines_end.Answering (run_end.Show (client.UnknownSession number)))) s = absurd s.cause
@@ -377,6 +390,7 @@ ends_by IsText CanShow old new left left' before now faults (Err (lines_end.Answ
   crash = s.crash;
   reads = s.reads;
   syncs = s.syncs;
+  honest = s.honest;
   goes_on = s.goes_on;
 }
 

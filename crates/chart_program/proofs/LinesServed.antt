@@ -119,6 +119,7 @@ module _ (count count' : ℕ) (sound sound' : Bool) (old new : View) (left left'
             (told_for left (λ total book. HoldsBook count total book old) X (λ total book holds. done total book holds.honest (stands_held count total book old rests holds)));
         reads = reads;
         syncs = syncs;
+        honest = told;
         goes_on = goes;
         risen = risen;
       }
@@ -138,6 +139,7 @@ module _ (count count' : ℕ) (sound sound' : Bool) (old new : View) (left left'
             (told_for left (λ total book. HoldsBook count total book old) X (λ total book holds. ends total book holds.honest (stands_held count total book old rests holds)));
         reads = reads;
         syncs = syncs;
+        honest = told;
         goes_on = goes;
         risen = risen;
       }
@@ -203,6 +205,7 @@ module _ (count count' : ℕ) (sound sound' : Bool) (old new : View) (left left'
           (λ state sends. tt) (done total book holds.honest (stands_held count total book old rests holds)))));
       reads = reads;
       syncs = syncs;
+      honest = told;
       goes_on = goes;
       risen = risen;
     }
@@ -221,6 +224,7 @@ module _ (count count' : ℕ) (sound sound' : Bool) (old new : View) (left left'
           ends total book holds.honest (stands_held count total book old rests holds)));
       reads = reads;
       syncs = syncs;
+      honest = told;
       goes_on = goes;
       risen = risen;
     }
@@ -281,6 +285,7 @@ made_none {T} IsText CanShow count at left before faults none = record {
   holds = λ other. for_told left (λ input. HoldsAgain count at at) (λ input is total book holds. (book, holds));
   reads = reads_none left count at;
   syncs = syncs_none left count at;
+  honest = λ h. h;
   goes_on = goes_none at;
   risen = omega arith;
 }

@@ -115,6 +115,7 @@ module _ (name : List ℕ) (old new : View) (left left' before now : Option (Lis
     holds = λ other. told_all left _ (holds (λ is. other (ap (λ (x : End). code_of x) is)));
     crash = both_told left before _ _ e.crash e.kept;
     disk = e.goes_on;
+    honest = e.honest;
     complete = told_so (λ input. AreReadings name old new input → IsDoneOrCut end) (λ input. AreReadings name old new input → Contains of_done (code_of end)) left
         (λ input so good. done_codes end (so good)) (of_load name old new passed end e away).good;
     drawn = λ command. cc;

@@ -97,6 +97,7 @@ module _ (old new : View) (left left' before now : Option (List ℕ)) (faults : 
     holds = λ other. e.holds (λ is. other (ap (λ (end : End). code_of end) is));
     crash = e.crash;
     disk = e.goes_on;
+    honest = e.honest;
     complete = complete old new left left' before now passed end e.cause e.does;
     drawn = λ command. cc;
     ready = λ command. cc;

@@ -78,6 +78,7 @@ module _ (old new : View) (left left' before now : Option (List ℕ)) (faults : 
     holds = λ other. told_all left _ (λ total book held. (book, e.holds total book held));
     crash = all_told left before _ e.crash;
     disk = e.goes_on;
+    honest = e.honest;
     complete = told_all left _ (λ good. list_completes good end e.is);
     drawn = λ command. cc;
     ready = λ command. cc;
@@ -132,6 +133,7 @@ module _ (old new : View) (left left' before now : Option (List ℕ)) (faults : 
     holds = λ other. told_all left _ (λ total book held. (book, e.holds total book held));
     crash = all_told left before _ e.crash;
     disk = e.goes_on;
+    honest = e.honest;
     complete = told_all left _ (λ good. check_completes good end e.is);
     drawn = λ command. cc;
     ready = λ command. cc;
@@ -196,6 +198,7 @@ module _ (old new : View) (left left' before now : Option (List ℕ)) (faults : 
       holds = λ other. told_all left _ (holds (λ is. other (ap (λ (x : End). code_of x) is)));
       crash = all_told left before _ e.crash;
       disk = e.goes_on;
+      honest = e.honest;
       complete = told_all left _ (λ good. demo_completes good end e.is);
       drawn = λ command. cc;
       ready = λ command. cc;
@@ -250,6 +253,7 @@ module _ (old new : View) (left left' before now : Option (List ℕ)) (faults : 
       holds = λ other. told_all left _ (λ total book held. (book, e.holds total book held));
       crash = all_told left before _ e.crash;
       disk = e.goes_on;
+      honest = e.honest;
       complete = told_all left _ (λ good. export_completes good end e.is);
       drawn = λ command. cc;
       ready = λ command. cc;

@@ -156,6 +156,7 @@ serves_on {T} IsText CanShow old mid new left left' before now faults (Ok done) 
   holds = λ other. again_on left old mid new opens (s.holds (λ e. cc));
   reads = reads_opened left old mid new opens s.reads;
   syncs = syncs_opened left old mid new opens s.syncs;
+  honest = λ h. s.honest (opens.honest h);
   goes_on = goes_then old mid new (opens_goes (page_count old.size) old mid opens) s.goes_on;
 }
 serves_on {T} IsText CanShow old mid new left left' before now faults (Err end) none opens quiet s = record {
@@ -169,6 +170,7 @@ serves_on {T} IsText CanShow old mid new left left' before now faults (Err end) 
   holds = λ other. again_on left old mid new opens (s.holds (λ e. other (ap (λ (r : Result T RunEnd). in_world r) e)));
   reads = reads_opened left old mid new opens s.reads;
   syncs = syncs_opened left old mid new opens s.syncs;
+  honest = λ h. s.honest (opens.honest h);
   goes_on = goes_then old mid new (opens_goes (page_count old.size) old mid opens) s.goes_on;
 }
 
@@ -218,6 +220,7 @@ opening_at IsText CanShow old new left left' before faults cause none opens prev
   ];
   reads = reads_unopened left old new opens;
   syncs = syncs_unopened left old new opens;
+  honest = opens.honest;
   goes_on = opens_goes (page_count old.size) old new opens;
 }
 

@@ -1,7 +1,7 @@
 -- How a serving command ends, by its status.
 use Rattle.std.specs.Prelude.{◌≡◌, ◌≢◌, ℕ, ◌+◌, ◌<◌, ◌≤◌, ◌^◌, List, [], ◌∷◌, length, Contains, Option, IfSome, Result, Ok, Err, ⊤}
 use Rattle.block_disk.specs.Counts.{HasRisen}
-use Rattle.block_disk.specs.View.{View}
+use Rattle.block_disk.specs.View.{Honest, View}
 use Rattle.chart_client.specs.Accepting.{HasNumber}
 use Rattle.chart_client.specs.declared.errors.ClientError.{ClientError}
 use Rattle.chart_client.specs.declared.errors.ClientError.TheVariants as client
@@ -76,4 +76,5 @@ pub record EndsBy (IsText : Says) (CanShow : Type 0) (old new : View) (left left
   pub reads : IfSome left (λ input. ReadsServing old new input)
   pub syncs : IfSome left (λ input. SyncsServing old new input)
   pub crash : IfSome left (λ input. IfSome before (λ bytes. LeavesBooks IsText (page_count old.size) input old new))
+  pub honest : Honest old → Honest new
   pub goes_on : GoesOn old new

@@ -499,6 +499,7 @@ pub record CommandEnds (command : Command) (old new : View) (left left' before n
   pub holds : code ≢ 6 → IfSome left (λ input. HoldsAgain (page_count old.size) old new)
   pub crash : IfSome left (λ input. LeavesTold command old new input before now)
   pub disk : LeavesDisk command old new
+  pub honest : Honest old → Honest new
   pub made : code ≡ 0 → IsMade command old new
   pub complete : IfSome left (λ input. IsInput command old new input → Contains of_done code)
   pub drawn : command ≡ Draw → IfSome left (λ input. IsOfReplies input → Contains of_done code)

@@ -1,7 +1,7 @@
 -- What a serving command says to the lines of its input, over the book that its disk holds, and what it leaves.
 use Rattle.std.specs.Prelude.{◌≡◌, ◌≢◌, ℕ, ◌+◌, ◌-◌, ◌^◌, ◌<◌, ◌≤◌, List, [], length, Option, IfSome, Result, Ok, Err, OnOk, IfErr, ⊤}
 use Rattle.block_disk.specs.Counts.{HasRisen}
-use Rattle.block_disk.specs.View.{Image, View, sent_now}
+use Rattle.block_disk.specs.View.{Honest, Image, View, sent_now}
 use Rattle.chart_client.specs.Accepting.{Rejects}
 use Rattle.chart_client.specs.declared.errors.ClientError.{ClientError}
 use Rattle.chart_client.specs.declared.errors.ClientError.TheVariants as client
@@ -169,6 +169,7 @@ pub record ServesLines {T : Type 0} (IsText : Says) (CanShow : Type 0) (count : 
   pub holds : answer ≢ Err (run_end.Serve serve_end.DiskFault) → IfSome left (λ input. HoldsAgain count old new)
   pub reads : IfSome left (λ input. ReadsFrom count old new input old.reads)
   pub syncs : IfSome left (λ input. SyncsFrom count old new input old.syncs)
+  pub honest : Honest old → Honest new
   pub goes_on : GoesOn old new
   pub risen : old.faults ≤ new.faults
 
@@ -203,6 +204,7 @@ pub record ServesWorld {T : Type 0} (IsText : Says) (CanShow : Type 0) (old new 
   pub holds : answer ≢ Err (lines_end.Answering (run_end.Serve serve_end.DiskFault)) → IfSome left (λ input. HoldsAgain (page_count old.size) old new)
   pub reads : IfSome left (λ input. ReadsServing old new input)
   pub syncs : IfSome left (λ input. SyncsServing old new input)
+  pub honest : Honest old → Honest new
   pub goes_on : GoesOn old new
 
 abbrev pub in_world : {T : Type 0} → Result T RunEnd → Result T LinesEnd

@@ -1,5 +1,6 @@
 ghost use Rattle.std.specs.Prelude.{◌≡◌, ◌≢◌, ◌⊎◌, ℕ, List, [], ◌∷◌, map, Contains, Option, string_bytes, IfSome};
 ghost use Rattle.block_disk.specs.Counts.{HasRisen};
+ghost use Rattle.block_disk.specs.View.{Honest};
 ghost use Rattle.chart_world.specs.Faults.{CountsFault};
 ghost use Rattle.program_words.specs.CommandLine.{plain_words};
 ghost use Rattle.program_words.specs.declared.words.Command.TheVariants.{Check, Cover, Demo, Derive, Draw, Export, Init, ListSeries, Live, Load, Plot, Retain};
@@ -98,6 +99,9 @@ pub fn chart<W: World>(alloc: Global, words: &[String], world: W) -> (Status, W)
 
     // so each run is a life, as the law on lists of lives has it
     ensures life { result.0.code ≢ WRONG_WORDS → IsUnread result.0 world result.1 ⊎ ForCommand words.now W.view W.left W.sent world result.1 IsLived }
+
+    // with any status reads of the disk give what a crash may leave, where they did
+    ensures honest { Honest (W.view world) → Honest (W.view result.1) }
 
     // with any status but 6 the disk holds a book again, where it held one
     ensures holds { result.0.code ≢ WRONG_WORDS → result.0.code ≢ DISK_FAULT → (result.1 ≡ world) ⊎ ForCommand words.now W.view W.left W.sent world result.1 HoldsNow }

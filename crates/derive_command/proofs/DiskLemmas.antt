@@ -92,6 +92,7 @@ module _ (count count' : ℕ) (sound sound' : Bool) (first old new : View) (tota
     holds = λ total book holds.
         let C : ℕ → Type 0 = λ n. HoldsBook n total book new in
         subst C counted (holds_same count count' total book old new rests goes.size goes.is_told goes.image closed (held_open total book holds));
+    honest = λ h. goes.is_told (opens.honest h);
     goes_on = goes_then first old new (opened_goes first old opens) goes.goes_on;
   }
 
@@ -118,5 +119,6 @@ module _ (old new : View) (t : Traffic) where
         sent = any_told t.left _ (λ input. unopened_sent input cause u);
         crash = opened_since old new u.opens;
         holds = held old new u.opens;
+        honest = u.opens.honest;
         goes_on = opened_goes old new u.opens;
       })

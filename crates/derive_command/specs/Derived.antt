@@ -1,7 +1,7 @@
 -- How `derive` ends over the store of a disk.
 use Rattle.std.specs.Prelude.{◌≡◌, ℕ, ◌+◌, ◌*◌, ◌<◌, ◌≤◌, ◌^◌, List, length, Option, IfSome, ⊤}
 use Rattle.block_disk.specs.Counts.{HasRisen}
-use Rattle.block_disk.specs.View.{View}
+use Rattle.block_disk.specs.View.{Honest, View}
 use Rattle.disk_store.specs.Held.{HoldsBook}
 use Rattle.gate_pages.specs.Journal.{page_count}
 use Rattle.gate_pages.specs.Pages.{GoesOn}
@@ -74,4 +74,6 @@ pub record DeriveEnds (old new : View) (t : Traffic) (end : End) : Type 0 where
   pub sent : IfSome t.left (λ input. OfBook (page_count old.size) old (λ total book. EndsSo book input t.left_now t.sent t.sent_now end))
   pub crash : LeavesSame (page_count old.size) old new
   pub holds : OfBook (page_count old.size) old (λ total book. HoldsBook (page_count old.size) total book new)
+  -- reads give what a crash may leave, where they did
+  pub honest : Honest old → Honest new
   pub goes_on : GoesOn old new

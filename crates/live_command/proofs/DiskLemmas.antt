@@ -136,6 +136,7 @@ module _ (count count' : ℕ) (sound sound' : Bool) (old new : View) (t : Traffi
     cause = cause_on end whole long cause;
     does = does_on t.left end ends closed;
     crash = crash_on t.left t.sent crash;
+    honest = goes.is_told;
     goes_on = goes.goes_on;
   }
 
@@ -189,6 +190,7 @@ module _ (old mid new : View) (t : Traffic) (opens : Opens (page_count old.size)
         does = does;
         holds = λ other. again_told (page_count old.size) old new t.left (λ total book input. EndsSo (Holds (page_count old.size) total new) input (begun_live total book) t.left_now t.sent t.sent_now end) (λ total book input is. next_held total book input end other is) does;
         crash = crash_opened t.left t.sent s.crash;
+        honest = λ h. s.honest (opens.honest h);
         goes_on = goes_then old mid new (opened_goes old mid opens) s.goes_on;
       }
 
@@ -217,6 +219,7 @@ served_none count disk t unsent = record {
   crash = told_each t.left (λ input. IfSome t.sent (λ bytes. LeavesLived count input disk disk)) (λ input. told_each t.sent (λ bytes. LeavesLived count input disk disk) (λ bytes total book holds.
       since_none disk (λ image sent. IsAhead (λ after. RecoversTo count image total after) input (begun_live total book) (sent_now disk) sent)
       (λ image left. none_ahead (λ after. RecoversTo count image total after) input (begun_live total book) (sent_now disk) (holds.images image left))));
+  honest = λ h. h;
   goes_on = goes_none disk;
 }
 
@@ -255,6 +258,7 @@ module _ (old new : View) (t : Traffic) where
         does = told_each t.left _ (λ input. unopened_does input cause u);
         holds = λ other. told_each t.left (λ input. HoldsAgain (page_count old.size) old new) (λ input. again_opened old new u.opens);
         crash = told_each t.left (λ input. IfSome t.sent (λ bytes. LeavesLived (page_count old.size) input old new)) (λ input. told_each t.sent (λ bytes. LeavesLived (page_count old.size) input old new) (λ bytes. unopened_crash input u.opens));
+        honest = u.opens.honest;
         goes_on = opened_goes old new u.opens;
       })
 

@@ -1,7 +1,7 @@
 -- How `live` ends over the store of a disk.
 use Rattle.std.specs.Prelude.{◌≡◌, ◌≢◌, ℕ, ◌+◌, ◌<◌, ◌≤◌, List, [], Option, IfSome, ⊤}
 use Rattle.block_disk.specs.Counts.{HasRisen}
-use Rattle.block_disk.specs.View.{View, sent_now}
+use Rattle.block_disk.specs.View.{Honest, View, sent_now}
 use Rattle.chart_service.specs.Moments.{Since}
 use Rattle.gate_pages.specs.Journal.{page_count}
 use Rattle.gate_pages.specs.Pages.{GoesOn}
@@ -92,4 +92,6 @@ pub record LiveEnds (old new : View) (t : Traffic) (end : End) : Type 0 where
   pub does : DoesLive (page_count old.size) old new t end
   pub holds : end ≢ DiskFault → IfSome t.left (λ input. HoldsAgain (page_count old.size) old new)
   pub crash : IfSome t.left (λ input. IfSome t.sent (λ bytes. LeavesLived (page_count old.size) input old new))
+  -- reads give what a crash may leave, where they did
+  pub honest : Honest old → Honest new
   pub goes_on : GoesOn old new

@@ -1,7 +1,7 @@
 -- What is done over a store on a disk. Private contracts are stated by these words.
 use Rattle.std.specs.Prelude.{ℕ, IfSome, ⊤}
 use Rattle.block_disk.specs.Counts.{HasRisen}
-use Rattle.block_disk.specs.View.{View}
+use Rattle.block_disk.specs.View.{Honest, View}
 use Rattle.gate_pages.specs.Pages.{GoesOn}
 use Rattle.run_ends.specs.Statuses.{block_of}
 use Rattle.run_ends.specs.declared.ending.End.{End}
@@ -27,4 +27,6 @@ pub record Served (count : ℕ) (old new : View) (t : Traffic) (end : End) : Typ
   pub cause : IsServeCause end count old new t
   pub does : DoesLive count old new t end
   pub crash : IfSome t.left (λ input. IfSome t.sent (λ bytes. LeavesLived count input old new))
+  -- reads give what a crash may leave, where they did
+  pub honest : Honest old → Honest new
   pub goes_on : GoesOn old new

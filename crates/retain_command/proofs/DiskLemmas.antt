@@ -183,6 +183,7 @@ module _ (count count' : ℕ) (sound sound' : Bool) (first old new : View) (tota
         does = does;
         holds = λ other. again_told n first new t.left (λ total book input. SweptBy n total book input end) (λ total book input s. next_held n total book input end other s) does;
         crash = crash_on t.left t.sent crash;
+        honest = λ h. goes.is_told (opens.honest h);
         goes_on = goes_then first old new (opened_goes first old opens) goes.goes_on;
       }
 
@@ -215,5 +216,6 @@ module _ (old new : View) (t : Traffic) where
         does = any_told t.left _ (λ input. unopened_does input cause u);
         holds = λ other. any_told t.left (λ input. HoldsAgain (page_count old.size) old new) (λ input. again_opened old new u.opens);
         crash = any_told t.left (λ input. IfSome t.sent (λ bytes. LeavesSwept (page_count old.size) input old new)) (λ input. any_told t.sent (λ bytes. LeavesSwept (page_count old.size) input old new) (λ bytes. unopened_crash input u.opens));
+        honest = u.opens.honest;
         goes_on = opened_goes old new u.opens;
       })

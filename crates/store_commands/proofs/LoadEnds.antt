@@ -98,6 +98,7 @@ module _ (name : List ℕ) (old mid new : View) (opens : Opens (page_count old.s
     sent_is = s.sent_is;
     sends_is = s.sends_is;
     faults = omega (arith, opens.faults, s.faults);
+    honest = λ h. s.honest (opens.honest h);
     goes_on = goes_then old mid new (opened_goes old mid opens) s.goes_on;
   }
   stores_opened t (Err end) s = record {
@@ -115,6 +116,7 @@ module _ (name : List ℕ) (old mid new : View) (opens : Opens (page_count old.s
     sent_is = s.sent_is;
     sends_is = s.sends_is;
     faults = omega (arith, opens.faults, s.faults);
+    honest = λ h. s.honest (opens.honest h);
     goes_on = goes_then old mid new (opened_goes old mid opens) s.goes_on;
   }
 
@@ -186,6 +188,7 @@ unloaded name old new t cause end u same =
       unnamed = λ total book holds none. outside_ends cause (u.outside total book holds);
       crash = opened_ahead name old new t.left u.opens;
       kept = λ total book holds none. opened_since old new u.opens total book holds;
+      honest = u.opens.honest;
       goes_on = opened_goes old new u.opens;
     })
   where
@@ -220,6 +223,7 @@ stopped_ends name old new t end s = record {
   unnamed = λ total book holds none. (2, omega arith, sym (err_same end UnknownSeries (s.unnamed total book holds none)));
   crash = ahead_by name (page_count old.size) old new t.left s.moments;
   kept = λ total book holds none. ((s.untouched (s.unnamed total book holds none)).0 total book holds).1;
+  honest = s.honest;
   goes_on = s.goes_on;
 }
 
@@ -308,6 +312,7 @@ sent_ends name old mid new t left' now reads_now sends_now readings end same s t
       unnamed = λ total book holds none. absurd (never_unknown readings (s.unnamed total book holds none));
       crash = sent_ahead name (page_count old.size) old mid new t.left readings x.time s.quiet s.moments (s.some (λ same. cc)) s.done;
       kept = λ total book holds none. absurd (never_unknown readings (s.unnamed total book holds none));
+      honest = λ h. kept_told mid new x.kept (s.honest h);
       goes_on = goes_then old mid new s.goes_on (goes_by mid new (Now mid) (λ sent. (sent_now mid ≤ sent) × (sent ≤ sent_now new)) x.time);
     }
 

@@ -213,6 +213,7 @@ module _ (name : List ℕ) (count count' : ℕ) (sound sound' : Bool) (old new :
     sent_is = sent_is;
     sends_is = sends_is;
     faults = faults;
+    honest = told;
     goes_on = goes;
   }
   stores_by (Err e) total_now comes finds within long few cause closed stays sent_is sends_is faults = record {
@@ -230,6 +231,7 @@ module _ (name : List ℕ) (count count' : ℕ) (sound sound' : Bool) (old new :
     sent_is = sent_is;
     sends_is = sends_is;
     faults = faults;
+    honest = told;
     goes_on = goes;
   }
 

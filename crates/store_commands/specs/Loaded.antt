@@ -3,7 +3,7 @@ use Rattle.std.specs.Prelude.{◌≡◌, ℕ, ◌+◌, ◌*◌, ◌<◌, ◌≤�
 use Rattle.std.specs.Fmt.{decimal}
 use Rattle.block_disk.specs.Counts.{HasRisen}
 use Rattle.block_disk.specs.Streams.{sent_after}
-use Rattle.block_disk.specs.View.{Image, View, sent_now}
+use Rattle.block_disk.specs.View.{Honest, Image, View, sent_now}
 use Rattle.gate_pages.specs.GatePages.{IsReadable}
 use Rattle.gate_pages.specs.Journal.{page_count}
 use Rattle.gate_pages.specs.Pages.{GoesOn}
@@ -136,4 +136,6 @@ pub record LoadEnds (name : List ℕ) (old new : View) (t : Traffic) (end : End)
   pub unnamed : Unnamed (page_count old.size) old name (λ total book. Contains unnamed_ends end)
   pub crash : IfSome t.left (λ input. LeavesLoads name (page_count old.size) input old new)
   pub kept : LeavesUnnamed name (page_count old.size) old new
+  -- reads give what a crash may leave, where they did
+  pub honest : Honest old → Honest new
   pub goes_on : GoesOn old new

@@ -1,7 +1,7 @@
 -- What a load stores. Private contracts are stated by these words.
 use Rattle.std.specs.Prelude.{◌≡◌, ◌≢◌, ℕ, ◌≤◌, List, Option, Result, Err, IfOk, IfErr, IfSome, ⊤}
 use Rattle.block_disk.specs.Counts.{HasRisen}
-use Rattle.block_disk.specs.View.{View, sent_now}
+use Rattle.block_disk.specs.View.{Honest, View, sent_now}
 use Rattle.block_disk.specs.declared.disk.Disk.{Ghosts}
 use Rattle.gate_pages.specs.Pages.{GoesOn}
 use Rattle.gate_pages.specs.Shown as gate
@@ -56,6 +56,8 @@ pub record Stores (name : List ℕ) (count : ℕ) (old new : View) (t : Traffic)
   pub sent_is : t.sent_now ≡ t.sent
   pub sends_is : t.sends_now ≡ t.sends
   pub faults : old.faults ≤ new.faults
+  -- reads give what a crash may leave, where they did
+  pub honest : Honest old → Honest new
   pub goes_on : GoesOn old new
 
 -- the same over the pages of an open store on a world, by what passed through the streams
