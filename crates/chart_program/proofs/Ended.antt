@@ -395,14 +395,14 @@ ends_by IsText CanShow old new left left' before now faults (Err (lines_end.Answ
 }
 
 -- the keys of the ends have numbers
-pub numbered_by : {T : Type 0} (CanShow : Type 0) (old new : View) (faults : Faults) (answer : Result T LinesEnd) → IfErr answer (λ end. IsWorldCause CanShow old new faults end) → IfErr answer HasNumberedKey
-numbered_by CanShow old new faults (Ok u) is = tt
-numbered_by CanShow old new faults (Err (lines_end.Opening cause)) is = tt
-numbered_by CanShow old new faults (Err (lines_end.Answering (run_end.Serve end))) is = tt
-numbered_by CanShow old new faults (Err (lines_end.Answering (run_end.Show (client.Missing key)))) is = is.1
-numbered_by CanShow old new faults (Err (lines_end.Answering (run_end.Show (client.BadCoefficient key)))) is = is.1
-numbered_by CanShow old new faults (Err (lines_end.Answering (run_end.Show (client.UnknownSession number)))) is = tt
-numbered_by CanShow old new faults (Err (lines_end.Answering (run_end.Show client.NoMemory))) is = tt
+pub numbered_by : {T : Type 0} (CanShow : Type 0) (old new : View) (before now : Option (List ℕ)) (faults : Faults) (answer : Result T LinesEnd) → IfErr answer (λ end. IsWorldCause CanShow old new before now faults end) → IfErr answer HasNumberedKey
+numbered_by CanShow old new before now faults (Ok u) is = tt
+numbered_by CanShow old new before now faults (Err (lines_end.Opening cause)) is = tt
+numbered_by CanShow old new before now faults (Err (lines_end.Answering (run_end.Serve end))) is = tt
+numbered_by CanShow old new before now faults (Err (lines_end.Answering (run_end.Show (client.Missing key)))) is = is.1
+numbered_by CanShow old new before now faults (Err (lines_end.Answering (run_end.Show (client.BadCoefficient key)))) is = is.1
+numbered_by CanShow old new before now faults (Err (lines_end.Answering (run_end.Show (client.UnknownSession number)))) is = tt
+numbered_by CanShow old new before now faults (Err (lines_end.Answering (run_end.Show client.NoMemory))) is = tt
 
 pub ends_so : {T : Type 0} (IsText : Says) (CanShow : Type 0) (old new : View) (left left' before now : Option (List ℕ)) (faults : Faults) (answer : Result T LinesEnd) (status : Status) → status ≡ status_by answer → ServesWorld IsText CanShow old new left left' before now faults answer
     → EndsBy IsText CanShow old new left left' before now faults status.code status.place

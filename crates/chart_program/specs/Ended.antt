@@ -17,7 +17,7 @@ use Rattle.chart_program.specs.declared.run_end.RunEnd.TheVariants as run_end
 use Rattle.run_ends.specs.declared.status.Status.{Status}
 use Rattle.run_ends.specs.Statuses.{block_of, status}
 use Rattle.store_commands.specs.Status.{opening_status}
-use Rattle.chart_program.specs.Served.{Says, Faults, AnswersAll, AnswersFront, AnswersTaken, AnswersWithin, AnswersSome, AnswersLines, LeavesBooks, IsRejected, ReadsServing, SyncsServing}
+use Rattle.chart_program.specs.Served.{Says, Faults, AnswersAll, AnswersFront, AnswersTaken, AnswersWithin, AnswersSome, AnswersLines, LeavesBooks, RejectsNext, ReadsServing, SyncsServing}
 use Rattle.stored_book.specs.Damage.{IsBadForRequest}
 use Rattle.store_commands.specs.Damaged.{IsDamagedPlace}
 use Rattle.store_commands.specs.Books.{HoldsAgain, Never}
@@ -67,8 +67,8 @@ pub record EndsBy (IsText : Says) (CanShow : Type 0) (old new : View) (left left
   pub damaged : code ≡ 7 → IsDamagedPlace IsBadForRequest old new place
   pub undamaged : code ≡ 7 → IfSome left (λ input. Never (page_count old.size) old)
   pub much : code ≡ 9 → IfSome left (λ input. (place ≡ 2 ^ 32) × (2 ^ 32 < length input) × AnswersWithin IsText (page_count old.size) old new input before now)
-  pub missing : code ≡ 10 → CanShow × IfSome left (λ input. Never (page_count old.size) old × ((key : Key) × (place ≡ key_number key) × IsRejected (client.Missing key)))
-  pub misfit : code ≡ 11 → CanShow × IfSome left (λ input. Never (page_count old.size) old × ((key : Key) × (place ≡ key_number key) × IsRejected (client.BadCoefficient key)))
+  pub missing : code ≡ 10 → CanShow × IfSome left (λ input. Never (page_count old.size) old × ((key : Key) × (place ≡ key_number key) × RejectsNext (client.Missing key) before now))
+  pub misfit : code ≡ 11 → CanShow × IfSome left (λ input. Never (page_count old.size) old × ((key : Key) × (place ≡ key_number key) × RejectsNext (client.BadCoefficient key) before now))
   pub small : code ≡ 12 → (place ≡ old.size) × (old.size < 128)
   pub opened : code ≡ 15 → ⊥
   pub zero_place : Contains (0 ∷ 3 ∷ 4 ∷ 5 ∷ 6 ∷ []) code → place ≡ 0

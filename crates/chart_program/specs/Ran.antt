@@ -23,7 +23,7 @@ use Rattle.store_commands.specs.Traffic.{Traffic}
 use Rattle.store_commands.specs.Away.{IsTurnedAway}
 use Rattle.chart_program.specs.Slots.{FirstBad, HasTooMany, IsTooLong, StoppedBefore, most_slots}
 use Rattle.chart_program.specs.Plotted.{SendsPlot, SendsFront}
-use Rattle.chart_program.specs.Served.{Faults, faults_of, AreTexts, Spelled, AnswersAll, AnswersFront, AnswersTaken, AnswersWithin, AnswersSome, AnswersLines, LeavesBooks, ReadsServing, SyncsServing, IsRejected}
+use Rattle.chart_program.specs.Served.{Faults, faults_of, AreTexts, Spelled, AnswersAll, AnswersFront, AnswersTaken, AnswersWithin, AnswersSome, AnswersLines, LeavesBooks, ReadsServing, SyncsServing, RejectsNext}
 use Rattle.store_commands.specs.Books.{FromBook, HoldsAgain, Never, LeavesSame}
 use Rattle.store_commands.specs.Loaded.{Unnamed, LoadsAll, LoadsAndSendsPart, LoadsSome, LoadsToBad, LoadsTaken, LoadsWithin, RefusesSet, LeavesLoads, LeavesUnnamed}
 use Rattle.store_commands.specs.Checked.{SendsCounts, SendsCountsPart, IsBadForCheck}
@@ -191,7 +191,7 @@ IsBadInput Derive old new input place before now = DerivesToBad (page_count old.
 abbrev pub Lacks : Command → View → List ℕ → ℕ → Option (List ℕ) → Option (List ℕ) → Type 0
 Lacks Draw old input place before now = (key : Key) × (place ≡ key_number key) × StopsAtFrame None input before now (draw_end.Missing key)
 Lacks (Cover every) old input place before now = (key : Key) × (place ≡ key_number key) × StopsAtFrame (Some every) input before now (draw_end.Missing key)
-Lacks Run old input place before now = Never (page_count old.size) old × ((key : Key) × (place ≡ key_number key) × IsRejected (client.Missing key))
+Lacks Run old input place before now = Never (page_count old.size) old × ((key : Key) × (place ≡ key_number key) × RejectsNext (client.Missing key) before now)
 Lacks (Demo seed rounds) old input place before now = Never (page_count old.size) old × ((key : Key) × (place ≡ key_number key) × MeetsError (client.Missing key))
 Lacks command old input place before now = ⊥
 
@@ -199,7 +199,7 @@ Lacks command old input place before now = ⊥
 abbrev pub Misfits : Command → View → List ℕ → ℕ → Option (List ℕ) → Option (List ℕ) → Type 0
 Misfits Draw old input place before now = (key : Key) × (place ≡ key_number key) × StopsAtFrame None input before now (draw_end.BadCoefficient key)
 Misfits (Cover every) old input place before now = (key : Key) × (place ≡ key_number key) × StopsAtFrame (Some every) input before now (draw_end.BadCoefficient key)
-Misfits Run old input place before now = Never (page_count old.size) old × ((key : Key) × (place ≡ key_number key) × IsRejected (client.BadCoefficient key))
+Misfits Run old input place before now = Never (page_count old.size) old × ((key : Key) × (place ≡ key_number key) × RejectsNext (client.BadCoefficient key) before now)
 Misfits (Demo seed rounds) old input place before now = Never (page_count old.size) old × ((key : Key) × (place ≡ key_number key) × MeetsError (client.BadCoefficient key))
 Misfits command old input place before now = ⊥
 

@@ -42,7 +42,7 @@ returns-clause-serves g c =
     let rests = rests_new pages.count (view disk) (shown.numbers c.args.service) (pages.at_rest c.requires.sound) (c.args.service.store.space.spelled c.requires.sound) in
     let all = serve_made pages.count end_pages.count pages.sound end_pages.sound (view disk) (view new) (left disk) (left new) (sent disk) (sent new) faults after.sessions made.serves.size made.serves.told made.goes_on made.serves.faults rests
     c.serve-answer.result own c.requires.alone made.done (read_on c.serve-answer.result (left disk) (left new) made.within made.whole) made.long made.ends made.crash closed
-    (serve_causes pages.count end_pages.count (view disk) (view new) faults ⊥ c.serve-answer.result made.serves.size made.read made.send made.disk made.bad)
+    (serve_causes pages.count end_pages.count (view disk) (view new) (sent disk) (sent new) faults ⊥ c.serve-answer.result made.serves.size made.read made.send made.disk made.bad)
     (reads_served (left disk) pages.count (view disk) (view new) own rests c.requires.alone made.reads)
     (syncs_served (left disk) pages.count (view disk) (view new) (pieces disk) (pieces new) rests (g.met.W.World.beside_pieces disk) (g.met.W.World.beside_pieces new) made.syncs) in
     let D : g.row.W.Denot → Type 0 = λ d. ServesLines Spelled ⊥ pages.count (view disk) (view d) (left disk) (left d) (sent disk) (sent d) (faults_of (reads disk) (reads d) (sends disk) (sends d)) (served c.serve-answer.result) in
