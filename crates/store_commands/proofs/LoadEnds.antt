@@ -17,7 +17,7 @@ use Rattle.stored_book.proofs.CurrentLemmas.{book_current, book_keeps, recovers_
 use Rattle.chart_service.specs.MomentLaws.{since_both, since_so}
 use Rattle.chart_service.specs.Moments.{Since}
 use Rattle.chart_service.proofs.DiskKept.{risen_since}
-use Rattle.series_load.specs.Sets.{IsNamed, IsAfterSome}
+use Rattle.series_load.specs.Sets.{IsAfterSome}
 use Rattle.series_load.specs.Ends.{IsLoaded}
 use Rattle.series_load.specs.Fronts.{PlacedLine}
 use Rattle.series_load.specs.Rows.{AreTable}

@@ -1,5 +1,5 @@
 -- What a load stores. Private contracts are stated by these words.
-use Rattle.std.specs.Prelude.{◌≡◌, ◌≢◌, ℕ, ◌+◌, ◌≤◌, ◌^◌, List, length, Option, Result, Err, IfOk, IfErr, IfSome, ⊤}
+use Rattle.std.specs.Prelude.{◌≡◌, ◌≢◌, ℕ, ◌≤◌, ◌^◌, List, length, Option, Result, Err, IfOk, IfErr, IfSome, ⊤}
 use Rattle.block_disk.specs.Counts.{HasRisen}
 use Rattle.block_disk.specs.View.{View, sent_now}
 use Rattle.block_disk.specs.declared.disk.Disk.{Ghosts}
