@@ -25,7 +25,7 @@ module _ (name : List ℕ) (old new : View) (t : Traffic) where
   load_does : (end : End) → IsLoadEnd end name old new t → LoadDoes name at end
   load_does Done is = is
   load_does NoMemory is = is
-  load_does ReadFault is = is.1
+  load_does ReadFault is = (is.1, is.2)
   load_does SendFault is = is.1
   load_does DiskFault is = is.1
   load_does (DamagedBlock block) is = (record { at_first = is.0.0; took_nothing = is.1; sent_nothing = is.2 }, is.0.1)

@@ -1,12 +1,10 @@
 -- How a check ends.
-use Rattle.std.proofs.Common.{◌≡◌, ℕ, ◌+◌, List, Option, sym, subst, arith}
+use Rattle.std.proofs.Common.{◌≡◌, ℕ, List, Option, sym, subst, arith}
 use Rattle.block_disk.specs.View.{Image, View, Honest}
 use Rattle.gate_pages.specs.GateLaws.{goes_then}
 use Rattle.gate_pages.specs.Journal.{page_count}
 use Rattle.gate_pages.specs.Pages.{GoesOn}
-use Rattle.series_book.specs.declared.one_series.Series.{Series}
 use Rattle.series_store.specs.Counting.{AreSound}
-use Rattle.disk_store.specs.Held.{HoldsBook}
 use Rattle.chart_service.proofs.DiskKept.{risen_since}
 use Rattle.store_commands.specs.Damaged.{IsDamagedLater}
 use Rattle.disk_store.specs.Openings.{Opens}

@@ -1,5 +1,5 @@
 -- A page of an opened store that was called damaged.
-use Rattle.std.proofs.Common.{◌≡◌, ℕ, ◌+◌, ◌<◌, refl, sym, subst, arith}
+use Rattle.std.proofs.Common.{◌≡◌, ℕ, ◌<◌, refl, sym, subst, arith}
 use Rattle.block_disk.specs.View.{Honest, Image, View}
 use Rattle.gate_pages.specs.Journal.{pages_of}
 use Rattle.stored_book.proofs.CurrentLemmas.{spelled_current}

@@ -1,5 +1,5 @@
 -- How a load ends.
-use Rattle.std.proofs.Common.{◌≡◌, ◌≢◌, ℕ, ◌≤◌, List, [], Option, Some, None, Result, Ok, Err, IfSome, refl, sym, subst, inl, arith, ◌∙◌}
+use Rattle.std.proofs.Common.{◌≡◌, ◌≢◌, ℕ, ◌<◌, ◌≤◌, List, [], Option, Some, None, Result, Ok, Err, IfSome, refl, sym, subst, inl, arith, ◌∙◌}
 use Rattle.block_disk.specs.Streams.{sent_after}
 use Rattle.block_disk.specs.View.{Image, View, Now, DiskKept, Passes, sent_now}
 use Rattle.block_disk.proofs.Passing.{now_back}
@@ -17,7 +17,7 @@ use Rattle.stored_book.proofs.CurrentLemmas.{book_current, book_keeps, recovers_
 use Rattle.chart_service.specs.MomentLaws.{since_both, since_so}
 use Rattle.chart_service.specs.Moments.{Since}
 use Rattle.chart_service.proofs.DiskKept.{risen_since}
-use Rattle.series_load.specs.Sets.{IsNamed, IsAfterSome}
+use Rattle.series_load.specs.Sets.{IsAfterSome}
 use Rattle.series_load.specs.Ends.{IsLoaded}
 use Rattle.series_load.specs.Fronts.{PlacedLine}
 use Rattle.series_load.specs.Rows.{AreTable}
@@ -281,21 +281,21 @@ further t left' now reads_now sends_now = record {
 
 module _ (name : List ℕ) (old mid new : View) (t : Traffic) (readings : ℕ) (s : Stores name (page_count old.size) old mid t (Ok readings)) (kept : DiskKept mid new) (time : Passes mid new (Now mid) (λ sent. (sent_now mid ≤ sent) × (sent ≤ sent_now new))) where
   -- the disk still holds what was loaded
-  still_loaded : (Q : Type 0) → Q → IfSome t.left (λ input. OfSeries (page_count old.size) old name (λ total book series.
-      (n : ℕ) × HoldsPages (page_count old.size) total (IsLoaded total name book series input n) new × Q))
+  still_loaded : (Q : ℕ → Type 0) → Q readings → IfSome t.left (λ input. OfSeries (page_count old.size) old name (λ total book series.
+      (n : ℕ) × HoldsPages (page_count old.size) total (IsLoaded total name book series input n) new × Q n))
   still_loaded Q is = told_so _ _ t.left (λ input all total book holds series named.
       (readings, pages_kept (page_count old.size) total (IsLoaded total name book series input readings) mid new kept time (all total book holds series named), is)) s.done
 
   text_sent : (left' now : Option (List ℕ)) (reads_now sends_now : ℕ) (end : End) → left' ≡ t.left_now → IsSent end (loaded_text readings) t.sent now t.sends sends_now → IsLoadEnd end name old new (further t left' now reads_now sends_now)
   text_sent left' now reads_now sends_now Done same is =
       let R : Option (List ℕ) → Type 0 = λ l. WasRead t.left l in
-      (subst R (sym same) s.within, still_loaded (now ≡ sent_after (loaded_text readings) t.sent) is)
+      (subst R (sym same) s.within, still_loaded (λ n. now ≡ sent_after (loaded_text n) t.sent) is)
   text_sent left' now reads_now sends_now NoMemory same is = (
     some_told name (page_count old.size) old new t.left (λ total book holds series named.
         pages_kept (page_count old.size) total (IsAfterSome total name book series t.left) mid new kept time (s.some (λ same. cc) total book holds series named)),
     is,
   )
-  text_sent left' now reads_now sends_now SendFault same is = (is.0, still_loaded (SendsPartOf (loaded_text readings) t.sent now) is.1)
+  text_sent left' now reads_now sends_now SendFault same is = (is.0, still_loaded (λ n. SendsPartOf (loaded_text n) t.sent now) is.1)
   text_sent left' now reads_now sends_now end same is = absurd is
 
 never_unknown : (readings : ℕ) → answered readings ≡ failed UnknownSeries → ⊥

@@ -1,5 +1,5 @@
 -- What the parts of a check do.
-use Rattle.std.specs.Prelude.{ℕ, ◌≡◌, ◌+◌, List, Option}
+use Rattle.std.specs.Prelude.{ℕ, ◌≡◌, List, Option}
 use Rattle.block_disk.specs.Counts.{HasRisen}
 use Rattle.block_disk.specs.View.{Honest, View}
 use Rattle.gate_pages.specs.Pages.{GoesOn}

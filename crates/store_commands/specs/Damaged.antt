@@ -1,5 +1,5 @@
 -- Which block a command calls damaged.
-use Rattle.std.specs.Prelude.{ℕ, ◌≡◌, ◌+◌, ◌<◌, ◌⊎◌}
+use Rattle.std.specs.Prelude.{ℕ, ◌≡◌, ◌<◌, ◌⊎◌}
 use Rattle.block_disk.specs.View.{Image, View, Honest}
 use Rattle.disk_store.specs.Openings.{IsDamagedBlock, IsFirstBlock}
 use Rattle.gate_pages.specs.Journal.{page_count}

@@ -1,5 +1,5 @@
 -- How the workload of a seed ends over the disk's store.
-use Rattle.std.specs.Prelude.{◌≡◌, ℕ, ◌+◌, ◌<◌, ◌≤◌, List, ◌++◌, Option}
+use Rattle.std.specs.Prelude.{◌≡◌, ℕ, ◌<◌, ◌≤◌, List, ◌++◌, Option}
 use Rattle.block_disk.specs.Counts.{HasRisen}
 use Rattle.block_disk.specs.Streams.{sent_after}
 use Rattle.block_disk.specs.View.{Honest, Image, View, sent_now}

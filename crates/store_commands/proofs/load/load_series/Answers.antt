@@ -1,5 +1,5 @@
 use Rattle.std.specs.Prelude.{◌≤◌}
-use Rattle.std.proofs.Common.{◌≡◌, ℕ, None, Result, Ok, Err, sym, subst, ap}
+use Rattle.std.proofs.Common.{ℕ, None, Result, Ok, Err, subst, ap}
 use Rattle.block_disk.specs.View.{sent_now}
 use Rattle.chart_world.specs.Faults.{CountsFault, fault_in}
 use Rattle.chart_world.specs.FaultLaws.{counts_no_disk, counts_then}
