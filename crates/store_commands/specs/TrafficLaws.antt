@@ -8,14 +8,6 @@ pub was_read : (left left' : Option (List ℕ)) → IfSome left (λ input. lengt
 was_read None left' within whole = tt
 was_read (Some input) left' within whole = (within, whole)
 
-pub read_within : (left left' : Option (List ℕ)) → WasRead left left' → IfSome left (λ input. length input ≤ 2 ^ 32)
-read_within None left' read = tt
-read_within (Some input) left' read = read.0
-
-pub read_up : (left left' : Option (List ℕ)) → WasRead left left' → IsReadUp left left'
-read_up None left' read = tt
-read_up (Some input) left' read = read.1
-
 -- of what a call answered
 pub read_on : {T E : Type 0} (result : Result T E) (left left' : Option (List ℕ)) → OnOk result (IfSome left (λ input. length input ≤ 2 ^ 32)) → OnOk result (IsReadUp left left') → OnOk result (WasRead left left')
 read_on {T} {E} (Ok done) left left' within whole = was_read left left' within whole
