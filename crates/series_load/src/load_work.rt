@@ -79,7 +79,7 @@ impl<P: PageWorld> LineWork<Store<P>, End> for Loader {
 
     ghost goes_then = { λ old between new. goes_further _ _ _ };
 
-    ghost cause_later = { λ end old between new quiet goes cause. (cause_later _ _ _ _ _ _ _ _ _ (P.beside_read_faults (shown.pages old)) (P.beside_read_faults (shown.pages between)) quiet goes.total_is end cause.0, cause.1) };
+    ghost cause_later = { λ end old between new quiet goes cause. (cause_later _ _ _ _ _ _ _ _ _ (P.beside_read_faults (shown.pages old)) (P.beside_read_faults (shown.pages between)) quiet goes.total_is end cause.0, cause.1, cause.2) };
 
     ghost counts_sent = { λ at. P.counts_sent (shown.pages at) };
 
