@@ -27,7 +27,6 @@ use std::alloc::Global;
 /// The end where the line at this offset is refused.
 fn refused_at(at: u32, refusal: DeriveRefusal) -> End
     ensures { result ≡ refused_at at refusal }
-    ensures short { result ≢ End.InputTooLong }
 {
     End::RefusedLine {
         at,
@@ -38,7 +37,6 @@ fn refused_at(at: u32, refusal: DeriveRefusal) -> End
 /// What an error of a chart is for the line at this offset.
 fn end_at(at: u32, error: SumError) -> End
     ensures { result ≡ end_at at error }
-    ensures short { result ≢ End.InputTooLong }
 {
     match error {
         SumError::TooLarge { .. } => refused_at(at, DeriveRefusal::TooLarge),

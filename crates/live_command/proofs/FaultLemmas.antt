@@ -29,6 +29,12 @@ pub input_long_is : (f : LineFault) (end : End) → end ≡ input_end f → ◌�
 input_long_is fault.ReadFault end is same = cc
 input_long_is fault.InputTooLong end is same = refl
 
+-- no end of a step is the input's length
+pub step_short : (error : ServiceError) (end : End) → end ≡ step_end error → ◌≡◌ {A = Result ⊤ End} (Err end) (Err InputTooLong) → ⊥
+step_short step.DiskFault end is same = cc
+step_short (step.Damaged page) end is same = cc
+step_short step.NoMemory end is same = cc
+
 -- an answer or a push that failed
 pub unmade_counts : (error : ServiceError) (end : End) (old new : View) → end ≡ step_end error → CountsFault (step_fault error) old new → CountsFault (end_fault end) old new
 unmade_counts error end old new is counts = counts_told (step_fault error) (end_fault end) old new (ap (λ (e : End). end_fault e) is ∙ step_fault_is error) counts

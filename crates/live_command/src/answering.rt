@@ -26,7 +26,6 @@ use std::alloc::Global;
 /// What an error of a step is for the run.
 fn step_end(error: ServiceError) -> End
     ensures { result ≡ step_end error }
-    ensures short { result ≢ End.InputTooLong }
 {
     match error {
         ServiceError::DiskFault => End::DiskFault,

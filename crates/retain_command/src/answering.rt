@@ -21,7 +21,6 @@ use std::alloc::{AllocError, Global};
 /// What an error of a sweep is for the line at this offset.
 fn end_at(at: u32, error: SweepError) -> End
     ensures { result ≡ end_at at error }
-    ensures short { result ≢ End.InputTooLong }
 {
     match error {
         SweepError::UnknownSeries => End::NoSeries { at },
