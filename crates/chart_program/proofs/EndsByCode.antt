@@ -1,5 +1,5 @@
 -- What a command did by how it ended, so by its code and place.
-use Rattle.std.proofs.Common.{◌≡◌, ℕ, zero, suc, ◌-◌, ◌<◌, ◌⊎◌, List, [], ◌∷◌, Option, IfSome, refl, ap, arith}
+use Rattle.std.proofs.Common.{◌≡◌, ℕ, zero, suc, ◌-◌, ◌<◌, ◌⊎◌, List, [], ◌∷◌, Option, Some, None, IfSome, refl, ap, arith}
 use Rattle.std.specs.Prelude.{Contains, ◌≢◌, ◌+◌, ◌*◌, ◌^◌}
 use Rattle.block_disk.specs.Counts.{HasRisen}
 use Rattle.block_disk.specs.View.{View}
@@ -16,6 +16,7 @@ use Rattle.store_commands.specs.Books.{HoldsAgain}
 use Rattle.store_commands.specs.Codes.{low_code}
 use Rattle.store_commands.specs.Loaded.{unnamed_ends}
 use Rattle.chart_program.specs.CommandStatuses.{codes_of, IsOverStore, TakesNone, Bars}
+use Rattle.chart_program.specs.Course.{IsDoneOrCut}
 use Rattle.chart_program.specs.Served.{Faults}
 use Rattle.chart_program.specs.Ran.{CommandEnds, DrawsReplies, IsBadInput, IsCutShort, IsDamaged, IsFree, IsInput, IsMade, IsOfReplies, IsRefused, IsRefusedLine}
 use Rattle.chart_program.specs.Ran.{IsStreaming, IsThere, IsTooMuch, IsTooSmall, IsUndamaged, IsUnknown, IsWithin, Lacks, LeavesDisk, LeavesTold, Misfits}
@@ -27,6 +28,19 @@ unnamed_codes end (zero, inside, is) = (0, omega arith, ap (λ (x : End). code_o
 unnamed_codes end (suc zero, inside, is) = (1, omega arith, ap (λ (x : End). code_of x) is)
 unnamed_codes end (suc (suc zero), inside, is) = (2, omega arith, ap (λ (x : End). code_of x) is)
 unnamed_codes end (suc (suc (suc k)), inside, is) = absurd (omega (arith, inside))
+
+-- the codes of an end that is done or cut
+pub done_codes : (end : End) → IsDoneOrCut end → Contains of_done (code_of end)
+done_codes Done is = (0, omega arith, refl)
+done_codes NoMemory is = (1, omega arith, refl)
+done_codes ReadFault is = (2, omega arith, refl)
+done_codes SendFault is = (3, omega arith, refl)
+done_codes end is = absurd is
+
+-- with good input they are these
+pub completes : (left : Option (List ℕ)) (IsGood : List ℕ → Type 0) (end : End) → IfSome left (λ input. IsGood input → IsDoneOrCut end) → IfSome left (λ input. IsGood input → Contains of_done (code_of end))
+completes None IsGood end good = tt
+completes (Some input) IsGood end good = λ is. done_codes end (good is)
 
 -- of a command over these disks and streams
 module _ (command : Command) (old new : View) (left left' before now : Option (List ℕ)) (faults : Faults) where

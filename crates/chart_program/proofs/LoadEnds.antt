@@ -2,7 +2,6 @@
 use Rattle.std.proofs.Common.{◌≡◌, ◌≢◌, ℕ, zero, suc, ◌+◌, ◌*◌, ◌<◌, List, [], ◌∷◌, Option, Some, None, IfSome, refl, ap, arith, inl, inr}
 use Rattle.std.specs.Prelude.{Contains}
 use Rattle.block_disk.specs.View.{View}
-use Rattle.chart_world.specs.LineLaws.{told_so}
 use Rattle.disk_store.specs.Held.{HoldsBook}
 use Rattle.gate_pages.specs.Journal.{page_count}
 use Rattle.run_ends.specs.Statuses.{code_of, place_of, refused_at}
@@ -15,13 +14,12 @@ use Rattle.store_commands.specs.Loaded.{HasNone, IsLoadEnd, LoadEnds, RefusesRun
 use Rattle.store_commands.specs.Traffic.{Traffic}
 use Rattle.program_words.specs.declared.words.Command.TheVariants.{Load}
 use Rattle.chart_program.specs.CommandStatuses.{codes_of}
-use Rattle.chart_program.specs.Course.{IsDoneOrCut}
 use Rattle.chart_program.specs.Served.{Faults}
-use Rattle.chart_program.specs.Ran.{AreReadings, CommandEnds, IsRefused, of_done}
+use Rattle.chart_program.specs.Ran.{AreReadings, CommandEnds, IsRefused}
 use Rattle.chart_program.proofs.Codes.{told_all, told_both}
 use Rattle.chart_program.proofs.CommandsEnd.{both_told}
 use Rattle.chart_program.proofs.Counts.{told_any}
-use Rattle.chart_program.proofs.EndsByCode.{Came, by_code, unnamed_codes}
+use Rattle.chart_program.proofs.EndsByCode.{Came, by_code, completes, unnamed_codes}
 use Rattle.chart_program.proofs.LoadPage.{of_load}
 
 -- a set is refused where a series has the name
@@ -30,14 +28,6 @@ refused_never at number (zero, inside, is) = cc
 refused_never at number (suc zero, inside, is) = cc
 refused_never at number (suc (suc zero), inside, is) = cc
 refused_never at number (suc (suc (suc k)), inside, is) = absurd (omega (arith, inside))
-
--- the codes of an end that is done or cut
-done_codes : (end : End) → IsDoneOrCut end → Contains of_done (code_of end)
-done_codes Done is = (0, omega arith, refl)
-done_codes NoMemory is = (1, omega arith, refl)
-done_codes ReadFault is = (2, omega arith, refl)
-done_codes SendFault is = (3, omega arith, refl)
-done_codes end is = absurd is
 
 module _ (name : List ℕ) (old new : View) (left left' before now : Option (List ℕ)) (faults : Faults) where
   abbrev passed : Traffic
@@ -115,8 +105,7 @@ module _ (name : List ℕ) (old new : View) (left left' before now : Option (Lis
     holds = λ other. told_all left _ (holds (λ is. other (ap (λ (x : End). code_of x) is)));
     crash = both_told left before _ _ e.crash e.kept;
     disk = e.goes_on;
-    complete = told_so (λ input. AreReadings name old new input → IsDoneOrCut end) (λ input. AreReadings name old new input → Contains of_done (code_of end)) left
-        (λ input so good. done_codes end (so good)) (of_load name old new passed end e away).good;
+    complete = completes left (λ input. AreReadings name old new input) end (of_load name old new passed end e away).good;
     drawn = λ command. cc;
     ready = λ command. cc;
   })
