@@ -1,5 +1,5 @@
 -- How a demo ends.
-use Rattle.std.proofs.Common.{◌≡◌, ◌≢◌, ℕ, List, Option, Err, refl, sym, subst, inl, inr}
+use Rattle.std.proofs.Common.{◌≡◌, ◌≢◌, ℕ, List, Option, Err, sym, subst, inl, inr}
 use Rattle.block_disk.specs.View.{View, sent_now}
 use Rattle.gate_pages.specs.Journal.{page_count}
 use Rattle.request_lines.specs.declared.requests.Request.{Request}
