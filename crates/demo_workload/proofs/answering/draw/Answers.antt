@@ -18,8 +18,8 @@ returns-in-Err-Missing-clause-rejected c =
     let rejected : Rejects c.args.frame.now (client.Missing c.in-Err-Missing.key) c.args.client.now = rw c.in-Err-Missing.field-0-is at c.in-Err-Missing.ensures.rejected in
     (c.in-Err-Missing.key, c.number.ensures, rejected)
 
-pub number-in-Err-BadCoefficient-requires : goal.number-in-Err-BadCoefficient-requires
-number-in-Err-BadCoefficient-requires c =
+pub number-requires-in-Err-BadCoefficient : goal.number-requires-in-Err-BadCoefficient
+number-requires-in-Err-BadCoefficient c =
     let rejected : Rejects c.args.frame.now (client.BadCoefficient c.in-Err-BadCoefficient.key) c.args.client.now = rw c.in-Err-BadCoefficient.field-0-is at c.in-Err-BadCoefficient.ensures.rejected in
     c.frames_have_one_answer.ensures.numbered c.args.frame.now c.args.client.now (client.BadCoefficient c.in-Err-BadCoefficient.key) rejected
 
