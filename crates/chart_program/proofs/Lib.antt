@@ -36,3 +36,4 @@ pub mod LoadEnds
 pub mod RetainEnds
 pub mod LiveEnds
 pub mod DeriveEnds
+pub mod ExactRuns
