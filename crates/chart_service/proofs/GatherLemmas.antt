@@ -15,7 +15,7 @@ use Rattle.chart_service.specs.EditGroups.{SpellsEdit, SpellEdits, IsEditAhead, 
 use Rattle.chart_service.specs.Serving.{told}
 use Rattle.chart_service.proofs.Progress.{PassesLines}
 
-spells_more : (all : List (Option (List ℕ))) (edits : List Edit) (line : Option (List ℕ)) (edit : Edit) → SpellEdits all edits → SpellsEdit line edit → SpellEdits (all ++ line ∷ []) (edits ++ edit ∷ [])
+pub spells_more : (all : List (Option (List ℕ))) (edits : List Edit) (line : Option (List ℕ)) (edit : Edit) → SpellEdits all edits → SpellsEdit line edit → SpellEdits (all ++ line ∷ []) (edits ++ edit ∷ [])
 spells_more [] [] line edit all one = (one, tt)
 spells_more [] (e ∷ es) line edit all one = absurd all
 spells_more (l ∷ ls) [] line edit all one = absurd all

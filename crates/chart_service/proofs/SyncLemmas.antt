@@ -62,7 +62,7 @@ told_less (None ∷ later) = omega (arith, told_less later)
 told_less (Some [] ∷ later) = omega (arith, told_less later)
 told_less (Some (b ∷ bs) ∷ later) = omega (arith, told_less later)
 
-spelled_edit : (line : Option (List ℕ)) (edit : Edit) → SpellsEdit line edit → edit_of line ≡ edit ∷ []
+pub spelled_edit : (line : Option (List ℕ)) (edit : Edit) → SpellsEdit line edit → edit_of line ≡ edit ∷ []
 spelled_edit None edit spells = absurd spells
 spelled_edit (Some []) edit spells = absurd spells
 spelled_edit (Some (b ∷ bs)) edit spells = ap edit_read spells

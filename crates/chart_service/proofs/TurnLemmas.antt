@@ -102,7 +102,7 @@ edits_turn (l ∷ ls) (e ∷ es) state from to spells low high (f ∷ fs) new re
   | inr most ↦ (replied.0, to, replied.1, spelled_reads l e state from to spells.0 most, edits_turn ls es replied.0 to to spells.1 (omega arith) (omega arith) fs new replied.2)
 ]
 
-turns_joined : (old between new : State) (lines more : List (Option (List ℕ))) (frames answers : List Frame) (from count to : ℕ) → ReadsInTurn old lines frames between from count → ReadsInTurn between more answers new count to → ReadsInTurn old (lines ++ more) (frames ++ answers) new from to
+pub turns_joined : (old between new : State) (lines more : List (Option (List ℕ))) (frames answers : List Frame) (from count to : ℕ) → ReadsInTurn old lines frames between from count → ReadsInTurn between more answers new count to → ReadsInTurn old (lines ++ more) (frames ++ answers) new from to
 turns_joined old between new [] more [] answers from count to first next =
     let S : State → Type 0 = λ s. ReadsInTurn s more answers new count to in
     let N : ℕ → Type 0 = λ n. ReadsInTurn old more answers new n to in

@@ -84,7 +84,7 @@ pub fn answer_lines<P: PageWorld, S, F, R: Reply<S, F>>(
 }
 
 /// Answers the lines that spell these edits: does the edits, and then sends their replies one by one.
-fn answer_edits<P: PageWorld, S, F, R: Reply<S, F>>(
+pub fn answer_edits<P: PageWorld, S, F, R: Reply<S, F>>(
     service: &mut Service<P>,
     edits: &[Edit],
     reply: &R,
@@ -159,7 +159,7 @@ fn send_replies<P: PageWorld, S, F, R: Reply<S, F>>(
 }
 
 /// Answers a line, unless it is empty.
-fn answer_line<P: PageWorld, S, F, R: Reply<S, F>>(
+pub fn answer_line<P: PageWorld, S, F, R: Reply<S, F>>(
     service: &mut Service<P>,
     line: &[u8],
     reply: &R,
@@ -198,7 +198,7 @@ fn answer_line<P: PageWorld, S, F, R: Reply<S, F>>(
 }
 
 /// Answers a line that is too long.
-fn answer_long_line<P: PageWorld, S, F, R: Reply<S, F>>(
+pub fn answer_long_line<P: PageWorld, S, F, R: Reply<S, F>>(
     service: &mut Service<P>,
     reply: &R,
     kept: &mut S,

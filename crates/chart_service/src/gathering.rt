@@ -77,7 +77,7 @@ fn edit_ahead(alloc: Global, lines: &Lines) -> Result<Option<Edit>, AllocError>
 }
 
 /// The edit that a line spells, if it spells one.
-fn edit_in(alloc: Global, line: &[u8]) -> Result<Option<Edit>, AllocError>
+pub fn edit_in(alloc: Global, line: &[u8]) -> Result<Option<Edit>, AllocError>
     requires { length line.now ≤ 8192 }
     ensures spells { IfOk result (λ some. IfSome some (SpellsEdit (Some line.now))) }
     ensures none { IfOk result (λ some. IfNone some (edit_of (Some line.now) ≡ [])) }

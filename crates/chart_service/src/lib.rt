@@ -41,8 +41,9 @@ mod streams;
 mod viewing;
 mod viewport;
 
-pub use answers::answer_lines;
+pub use answers::{answer_edits, answer_line, answer_lines, answer_long_line};
 pub use failure::{AnswerEnd, ServeEnd, ServiceError};
+pub use gathering::edit_in;
 pub use refusals::refused;
 pub use replying::Reply;
 pub use service::Service;

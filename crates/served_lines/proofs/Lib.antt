@@ -1,0 +1,11 @@
+pub mod TurnLemmas
+pub mod SettleLemmas
+pub mod Steps
+pub mod Giving
+pub mod KeepLemmas
+pub mod OtherLemmas
+pub mod IdleLemmas
+pub mod Carried
+pub mod Reached
+pub mod Concluding
+pub mod Counting

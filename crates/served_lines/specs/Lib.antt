@@ -1,0 +1,5 @@
+pub mod Turning
+pub mod Standing
+pub mod Shown
+pub mod Going
+pub mod WorkLaws

@@ -1,0 +1,7 @@
+//! The lines of a service's streams are answered by the one loop over lines.
+#![tactic(auto)]
+
+mod keeping;
+mod line_work;
+mod settling;
+mod turns;
