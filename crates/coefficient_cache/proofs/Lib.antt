@@ -5,4 +5,5 @@ pub mod Keys
 pub mod Steps
 pub mod Filtered
 pub mod Given
+pub mod Unmoved
 pub mod Apart
