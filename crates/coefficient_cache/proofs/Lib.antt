@@ -6,4 +6,5 @@ pub mod Steps
 pub mod Filtered
 pub mod Given
 pub mod Unmoved
+pub mod Empty
 pub mod Apart

@@ -90,6 +90,10 @@ impl CoefficientCache {
     ) -> Result<Coefs, AllocError>
         ensures { IfOk result (λ sent. sent ≡ to_send self.now.pairs series needed.now) }
     {
+        if self.is_empty() {
+            let all = Vec::from_slice(alloc, needed)?;
+            return Ok(Coefs::from_vec(all));
+        }
         // It brings in what holds of every list: no two keys are the same.
         let _length = self.pairs.len();
         let mut sent = Vec::new(alloc);

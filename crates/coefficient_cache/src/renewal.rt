@@ -55,6 +55,10 @@ pub(crate) fn renew_hits(
         (λ is_new. is_new.items ≡ are_new pairs.old.entries (in_series series needed.now)) }
     ensures capacity { pairs.new.cap ≡ pairs.old.cap }
 {
+    if pairs.is_empty() {
+        let all_new = Vec::from_elem(alloc, true, needed.len())?;
+        return Ok(all_new);
+    }
     // It brings in what holds of every list: no two keys are the same.
     let _length = pairs.len();
     let mut is_new = Vec::with_capacity(alloc, needed.len())?;
