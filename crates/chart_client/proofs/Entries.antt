@@ -112,25 +112,25 @@ missed series (e ∷ es) key apart =
 pub none_left : (series : ℕ) (list : List (Key × Coef)) (key : Key) (from to : ℕ) → Narrowed list key from to → from ≡ length list → None ≡ sent_for series list key
 none_left series list key from to h all =
     sym (missed series list key (λ i d within. λ same.
-        not_itself key (subst (λ (k : Key). ComesBefore k key) same (h.before i d (omega (arith, within, all))))))
+    not_itself key (subst (λ (k : Key). ComesBefore k key) same (h.before i d (omega (arith, within, all))))))
 
 -- no entry is the key's where the first one that doesn't come before it is behind it
 pub none_found : (series : ℕ) (list : List (Key × Coef)) (key : Key) (from to : ℕ) (x : Key × Coef) → AllPairs Precedes list → Narrowed list key from to
     → from < length list → x ≡ get_or list from x → ComesBefore key x.0 → None ≡ sent_for series list key
 none_found series list key from to x order h inside at behind =
     sym (missed series list key (λ i d within. λ same.
-        let here : get_or list from d ≡ x = get_or_default list from d x inside ∙ sym at in
-        let mid : ComesBefore key (get_or list from d).0 = subst (λ (e : Key × Coef). ComesBefore key e.0) (sym here) behind in
-        elim (cases_lt i from) [
-          | inl low ↦ not_itself key (subst (λ (k : Key). ComesBefore k key) same (h.before i d low))
-          | inr high ↦ elim (cases_lt from i) [
-            | inl under ↦ not_itself key (subst (λ (k : Key). ComesBefore key k) same (before_on key (get_or list from d).0 (get_or list i d).0 mid
-                (precedes_before (get_or list from d) (get_or list i d) (order from i d under within))))
-            | inr over ↦
-                (let at_it : from ≡ i = omega (arith, over, high) in
-                not_itself key (subst (λ (k : Key). ComesBefore key k) same (subst (λ (j : ℕ). ComesBefore key (get_or list j d).0) at_it mid)))
-          ]
-        ]))
+    let here : get_or list from d ≡ x = get_or_default list from d x inside ∙ sym at in
+    let mid : ComesBefore key (get_or list from d).0 = subst (λ (e : Key × Coef). ComesBefore key e.0) (sym here) behind in
+    elim (cases_lt i from) [
+      | inl low ↦ not_itself key (subst (λ (k : Key). ComesBefore k key) same (h.before i d low))
+      | inr high ↦ elim (cases_lt from i) [
+        | inl under ↦ not_itself key (subst (λ (k : Key). ComesBefore key k) same (before_on key (get_or list from d).0 (get_or list i d).0 mid
+            (precedes_before (get_or list from d) (get_or list i d) (order from i d under within))))
+        | inr over ↦
+            (let at_it : from ≡ i = omega (arith, over, high) in
+            not_itself key (subst (λ (k : Key). ComesBefore key k) same (subst (λ (j : ℕ). ComesBefore key (get_or list j d).0) at_it mid)))
+      ]
+    ]))
 
 either_same : (o p : Option Coef) → option_or o p ≡ or_else o p
 either_same None p = refl
