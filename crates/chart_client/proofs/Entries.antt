@@ -45,12 +45,12 @@ pub distinct_in_order : (list : List (Key × Coef)) → AllPairs Precedes list �
 distinct_in_order list order i j d less within = λ same.
     not_itself (get_or list j d).0 (subst (λ (k : Key). ComesBefore k (get_or list j d).0) same (precedes_before (get_or list i d) (get_or list j d) (order i j d less within)))
 
--- a search among the entries has come so far: those before one place come before the key, and those from another place on behind it
+-- a search among the entries has come so far: those before one place come before the key, and those from another place on don't
 pub record Narrowed (list : List (Key × Coef)) (key : Key) (from to : ℕ) : Type 0 where
   pub order : from ≤ to
   pub within : to ≤ length list
   pub before : (i : ℕ) (d : Key × Coef) → i < from → ComesBefore (get_or list i d).0 key
-  pub behind : (i : ℕ) (d : Key × Coef) → to ≤ i → i < length list → ComesBefore key (get_or list i d).0
+  pub behind : (i : ℕ) (d : Key × Coef) → to ≤ i → i < length list → ComesBefore (get_or list i d).0 key → ⊥
 
 pub narrowed_up : (list : List (Key × Coef)) (key : Key) (from to middle next : ℕ) (x : Key × Coef) → AllPairs Precedes list → Narrowed list key from to
     → middle < to → next ≡ middle + 1 → x ≡ get_or list middle x → ComesBefore x.0 key → Narrowed list key next to
@@ -71,24 +71,24 @@ narrowed_up list key from to middle next x order h less is at before = record {
 }
 
 pub narrowed_down : (list : List (Key × Coef)) (key : Key) (from to middle : ℕ) (x : Key × Coef) → AllPairs Precedes list → Narrowed list key from to
-    → from ≤ middle → middle < to → x ≡ get_or list middle x → ComesBefore key x.0 → Narrowed list key from middle
+    → from ≤ middle → middle < to → x ≡ get_or list middle x → (ComesBefore x.0 key → ⊥) → Narrowed list key from middle
 narrowed_down list key from to middle x order h low less at behind = record {
   order = low;
   within = omega (arith, less, h.within);
   before = h.before;
-  behind = λ i d more within.
+  behind = λ i d more within before.
       let here : get_or list middle d ≡ x = get_or_default list middle d x (omega (arith, less, h.within)) ∙ sym at in
-      let mid : ComesBefore key (get_or list middle d).0 = subst (λ (e : Key × Coef). ComesBefore key e.0) (sym here) behind in
+      let mid : ComesBefore (get_or list middle d).0 key → ⊥ = subst (λ (e : Key × Coef). ComesBefore e.0 key → ⊥) (sym here) behind in
       elim (cases_lt middle i) [
-        | inl under ↦ before_on key (get_or list middle d).0 (get_or list i d).0 mid
-            (precedes_before (get_or list middle d) (get_or list i d) (order middle i d under within))
+        | inl under ↦ mid (before_on (get_or list middle d).0 (get_or list i d).0 key
+            (precedes_before (get_or list middle d) (get_or list i d) (order middle i d under within)) before)
         | inr over ↦
-            (let same : middle ≡ i = omega (arith, over, more) in
-            subst (λ (j : ℕ). ComesBefore key (get_or list j d).0) same mid)
+            (let same : i ≡ middle = omega (arith, over, more) in
+            mid (subst (λ (j : ℕ). ComesBefore (get_or list j d).0 key) same before))
       ];
 }
 
--- the entry in the middle is the key's
+-- an entry is the key's
 pub entry_found : (series : ℕ) (list : List (Key × Coef)) (key : Key) (middle : ℕ) (x : Key × Coef) → AllPairs Precedes list → middle < length list
     → x ≡ get_or list middle x → (ComesBefore x.0 key → ⊥) → (ComesBefore key x.0 → ⊥) → Some x.1 ≡ sent_for series list key
 entry_found series list key middle x order within at forth back =
@@ -108,12 +108,28 @@ missed series (e ∷ es) key apart =
       | false ↦ λ other. rest
     ] refl
 
--- no entry is the key's
-pub none_found : (series : ℕ) (list : List (Key × Coef)) (key : Key) (from to : ℕ) → Narrowed list key from to → to ≤ from → None ≡ sent_for series list key
-none_found series list key from to h done =
-    sym (missed series list key (λ i d within. λ same. elim (cases_lt i from) [
+-- no entry is the key's where all come before it
+pub none_left : (series : ℕ) (list : List (Key × Coef)) (key : Key) (from to : ℕ) → Narrowed list key from to → from ≡ length list → None ≡ sent_for series list key
+none_left series list key from to h all =
+    sym (missed series list key (λ i d within. λ same.
+    not_itself key (subst (λ (k : Key). ComesBefore k key) same (h.before i d (omega (arith, within, all))))))
+
+-- no entry is the key's where the first one that doesn't come before it is behind it
+pub none_found : (series : ℕ) (list : List (Key × Coef)) (key : Key) (from to : ℕ) (x : Key × Coef) → AllPairs Precedes list → Narrowed list key from to
+    → from < length list → x ≡ get_or list from x → ComesBefore key x.0 → None ≡ sent_for series list key
+none_found series list key from to x order h inside at behind =
+    sym (missed series list key (λ i d within. λ same.
+    let here : get_or list from d ≡ x = get_or_default list from d x inside ∙ sym at in
+    let mid : ComesBefore key (get_or list from d).0 = subst (λ (e : Key × Coef). ComesBefore key e.0) (sym here) behind in
+    elim (cases_lt i from) [
       | inl low ↦ not_itself key (subst (λ (k : Key). ComesBefore k key) same (h.before i d low))
-      | inr high ↦ not_itself key (subst (λ (k : Key). ComesBefore key k) same (h.behind i d (omega (arith, high, done, h.order)) within))
+      | inr high ↦ elim (cases_lt from i) [
+        | inl under ↦ not_itself key (subst (λ (k : Key). ComesBefore key k) same (before_on key (get_or list from d).0 (get_or list i d).0 mid
+            (precedes_before (get_or list from d) (get_or list i d) (order from i d under within))))
+        | inr over ↦
+            (let at_it : from ≡ i = omega (arith, over, high) in
+            not_itself key (subst (λ (k : Key). ComesBefore key k) same (subst (λ (j : ℕ). ComesBefore key (get_or list j d).0) at_it mid)))
+      ]
     ]))
 
 either_same : (o p : Option Coef) → option_or o p ≡ or_else o p

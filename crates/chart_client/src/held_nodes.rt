@@ -31,9 +31,10 @@ impl<'a> HeldNodes<'a> {
         requires order { AllPairs Precedes self.now.sent.now }
         ensures { result ≡ held_told self.now.series self.now.sent.now self.now.cache.now key }
     {
-        let sent = look_up(self.sent, key);
-        let held = self.cache.find(self.series, key);
-        sent.or(held)
+        match look_up(self.sent, key) {
+            Some(coef) => Some(coef),
+            None => self.cache.find(self.series, key),
+        }
     }
 
     /// The spans of the two halves of a key's range, or how its coefficient fails.

@@ -16,14 +16,19 @@ pub(crate) fn look_up(list: &[(Key, Coef)], key: Key) -> Option<Coef>
     let mut to = list.len();
     while from < to {
         let middle = from + (to - from) / 2;
-        let (found, coef) = list[middle];
-        if comes_before(found, key) {
+        if comes_before(list[middle].0, key) {
             from = middle + 1;
-        } else if comes_before(key, found) {
-            to = middle;
         } else {
-            return Some(coef);
+            to = middle;
         }
     }
-    None
+    // The first entry that doesn't come before the key is the key's, or none is.
+    if from == list.len() {
+        return None;
+    }
+    let (found, coef) = list[from];
+    if comes_before(key, found) {
+        return None;
+    }
+    Some(coef)
 }

@@ -5,4 +5,6 @@ pub mod Keys
 pub mod Steps
 pub mod Filtered
 pub mod Given
+pub mod Unmoved
+pub mod Empty
 pub mod Apart

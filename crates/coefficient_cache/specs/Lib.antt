@@ -1,4 +1,5 @@
 pub mod Pairs
+pub mod Mixed
 pub mod Views
 pub mod Caches
 pub mod Laws

@@ -52,3 +52,9 @@ looked_up pairs series keys = filter_map (λ key. option_map (λ coef. (key, coe
 -- the pairs of one series, in order
 abbrev pub of_series : ℕ → List (SeriesKey × Coef) → List (SeriesKey × Coef)
 of_series series pairs = filter (λ e. e.0.series == series) pairs
+
+-- The needed pairs stand at the front of the list, the one that is needed last before the others, as a view leaves
+-- them that needs them all.
+pub record IsInFront (pairs : List (SeriesKey × Coef)) (series : ℕ) (needed : List (Key × Coef)) : Type 0 where
+  pub rest : List (SeriesKey × Coef)
+  pub is : pairs ≡ reverse (in_series series needed) ++ rest

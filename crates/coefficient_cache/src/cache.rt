@@ -3,7 +3,7 @@ ghost use Rattle.coefficient_cache.specs.Pairs.{series_key, coefficient_at, hold
 ghost use Rattle.coefficient_cache.specs.Views.{AreDistinct, to_send, renewed};
 ghost use Rattle.coefficient_cache.specs.Caches.{IsCapacity, IsValid};
 
-use crate::renewal::{Pairs, put_news, renew_hits};
+use crate::renewal::{Pairs, is_in_front, put_news, renew_hits};
 use crate::series_key::SeriesKey;
 use lru::LruCache;
 use om3_coeff::{Coef, Coefs, Key};
@@ -90,7 +90,16 @@ impl CoefficientCache {
     ) -> Result<Coefs, AllocError>
         ensures { IfOk result (λ sent. sent ≡ to_send self.now.pairs series needed.now) }
     {
+        if self.is_empty() {
+            let all = Vec::from_slice(alloc, needed)?;
+            return Ok(Coefs::from_vec(all));
+        }
+        // It brings in what holds of every list: no two keys are the same.
+        let _length = self.pairs.len();
         let mut sent = Vec::new(alloc);
+        if is_in_front(&self.pairs, series, needed) {
+            return Ok(Coefs::from_vec(sent));
+        }
         for (key, coef) in needed {
             if !self.holds(series, *key, *coef) {
                 sent.push((*key, *coef))?;
@@ -125,6 +134,11 @@ impl CoefficientCache {
             (self.new.pairs ≡ renewed self.old.capacity self.old.pairs (in_series series needed.now)) }
         ensures capacity { self.new.capacity ≡ self.old.capacity }
     {
+        // It brings in what holds of every list: no two keys are the same, and it is within its capacity.
+        let _length = self.pairs.len();
+        if is_in_front(&self.pairs, series, needed) {
+            return Ok(());
+        }
         let is_new = renew_hits(&mut self.pairs, alloc, series, needed)?;
         put_news(&mut self.pairs, series, needed, &is_new)
     }

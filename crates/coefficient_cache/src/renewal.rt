@@ -1,9 +1,9 @@
 //! How a list changes with a view: first the hits come to its front, then the new keys.
 
-ghost use Rattle.std.specs.Prelude.{◌≡◌, ◌++◌, reverse, take, if◌then◌else◌, OnOk, IfOk};
+ghost use Rattle.std.specs.Prelude.{◌≡◌, ◌++◌, ◌&&◌, reverse, take, if◌then◌else◌, OnOk, IfOk, IsTrue};
 ghost use Rattle.lru.specs.LruCache.{put_entries};
-ghost use Rattle.coefficient_cache.specs.Pairs.{key_eq, in_series, has};
-ghost use Rattle.coefficient_cache.specs.Views.{AreDistinct, hits, news, are_new, others};
+ghost use Rattle.coefficient_cache.specs.Pairs.{series_key, key_eq, coefficient_eq, in_series, has};
+ghost use Rattle.coefficient_cache.specs.Views.{AreDistinct, IsInFront, hits, news, are_new, others};
 
 use crate::series_key::SeriesKey;
 use lru::LruCache;
@@ -12,6 +12,33 @@ use std::alloc::{AllocError, Global};
 
 // The pairs, the most recently used first.
 pub(crate) type Pairs = LruCache<SeriesKey, Coef>;
+
+// Whether the needed pairs are the first ones of the list, the one that is needed last before the others: so a
+// view leaves them that needs all of them. It looks nothing up.
+pub(crate) fn is_in_front(pairs: &Pairs, series: u16, needed: &[(Key, Coef)]) -> bool
+    ensures { IsTrue result → IsInFront pairs.now.entries series needed.now }
+{
+    let mut shown = pairs.iter();
+    let mut left = needed.len();
+    while left > 0 {
+        let Some((key, held)) = shown.next() else {
+            return false;
+        };
+        let (wanted, coef) = needed[left - 1];
+        if !is_pair(*key, *held, SeriesKey::new(series, wanted), coef) {
+            return false;
+        }
+        left -= 1;
+    }
+    true
+}
+
+// Whether two pairs are the same.
+fn is_pair(key: SeriesKey, held: Coef, wanted: SeriesKey, coef: Coef) -> bool
+    ensures { result ≡ (key_eq key wanted && coefficient_eq held coef) }
+{
+    key == wanted && held == coef
+}
 
 // Moves the needed keys that are in the list to its front, in order and with their present
 // coefficients, and says of each needed key whether it is new.
@@ -28,6 +55,10 @@ pub(crate) fn renew_hits(
         (λ is_new. is_new.items ≡ are_new pairs.old.entries (in_series series needed.now)) }
     ensures capacity { pairs.new.cap ≡ pairs.old.cap }
 {
+    if pairs.is_empty() {
+        let all_new = Vec::from_elem(alloc, true, needed.len())?;
+        return Ok(all_new);
+    }
     // It brings in what holds of every list: no two keys are the same.
     let _length = pairs.len();
     let mut is_new = Vec::with_capacity(alloc, needed.len())?;

@@ -1,7 +1,17 @@
-use Rattle.std.proofs.Common.{◌∙◌, refl, sym}
+use Rattle.std.proofs.Common.{◌≡◌, ◌∙◌, refl, sym, ap, ◌++◌, ◌==◌, Bool, true, List, [], length, reverse, append-nil}
+use Rattle.std.proofs.lemmas.List.{nil_from_length}
+use Rattle.std.proofs.lemmas.Bool.Decides.{Decides-eqb}
+use Rattle.om3_coeff.specs.declared.coef.Coef.{Coef}
+use Rattle.coefficient_cache.specs.declared.series_key.SeriesKey.{SeriesKey}
+use Rattle.coefficient_cache.specs.Pairs.{in_series}
+use Rattle.coefficient_cache.specs.Views.{hits, others, are_new}
+use Rattle.coefficient_cache.proofs.Empty.{no-hits, all-new}
 use Rattle.coefficient_cache.proofs.Steps.{hits-step, flags-step}
 use Rattle.coefficient_cache.proofs.Moves.{others-none}
 use Rattle.coefficient_cache.proofs.renewal.renew_hits.Goals as goal
+
+empty : (es : List (SeriesKey × Coef)) (r : Bool) → r ≡ true → r ≡ (length es == 0) → es ≡ []
+empty es r is told = nil_from_length es ((Decides-eqb (length es) 0).0 (sym told ∙ is))
 
 pub loop-key-init : goal.loop-key-init
 loop-key-init c = record {
@@ -17,3 +27,18 @@ loop-key-preserved c =
       flags = c.in_ok-push.ensures.items ∙ flags-step c.args.series c.args.needed.now c.loop-key.key-index _ c.requires c.loop-key-test.true c.args.pairs.now.entries c.loop-key.pairs c.new.result c.renew_hit.result c.loop-key.is_new.items was.moved c.new.ensures turn.there was.flags;
       capacity = turn.capacity ∙ was.capacity;
     }
+
+pub returns-then-is_empty-clause-hits : goal.returns-then-is_empty-clause-hits
+returns-then-is_empty-clause-hits c =
+    let all = in_series c.args.series c.args.needed.now in
+    let none : c.args.pairs.now.entries ≡ [] = empty c.args.pairs.now.entries c.is_empty.result c.if-is_empty.true c.is_empty.ensures in
+    none ∙ ap reverse (sym (no-hits all)) ∙ sym (append-nil (reverse (hits [] all)))
+    ∙ ap (λ l. reverse (hits l all) ++ others l all) (sym none)
+
+pub returns-then-is_empty-clause-news : goal.returns-then-is_empty-clause-news
+returns-then-is_empty-clause-news c =
+    let all = in_series c.args.series c.args.needed.now in
+    let none : c.args.pairs.now.entries ≡ [] = empty c.args.pairs.now.entries c.is_empty.result c.if-is_empty.true c.is_empty.ensures in
+    c.in_ok-all_new.ensures.items_if_clones_equal (λ y same. same)
+    ∙ all-new c.args.series c.args.needed.now
+    ∙ ap (λ l. are_new l all) (sym none)

@@ -4,6 +4,7 @@ use Rattle.coefficient_cache.specs.declared.series_key.SeriesKey.{SeriesKey}
 use Rattle.coefficient_cache.specs.Pairs.{in_series}
 use Rattle.coefficient_cache.specs.Views.{are_new, renewed}
 use Rattle.coefficient_cache.proofs.Steps.{are_new-moved, topped_keys, topped-moved}
+use Rattle.coefficient_cache.proofs.Unmoved.{unmoved}
 use Rattle.coefficient_cache.proofs.cache.CoefficientCache.renew.Goals as goal
 
 pub put_news-requires-clause-news : goal.put_news-requires-clause-news
@@ -22,3 +23,12 @@ returns-clause-renewed c =
     ∙ topped-moved inside.cap inside.entries all
     ∙ (λ i. renewed (c.self.view_is i).capacity (c.self.view_is i).pairs all))
     c.put_news.ensures.news
+
+pub returns-then-is_in_front-clause-renewed : goal.returns-then-is_in_front-clause-renewed
+returns-then-is_in_front-clause-renewed c =
+    let all = in_series c.args.series c.args.needed.now in
+    let inside = c.self.inside.pairs in
+    let front = c.is_in_front.ensures c.if-is_in_front.true in
+    sym (ap (λ v. v.pairs) c.self.view_is)
+    ∙ sym (unmoved inside.cap inside.entries all front.rest c.len-length.ensures.valid.0 c.len-length.ensures.valid.1 front.is)
+    ∙ (λ i. renewed (c.self.view_is i).capacity (c.self.view_is i).pairs all)
