@@ -88,6 +88,7 @@ class Gateway:
         until(lambda: self.listens() or self.process.poll() is not None)
         if self.process.poll() is None and self.listens():
             return self
+        self.kill()
         raise AssertionError(f"the gateway doesn't listen: {self.told()}")
 
     def listens(self):

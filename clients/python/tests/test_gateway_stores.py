@@ -9,7 +9,7 @@ import threading
 import time
 import unittest
 
-from gateway_server import PROGRAM, SECOND, Gateway, OverAGateway, T, require_all
+from gateway_server import PROGRAM, SECOND, Gateway, OverAGateway, T, require_all, until
 
 require_all()
 
@@ -25,9 +25,7 @@ class Kept(OverAGateway):
         now = int(time.time())
         times = [now - 90 * 86_400, now - 9000, now - 5000, now - 100, now]
         self.require_written("\n".join(f"{name} v=1 {at}" for name in ("old", "new") for at in times))
-        ends = time.monotonic() + 30
-        while time.monotonic() < ends and len(self.values("old_v[400d]", now + 1).get('{"__name__": "old_v"}', ())) > 2:
-            time.sleep(0.3)
+        self.assertTrue(until(lambda: len(self.values("old_v[400d]", now + 1)['{"__name__": "old_v"}']) == 2))
         self.require_written(f"old v=2 {now + 1}")
         self.assertEqual(self.gateway.stop(), 0)
         self.assertEqual(sorted(self.gateway.exported("old_v")), [now - 100, now, now + 1])
@@ -58,15 +56,16 @@ class Backups(OverAGateway):
         answered, sent, ends = [], [], threading.Event()
 
         def write():
-            while not ends.is_set() and len(sent) < 20_000:
+            while not ends.wait(0.005):
                 part = list(range(len(sent), len(sent) + 50))
                 sent.extend(part)
                 if self.gateway.write("\n".join(f"w,n={at % 7} v={at} {T + at}" for at in part))[0] == 204:
                     answered.extend(part)
 
-        writer = threading.Thread(target=write)
+        writer = threading.Thread(target=write, daemon=True)
+        self.addCleanup(ends.set)
         writer.start()
-        time.sleep(0.5)
+        self.assertTrue(until(lambda: answered))
         bounds = []
         for _ in range(3):
             before = list(answered)
