@@ -7,10 +7,9 @@ import time
 import urllib.error
 import urllib.request
 
-from built_program import Failed, require
+from built_program import SECONDS, Failed, require
 
 ELEMENT = "element-6066-11e4-a52e-4f735466cecf"  # the name that WebDriver gives to an element
-SECONDS = 60
 KEYS = {
     "left": "\ue012", "up": "\ue013", "right": "\ue014", "down": "\ue015", "home": "\ue011", "end": "\ue010", "page_down": "\ue00f",
     "escape": "\ue00c", "enter": "\ue007", "shift": "\ue008", "tab": "\ue004", "space": " ",

@@ -10,18 +10,18 @@ import socket
 import subprocess
 import sys
 import tempfile
-import time
 import unittest
 import urllib.error
 import urllib.parse
 import urllib.request
 from decimal import Decimal
 
+from waiting import SECONDS, until
+
 ROOT = os.path.dirname(os.path.dirname(os.path.dirname(os.path.dirname(os.path.realpath(__file__)))))
 PROGRAMS = [os.path.join(ROOT, way) for way in ("crates/chart_program/out/chart_program", "dist/chart_program")]
 PROGRAM = next(filter(os.path.exists, PROGRAMS), None)
 sys.path.insert(0, os.path.join(ROOT, "clients/python"))
-SECONDS = 300  # a guard alone: no test asserts that something takes less time, so a slow machine fails none
 T = 1_700_000_000  # seconds; a multiple of 10, and not of 60
 SECOND = '[[series]]\nstep = "1s"\nscale = 2\n'
 OPENER = urllib.request.build_opener(urllib.request.ProxyHandler({}))
@@ -33,14 +33,6 @@ try:
     MISSING = None
 except ImportError as why:
     MISSING = f"a gateway needs Python 3.11 and aiohttp: {why}"
-
-
-def until(holds, seconds=SECONDS):
-    """Waits until `holds()` gives something that is true, and gives that; behind so many seconds whatever it gives."""
-    ends = time.monotonic() + seconds
-    while not (found := holds()) and time.monotonic() < ends:
-        time.sleep(0.02)
-    return found
 
 
 def free_port():

@@ -11,7 +11,8 @@ import types
 import unittest
 from decimal import Decimal
 
-from gateway_server import SECOND, SECONDS, Gateway, T, require_all, until
+from gateway_server import SECOND, Gateway, T, require_all
+from waiting import SECONDS, until
 
 require_all()
 

@@ -7,7 +7,8 @@ import time
 import unittest
 from decimal import Decimal
 
-from gateway_server import SECONDS, Gateway, T, require_all, until
+from gateway_server import Gateway, T, require_all
+from waiting import SECONDS, until
 
 require_all()
 

@@ -12,7 +12,8 @@ import tempfile
 import threading
 import unittest
 
-from gateway_server import SECOND, SECONDS, Gateway, OverAGateway, T, require_all, until
+from gateway_server import SECOND, Gateway, OverAGateway, T, require_all
+from waiting import SECONDS, until
 
 require_all()
 

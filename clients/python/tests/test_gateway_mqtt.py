@@ -12,7 +12,8 @@ import threading
 import time
 import unittest
 
-from gateway_server import Gateway, T, require_all, until
+from gateway_server import Gateway, T, require_all
+from waiting import until
 
 require_all()
 

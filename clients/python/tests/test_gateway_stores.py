@@ -9,7 +9,8 @@ import threading
 import time
 import unittest
 
-from gateway_server import PROGRAM, SECOND, Gateway, OverAGateway, T, require_all, until
+from gateway_server import PROGRAM, SECOND, Gateway, OverAGateway, T, require_all
+from waiting import until
 
 require_all()
 

@@ -8,7 +8,8 @@ import unittest
 import zlib
 from decimal import Decimal
 
-from gateway_server import SECONDS, OverAGateway, T, require_all
+from gateway_server import OverAGateway, T, require_all
+from waiting import SECONDS
 from test_gateway_points import message_of
 
 require_all()
