@@ -150,24 +150,40 @@ def follow_end(page):
 
 def come_slowly(page):
     """Over a slow line an answer is shown by its covers, and then by its picture."""
-    page.open(f"panel=sea&from={START}&to={START + STEP}")
-    conditions = {"network_conditions": {"offline": False, "latency": 0, "download_throughput": 16000, "upload_throughput": 24000}}
-    page.browser.send("/chromium/network_conditions", conditions)
-    try:
+    end, paces = page.end("sea"), iter((16000, 4000, 1000))  # bytes a second
+
+    def has_come():
+        return not page.read()["panels"][0]["covered"] and page.window()[1] == end
+
+    def begin():
+        page.browser.send("/chromium/network_conditions", method="DELETE")
+        page.open(f"panel=sea&from={START}&to={START + STEP}")
+        conditions = {"offline": False, "latency": 0, "download_throughput": next(paces), "upload_throughput": 24000}
+        page.browser.send("/chromium/network_conditions", {"network_conditions": conditions})
         page.browser.run("document.querySelector('#all').click()")
+
+    def cover():
+        """A cover that is shown; where the whole picture came between two looks, it comes again, more slowly."""
+        found = page.cover()
+        if not found and has_come():
+            begin()
+        return found
+
+    try:
+        begin()
         if not os.path.exists(browser_page.MODULE):
             return
         covers = []
-        wait_for(lambda: covers.append(page.cover()) or covers[-1], "no cover is shown, and marked as one")
+        wait_for(lambda: covers.append(cover()) or covers[-1], "no cover is shown, and marked as one")
         pbm, count, size = covers[-1]
-        lines = ["open 1 131072", *(f"view 1 sea {size[0]} {size[1]} {START} {to} auto" for to in (START + STEP, page.end("sea")))]
+        lines = ["open 1 131072", *(f"view 1 sea {size[0]} {size[1]} {START} {to} auto" for to in (START + STEP, end))]
         frames = page.program(["serve"], "".join(line + "\n" for line in lines).encode())
         wanted = subprocess.run([PROGRAM, "-", "cover", count], input=frames, stdout=subprocess.PIPE, check=True).stdout
         require(pbm in wanted, f"the canvas isn't the cover after {count} coefficients")
         page.show("cover")
     finally:
         page.browser.send("/chromium/network_conditions", method="DELETE")
-    wait_for(lambda: not page.read()["panels"][0]["covered"] and page.window()[1] == page.end("sea"), "the picture doesn't follow its covers")
+    wait_for(has_come, "the picture doesn't follow its covers")
     page.compare()
 
 
