@@ -1,5 +1,6 @@
 """The stores of a gateway: retention, backups, further ones, and those that can't be worked on."""
 import contextlib
+import fcntl
 import io
 import json
 import os
@@ -185,6 +186,28 @@ class Broken(unittest.TestCase):
                 self.assertEqual(gateway.stop(), 0)
                 self.assertGreater(len(answered), 2000)
                 self.assertLessEqual(answered.items(), gateway.exported("w_v").items())
+            finally:
+                gateway.close()
+
+    def test_a_store_that_another_run_holds_is_waited_for(self):
+        with tempfile.TemporaryDirectory() as folder:
+            runs = os.path.join(folder, "runs")
+            gateway = Gateway(folder, {}, SECOND, program=script(folder, f'echo "$2" >> {runs}\nexec PROGRAM "$@"')).start()
+            try:
+                self.assertEqual(gateway.write(f"w v=1 {T}")[0], 204)
+                self.assertEqual(gateway.stop(), 0)
+                with open(os.path.join(gateway.stores, "gateway.store"), "rb") as store, open(runs) as told:
+                    fcntl.flock(store, fcntl.LOCK_EX)
+                    before = told.read()
+                    starting = threading.Thread(target=gateway.start)
+                    starting.start()
+                    self.assertTrue(until(lambda: gateway.process.poll() is None and gateway.events("a run ended")))
+                    told.seek(0)
+                    self.assertEqual(told.read(), before, "no run is started beside another one")
+                starting.join()
+                self.assertEqual(gateway.write(f"w v=2 {T + 1}")[0], 204)
+                self.assertEqual(gateway.stop(), 0)
+                self.assertEqual(gateway.exported("w_v"), {T: "1.00", T + 1: "2.00"})
             finally:
                 gateway.close()
 
