@@ -9,6 +9,7 @@ import urllib.request
 
 from built_program import SECONDS, Failed, require
 
+OPENER = urllib.request.build_opener(urllib.request.ProxyHandler({}))  # what listens here is asked past any proxy
 ELEMENT = "element-6066-11e4-a52e-4f735466cecf"  # the name that WebDriver gives to an element
 KEYS = {
     "left": "\ue012", "up": "\ue013", "right": "\ue014", "down": "\ue015", "home": "\ue011", "end": "\ue010", "page_down": "\ue00f",
@@ -37,7 +38,7 @@ class Browser:
         data = None if body is None else json.dumps(body).encode()
         request = urllib.request.Request(self.base + path, data, {"Content-Type": "application/json"}, method=method)
         try:
-            with urllib.request.urlopen(request, timeout=SECONDS) as answer:
+            with OPENER.open(request, timeout=SECONDS) as answer:
                 return json.load(answer)["value"]
         except urllib.error.HTTPError as error:
             raise Failed(json.load(error)["value"]["message"].partition("\n")[0]) from None
