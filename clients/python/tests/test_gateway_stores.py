@@ -121,6 +121,25 @@ class Growing(unittest.TestCase):
             finally:
                 gateway.close()
 
+    def test_a_series_is_made_though_the_run_ends_meanwhile(self):
+        with tempfile.TemporaryDirectory() as folder:
+            gateway = Gateway(folder, {}, SECOND).start()
+            try:
+                self.assertEqual(gateway.write(f"w v=1 {T}")[0], 204)
+                (child,) = gateway.children()
+                os.kill(child, signal.SIGSTOP)
+                answers = []
+                writing = threading.Thread(target=lambda: answers.append(gateway.write(f"fresh v=1 {T}")))
+                writing.start()
+                time.sleep(0.5)
+                os.kill(child, signal.SIGKILL)
+                writing.join()
+                self.assertEqual(answers, [(204, "")])
+                self.assertEqual(gateway.stop(), 0)
+                self.assertEqual(gateway.exported("fresh_v"), {T: "1.00"})
+            finally:
+                gateway.close()
+
     def test_a_full_store_is_told_and_takes_no_series(self):
         with tempfile.TemporaryDirectory() as folder:
             gateway = Gateway(folder, {"stores": "most = 1"}, SECOND, size="512K").start()
