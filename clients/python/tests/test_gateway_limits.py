@@ -105,33 +105,26 @@ class Crowded(OverAGateway):
 
 class Busy(unittest.TestCase):
     def test_who_takes_no_answer_is_hung_up_on(self):
-        with tempfile.TemporaryDirectory() as folder:
-            gateway = Gateway(folder, {"read": 'at_once = 1\nseconds = "9s"\nlookback = "1d"'}, SECOND).start()
+        # Where a slow machine makes no such answer in time it has more time at another try.
+        self.assertTrue(any(map(self.is_hung_up_on, (9, 60, 240))))
+
+    def is_hung_up_on(self, seconds):
+        """Whether one who asks for much, and takes nothing of it, is hung up on; an answer that isn't made in so many seconds is a 503."""
+        with tempfile.TemporaryDirectory() as folder, socket.socket() as slow:
+            gateway = Gateway(folder, {"read": f'at_once = 1\nseconds = "{seconds}s"\nlookback = "1d"'}, SECOND).start()
             try:
                 self.assertEqual(gateway.write("\n".join(f"w,n={at} v={at} {T}" for at in range(60)))[0], 204)
-                slow = []
-
-                def is_broken():
-                    found = {name: count for name, count in gateway.metrics().items() if 'requests_total{path="/api/v1/query_range"' in name}
-                    # On a slow machine the answer itself may take too long.
-                    if sum(found.values()) == len(slow):
-                        slow.append(self.asked_slowly(gateway))
-                    return any('status="499"' in name for name in found)
-
-                self.assertTrue(until(is_broken))
+                slow.setsockopt(socket.SOL_SOCKET, socket.SO_RCVBUF, 4096)
+                slow.connect(("127.0.0.1", gateway.port))
+                slow.sendall(f"GET /api/v1/query_range?query=w_v&start={T}&end={T + 10_000}&step=1 HTTP/1.1\r\nHost: localhost\r\n\r\n".encode())
+                path = 'zurtkvani_gateway_requests_total{path="/api/v1/query_range",status='
+                found = until(lambda: [name for name in gateway.metrics() if name.startswith(path)], 2 * SECONDS)
+                self.assertIn(found, ([path + '"499"}'], [path + '"503"}']))
                 self.assertTrue(until(lambda: gateway.ask(f"/api/v1/query?query=w_v&time={T}")[0] == 200))
                 self.assertEqual([line for line in gateway.told().splitlines() if not line.startswith("{")], [])
+                return found == [path + '"499"}']
             finally:
                 gateway.close()
-
-    def asked_slowly(self, gateway):
-        """A connection that asks for much, and takes nothing of it."""
-        slow = socket.socket()
-        self.addCleanup(slow.close)
-        slow.setsockopt(socket.SOL_SOCKET, socket.SO_RCVBUF, 4096)
-        slow.connect(("127.0.0.1", gateway.port))
-        slow.sendall(f"GET /api/v1/query_range?query=w_v&start={T}&end={T + 10_000}&step=1 HTTP/1.1\r\nHost: localhost\r\n\r\n".encode())
-        return slow
 
     def test_what_comes_faster_than_the_disk_is_sent_away(self):
         with tempfile.TemporaryDirectory() as folder:
