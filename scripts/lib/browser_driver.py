@@ -30,7 +30,8 @@ class Browser:
 
     def __init__(self, driver):
         self.base = driver
-        words = ["--headless=new", "--no-sandbox", "--disable-gpu", "--disable-dev-shm-usage", "--hide-scrollbars", "--window-size=1160,760"]
+        words = ["--headless=new", "--no-sandbox", "--disable-gpu", "--disable-dev-shm-usage", "--hide-scrollbars"]
+        words += ["--window-size=1160,760"]
         options = {"goog:chromeOptions": {"args": words}}
         self.base += "/session/" + self.send("/session", {"capabilities": {"alwaysMatch": options}})["sessionId"]
 
