@@ -1,12 +1,15 @@
 """What scripts/gate/browser looks at where something changes: edits, a window that follows, slow and lost lines, an ended program, a full house."""
+import contextlib
 import http.client
 import os
+import random
 import re
 import signal
+import socket
 import subprocess
 import urllib.parse
 
-from browser_driver import KEYS, require, wait_for
+from browser_driver import KEYS, Failed, require, wait_for
 from browser_page import PROGRAM, ROOT, SLOTS, START, STEP, edit, make_store, served
 import browser_looks
 import browser_page
@@ -206,19 +209,27 @@ def wait_for_place(browser, store, folder, screenshots):
         page.compare()
 
 
+def free_port():
+    """A port that nobody listens on, and none of those that the system hands out by itself: these may be taken while there is no server."""
+    for port in random.sample(range(20_000, 32_000), 1000):
+        with contextlib.suppress(OSError), socket.socket() as one:
+            one.bind(("127.0.0.1", port))
+            return port
+    raise Failed("no port is free")
+
+
 def lose_line(browser, store, folder, screenshots):
     """A server that is gone is told, since when; one that comes back is used by itself."""
-    token = os.path.join(folder, "token")
-    with served(browser, store, screenshots, "--edit", "--token-file", token) as (page, server):
+    words = ["--edit", "--token-file", os.path.join(folder, "token"), "--port", str(free_port())]
+    with served(browser, store, screenshots, *words) as (page, server):
         page.open("panel=sea&last=3600")
-        port = urllib.parse.urlsplit(page.address).port
         server.terminate()
         server.wait()
         wait_for(lambda: page.read()["state"] == "cut", lambda: f"the page says {page.read()['status']}")
         require(re.fullmatch(r"Cut off since \d\d:\d\d:\d\d", page.read()["status"]), f"the page says {page.read()['status']}")
         page.show("cut")
         edit(store, "append sea 77")
-    with served(browser, store, screenshots, "--edit", "--token-file", token, "--port", str(port)) as (page, server):
+    with served(browser, store, screenshots, *words) as (page, server):
         wait_until_live(page)
         wait_for(lambda: page.window()[1] == page.end("sea"), "what came in between isn't drawn")
         page.compare()
