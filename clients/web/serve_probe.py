@@ -5,12 +5,21 @@ import os
 import socket
 import subprocess
 import sys
+import time
 import urllib.parse
 
 HERE = os.path.dirname(os.path.realpath(__file__))
 ROOT = os.path.dirname(os.path.dirname(HERE))
 PROGRAM = os.environ.get("CHART_PROGRAM", os.path.join(ROOT, "dist/chart_program"))
-SECONDS = 30
+SECONDS = 300  # a guard alone
+
+
+def until(holds):
+    """Waits until `holds()` gives something that is true, and gives that; where it never does what it gives at last."""
+    ends = time.monotonic() + SECONDS
+    while not (found := holds()) and time.monotonic() < ends:
+        time.sleep(0.05)
+    return found
 
 
 def made_store(folder):

@@ -7,10 +7,10 @@ import time
 import urllib.error
 import urllib.request
 
-from built_program import Failed, require
+from built_program import SECONDS, Failed, require
 
+OPENER = urllib.request.build_opener(urllib.request.ProxyHandler({}))  # what listens here is asked past any proxy
 ELEMENT = "element-6066-11e4-a52e-4f735466cecf"  # the name that WebDriver gives to an element
-SECONDS = 60
 KEYS = {
     "left": "\ue012", "up": "\ue013", "right": "\ue014", "down": "\ue015", "home": "\ue011", "end": "\ue010", "page_down": "\ue00f",
     "escape": "\ue00c", "enter": "\ue007", "shift": "\ue008", "tab": "\ue004", "space": " ",
@@ -30,7 +30,8 @@ class Browser:
 
     def __init__(self, driver):
         self.base = driver
-        words = ["--headless=new", "--no-sandbox", "--disable-gpu", "--hide-scrollbars", "--window-size=1160,760"]
+        words = ["--headless=new", "--no-sandbox", "--disable-gpu", "--disable-dev-shm-usage", "--hide-scrollbars"]
+        words += ["--window-size=1160,760"]
         options = {"goog:chromeOptions": {"args": words}}
         self.base += "/session/" + self.send("/session", {"capabilities": {"alwaysMatch": options}})["sessionId"]
 
@@ -38,7 +39,7 @@ class Browser:
         data = None if body is None else json.dumps(body).encode()
         request = urllib.request.Request(self.base + path, data, {"Content-Type": "application/json"}, method=method)
         try:
-            with urllib.request.urlopen(request, timeout=SECONDS) as answer:
+            with OPENER.open(request, timeout=SECONDS) as answer:
                 return json.load(answer)["value"]
         except urllib.error.HTTPError as error:
             raise Failed(json.load(error)["value"]["message"].partition("\n")[0]) from None

@@ -1,12 +1,15 @@
 """What scripts/gate/browser looks at where something changes: edits, a window that follows, slow and lost lines, an ended program, a full house."""
+import contextlib
 import http.client
 import os
+import random
 import re
 import signal
+import socket
 import subprocess
 import urllib.parse
 
-from browser_driver import KEYS, require, wait_for
+from browser_driver import KEYS, Failed, require, wait_for
 from browser_page import PROGRAM, ROOT, SLOTS, START, STEP, edit, make_store, served
 import browser_looks
 import browser_page
@@ -150,24 +153,40 @@ def follow_end(page):
 
 def come_slowly(page):
     """Over a slow line an answer is shown by its covers, and then by its picture."""
-    page.open(f"panel=sea&from={START}&to={START + STEP}")
-    conditions = {"network_conditions": {"offline": False, "latency": 0, "download_throughput": 16000, "upload_throughput": 24000}}
-    page.browser.send("/chromium/network_conditions", conditions)
-    try:
+    end, paces = page.end("sea"), iter((16000, 4000, 1000))  # bytes a second
+
+    def has_come():
+        return not page.read()["panels"][0]["covered"] and page.window()[1] == end
+
+    def begin():
+        page.browser.send("/chromium/network_conditions", method="DELETE")
+        page.open(f"panel=sea&from={START}&to={START + STEP}")
+        conditions = {"offline": False, "latency": 0, "download_throughput": next(paces), "upload_throughput": 24000}
+        page.browser.send("/chromium/network_conditions", {"network_conditions": conditions})
         page.browser.run("document.querySelector('#all').click()")
+
+    def cover():
+        """A cover that is shown; where the whole picture came between two looks, it comes again, more slowly."""
+        found = page.cover()
+        if not found and has_come():
+            begin()
+        return found
+
+    try:
+        begin()
         if not os.path.exists(browser_page.MODULE):
             return
         covers = []
-        wait_for(lambda: covers.append(page.cover()) or covers[-1], "no cover is shown, and marked as one")
+        wait_for(lambda: covers.append(cover()) or covers[-1], "no cover is shown, and marked as one")
         pbm, count, size = covers[-1]
-        lines = ["open 1 131072", *(f"view 1 sea {size[0]} {size[1]} {START} {to} auto" for to in (START + STEP, page.end("sea")))]
+        lines = ["open 1 131072", *(f"view 1 sea {size[0]} {size[1]} {START} {to} auto" for to in (START + STEP, end))]
         frames = page.program(["serve"], "".join(line + "\n" for line in lines).encode())
         wanted = subprocess.run([PROGRAM, "-", "cover", count], input=frames, stdout=subprocess.PIPE, check=True).stdout
         require(pbm in wanted, f"the canvas isn't the cover after {count} coefficients")
         page.show("cover")
     finally:
         page.browser.send("/chromium/network_conditions", method="DELETE")
-    wait_for(lambda: not page.read()["panels"][0]["covered"] and page.window()[1] == page.end("sea"), "the picture doesn't follow its covers")
+    wait_for(has_come, "the picture doesn't follow its covers")
     page.compare()
 
 
@@ -190,19 +209,27 @@ def wait_for_place(browser, store, folder, screenshots):
         page.compare()
 
 
+def free_port():
+    """A port that nobody listens on, and none of those that the system hands out by itself: these may be taken while there is no server."""
+    for port in random.sample(range(20_000, 32_000), 1000):
+        with contextlib.suppress(OSError), socket.socket() as one:
+            one.bind(("127.0.0.1", port))
+            return port
+    raise Failed("no port is free")
+
+
 def lose_line(browser, store, folder, screenshots):
     """A server that is gone is told, since when; one that comes back is used by itself."""
-    token = os.path.join(folder, "token")
-    with served(browser, store, screenshots, "--edit", "--token-file", token) as (page, server):
+    words = ["--edit", "--token-file", os.path.join(folder, "token"), "--port", str(free_port())]
+    with served(browser, store, screenshots, *words) as (page, server):
         page.open("panel=sea&last=3600")
-        port = urllib.parse.urlsplit(page.address).port
         server.terminate()
         server.wait()
         wait_for(lambda: page.read()["state"] == "cut", lambda: f"the page says {page.read()['status']}")
         require(re.fullmatch(r"Cut off since \d\d:\d\d:\d\d", page.read()["status"]), f"the page says {page.read()['status']}")
         page.show("cut")
         edit(store, "append sea 77")
-    with served(browser, store, screenshots, "--edit", "--token-file", token, "--port", str(port)) as (page, server):
+    with served(browser, store, screenshots, *words) as (page, server):
         wait_until_live(page)
         wait_for(lambda: page.window()[1] == page.end("sea"), "what came in between isn't drawn")
         page.compare()

@@ -12,8 +12,8 @@ import urllib.parse
 import urllib.request
 
 from book_model import frames_of, spelled
-from browser_driver import require, started, wait_for
-from built_program import ROOT
+from browser_driver import OPENER, require, started, wait_for
+from built_program import ROOT, SECONDS
 
 PROGRAMS = [os.path.join(ROOT, path) for path in ("crates/chart_program/out/chart_program", "dist/chart_program")]
 PROGRAM = next((path for path in PROGRAMS if os.access(path, os.X_OK)), None)
@@ -149,7 +149,7 @@ class Page:
         """The frame of a line, asked as another page would."""
         headers = {"X-Chart-Token": self.token}
         request = urllib.request.Request(self.address.partition("?")[0] + "request", line.encode(), headers)
-        with urllib.request.urlopen(request, timeout=60) as answer:
+        with OPENER.open(request, timeout=SECONDS) as answer:
             return answer.read()
 
     def program(self, words, data=b""):

@@ -9,6 +9,7 @@ ROOT = os.path.dirname(os.path.dirname(os.path.dirname(os.path.realpath(__file__
 OUT = "crates/chart_program/out"
 PROGRAM = os.path.join(ROOT, OUT, "chart_program")
 BLOCK = 4096  # the bytes of a block of a store
+SECONDS = 300  # the most that scripts wait for an end or an answer: a guard alone, so that no machine is too slow for them
 MEMORY = "/dev/shm" if os.access("/dev/shm", os.W_OK) else None  # a sync costs nothing there
 
 
@@ -30,7 +31,7 @@ def require_program():
         raise Stopped("the program isn't built; ./chart and rt ci build it")
 
 
-def run_program(words, given=b"", before=(), seconds=60):
+def run_program(words, given=b"", before=(), seconds=SECONDS):
     """A run of the program, with the words of another one before its own, that gets these bytes and has to end in so many seconds."""
     return subprocess.run([*before, PROGRAM, *words], input=given, capture_output=True, timeout=seconds, check=False)
 

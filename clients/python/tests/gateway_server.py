@@ -1,24 +1,27 @@
 """A gateway of its own for a test: its configuration, its process, and requests of it. It listens on 127.0.0.1 alone."""
+import contextlib
 import json
 import os
+import random
+import re
 import resource
 import signal
 import socket
 import subprocess
 import sys
 import tempfile
-import time
 import unittest
 import urllib.error
 import urllib.parse
 import urllib.request
 from decimal import Decimal
 
+from waiting import SECONDS, until
+
 ROOT = os.path.dirname(os.path.dirname(os.path.dirname(os.path.dirname(os.path.realpath(__file__)))))
 PROGRAMS = [os.path.join(ROOT, way) for way in ("crates/chart_program/out/chart_program", "dist/chart_program")]
 PROGRAM = next(filter(os.path.exists, PROGRAMS), None)
 sys.path.insert(0, os.path.join(ROOT, "clients/python"))
-SECONDS = 60
 T = 1_700_000_000  # seconds; a multiple of 10, and not of 60
 SECOND = '[[series]]\nstep = "1s"\nscale = 2\n'
 OPENER = urllib.request.build_opener(urllib.request.ProxyHandler({}))
@@ -33,9 +36,12 @@ except ImportError as why:
 
 
 def free_port():
-    with socket.socket() as one:
-        one.bind(("127.0.0.1", 0))
-        return one.getsockname()[1]
+    """A port that nobody listens on, and none of those that the system hands out by itself: these may be taken while a gateway is started again."""
+    for port in random.sample(range(20_000, 32_000), 1000):
+        with contextlib.suppress(OSError), socket.socket() as one:
+            one.bind(("127.0.0.1", port))
+            return port
+    raise AssertionError("no port is free")
 
 
 class Gateway:
@@ -50,6 +56,10 @@ class Gateway:
         }
         for name, more in (sections or {}).items():
             words[name] = words.get(name, "") + "\n" + more
+        # Where a test doesn't ask for another limit none is reached for the slowness of a machine.
+        for name, key in (("write", "seconds"), ("read", "seconds"), ("alarms", "seconds"), ("limits", "head_seconds"), ("limits", "body_seconds")):
+            if not re.search(rf"^{key} ", words.setdefault(name, ""), re.MULTILINE):
+                words[name] += f'\n{key} = "{SECONDS}s"'
         with open(self.path, "w", encoding="utf-8") as file:
             file.write("".join(f"[{name}]\n{text}\n" for name, text in words.items()) + series)
         self.process = self.log = None
@@ -67,24 +77,27 @@ class Gateway:
         self.log = tempfile.TemporaryFile()
         first = limit if most_bytes else None
         self.process = subprocess.Popen(command, stdin=subprocess.DEVNULL, stderr=self.log, env=environment, preexec_fn=first)
-        ends = time.monotonic() + SECONDS
-        while time.monotonic() < ends:
-            try:
-                with socket.create_connection(("127.0.0.1", self.port), 1):
-                    return self
-            except OSError:
-                if self.process.poll() is not None:
-                    break
-                time.sleep(0.02)
+        until(lambda: self.listens() or self.process.poll() is not None)
+        if self.process.poll() is None and self.listens():
+            return self
+        self.kill()
         raise AssertionError(f"the gateway doesn't listen: {self.told()}")
 
-    def told(self):
-        """What it wrote to its log."""
-        self.log.seek(0)
-        return self.log.read().decode(errors="replace")
+    def listens(self):
+        try:
+            socket.create_connection(("127.0.0.1", self.port), SECONDS).close()
+            return True
+        except OSError:
+            return False
 
-    def events(self):
-        return [json.loads(line) for line in self.told().splitlines() if line.startswith("{")]
+    def told(self):
+        """What it wrote to its log. It shares the place in that file, which stays where it is."""
+        return os.pread(self.log.fileno(), os.fstat(self.log.fileno()).st_size, 0).decode(errors="replace")
+
+    def events(self, named=None):
+        """What its log tells, or of that what has a name; a line that isn't whole yet comes later."""
+        told = [json.loads(line) for line in self.told().splitlines(True) if line.startswith("{") and line.endswith("\n")]
+        return [event for event in told if named in (None, event["event"])]
 
     def stop(self):
         """Ends it, and gives its exit status."""
@@ -105,9 +118,23 @@ class Gateway:
             self.log = None
 
     def children(self):
-        """The processes of its runs."""
-        with open(f"/proc/{self.process.pid}/task/{self.process.pid}/children", encoding="ascii") as file:
-            return [int(word) for word in file.read().split()]
+        """The processes of its runs, of those that work."""
+        return [int(number) for number in os.listdir("/proc") if number.isdecimal() and self.is_run(number)]
+
+    def is_run(self, number):
+        with contextlib.suppress(OSError), open(f"/proc/{number}/stat", "rb") as stat, open(f"/proc/{number}/cmdline", "rb") as words:
+            state, parent = stat.read().rsplit(b")", 1)[1].split()[:2]
+            return int(parent) == self.process.pid and state != b"Z" and words.read().endswith(b"\0serve\0")
+        return False
+
+    def kill_runs(self):
+        """Kills the runs, one at least, and waits until the gateway has told that they ended."""
+        found, ended = until(self.children), len(self.events("a run ended"))
+        for child in found:
+            with contextlib.suppress(ProcessLookupError):
+                os.kill(child, signal.SIGKILL)
+        if not found or not until(lambda: len(self.events("a run ended")) >= ended + len(found)):
+            raise AssertionError("no run was killed")
 
     def ask(self, path, data=None, seconds=SECONDS, method=None, **headers):
         """The status, the text and the headers that it answers."""

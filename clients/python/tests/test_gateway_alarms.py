@@ -1,9 +1,9 @@
 """Alarms of a gateway: what begins and ends them, that each is told once, also behind kills, and what a command is given."""
+import http.client
 import http.server
 import json
 import os
 import random
-import signal
 import tempfile
 import threading
 import time
@@ -11,7 +11,8 @@ import types
 import unittest
 from decimal import Decimal
 
-from gateway_server import SECOND, SECONDS, Gateway, T, require_all
+from gateway_server import SECOND, Gateway, T, require_all
+from waiting import SECONDS, until
 
 require_all()
 
@@ -118,19 +119,17 @@ class Told(unittest.TestCase):
     def by_command(self, rule):
         return f"{rule}\ncommand = [{json.dumps(self.command)}, {json.dumps(self.log)}]"
 
-    def told(self, path=None):
+    def told(self):
         try:
-            with open(path or self.log, encoding="utf-8") as file:
-                return [json.loads(line) for line in file]
+            with open(self.log, encoding="utf-8") as file:
+                return [json.loads(line) for line in file if line.endswith("\n")]
         except FileNotFoundError:
             return []
 
-    def wait_for(self, count, path=None):
-        ends = time.monotonic() + SECONDS
-        while len(self.told(path)) < count and time.monotonic() < ends:
-            time.sleep(0.05)
-        time.sleep(0.3)
-        return self.told(path)
+    def wait_for(self, gateway, count):
+        """What was told, once it is so much and nothing waits to be told: a write that was answered has set off all that it does."""
+        self.assertTrue(until(lambda: len(self.told()) >= count and self.listed(gateway)["untold"] == 0))
+        return self.told()
 
     def write(self, gateway, lines):
         self.assertEqual(gateway.write(lines), (204, ""))
@@ -150,7 +149,7 @@ class Told(unittest.TestCase):
         self.assertEqual(active["labels"], {"__name__": "boiler_temp", "room": "$(touch x)`;'"})
         self.assertEqual(active["begun"], "2023-11-14T22:13:21Z")
         self.write(gateway, f'boiler,room=$(touch\\ x)`;\' temp=85 {T + 3}')
-        first, last = self.wait_for(2)
+        first, last = self.wait_for(gateway, 2)
         self.assertEqual((first["state"], first["value"], first["time"]), ("begin", "90.51", "2023-11-14T22:13:21Z"))
         self.assertEqual((last["state"], last["value"], last["time"]), ("end", "85.00", "2023-11-14T22:13:23Z"))
         self.assertEqual(self.listed(gateway), {"alarms": [], "untold": 0})
@@ -168,28 +167,31 @@ class Told(unittest.TestCase):
 
     def test_what_is_stale(self):
         gateway = self.over([self.by_command('name = "silent"\nstale = "6s"')])
-        self.write(gateway, f"w v=9 {int(time.time())}")
-        self.assertEqual(self.listed(gateway)["alarms"], [])
-        (begin,) = self.wait_for(1)
+        at = int(time.time())
+        self.write(gateway, f"w v=9 {at}")
+        self.assertTrue(until(lambda: self.listed(gateway)["alarms"]))
+        self.assertGreater(time.time(), at + 6)
+        (begin,) = self.wait_for(gateway, 1)
         self.assertEqual((begin["state"], begin["kind"], begin["value"]), ("begin", "stale", None))
-        self.write(gateway, f"w v=9 {int(time.time())}")
-        self.assertEqual([one["state"] for one in self.wait_for(2)], ["begin", "end"])
+        self.write(gateway, f"w v=9 {int(time.time()) + 3600}")
+        self.assertEqual([one["state"] for one in self.wait_for(gateway, 2)], ["begin", "end"])
+        self.assertEqual(self.listed(gateway)["alarms"], [])
 
     def test_a_restart_tells_nothing_again(self):
         gateway = self.over([self.by_command('name = "hot"\nover = 1'), self.by_command('name = "wild"\nrate = 5\nwithin = "100s"')])
         self.write(gateway, f"w v=0 {T}\nw v=9 {T + 1}")
-        self.assertEqual(len(self.wait_for(2)), 2)
+        self.assertEqual(len(self.wait_for(gateway, 2)), 2)
         for end in (gateway.stop, gateway.kill):
             end()
             gateway.start()
             self.assertEqual(len(self.listed(gateway)["alarms"]), 2)
             self.write(gateway, f"w v=0 {T}\nw v=9 {T + 1}")
             self.write(gateway, f"w v=9 {T + 2}")
-        self.assertEqual(len(self.wait_for(3)), 2)
+        self.assertEqual(len(self.wait_for(gateway, 2)), 2)
         self.write(gateway, f"w v=1 {T + 3}")
-        self.assertEqual([(one["alarm"], one["state"]) for one in self.wait_for(3)[2:]], [("hot", "end")])
+        self.assertEqual([(one["alarm"], one["state"]) for one in self.wait_for(gateway, 3)[2:]], [("hot", "end")])
         self.write(gateway, f"w v=1 {T + 200}")
-        self.assertEqual([(one["alarm"], one["state"]) for one in self.wait_for(4)[3:]], [("wild", "end")])
+        self.assertEqual([(one["alarm"], one["state"]) for one in self.wait_for(gateway, 4)[3:]], [("wild", "end")])
 
     def test_what_isnt_told_is_told_behind_a_restart(self):
         os.chmod(self.command, 0o644)
@@ -199,8 +201,7 @@ class Told(unittest.TestCase):
         gateway.kill()
         os.chmod(self.command, 0o755)
         gateway.start()
-        self.assertEqual([one["state"] for one in self.wait_for(3)], ["begin", "end", "begin"])
-        self.assertEqual(self.listed(gateway)["untold"], 0)
+        self.assertEqual([one["state"] for one in self.wait_for(gateway, 3)], ["begin", "end", "begin"])
 
     def test_kills_under_load_lose_no_alarm(self):
         gateway = self.over([self.by_command('name = "hot"\nover = 1')])
@@ -210,19 +211,20 @@ class Told(unittest.TestCase):
             killer = threading.Timer(ends - time.monotonic(), gateway.kill)
             killer.start()
             while killer.is_alive():
-                # A value above, and one that isn't, until the gateway answers for both.
+                # A value above, and one that isn't, until the gateway answers for both; not so many that some are given up.
+                time.sleep(0.01)
                 lines = f"w v=9 {T + at}\nw v=1 {T + at + 1}"
                 while True:
                     try:
                         if gateway.write(lines)[0] == 204:
                             break
-                    except OSError:
+                    except (OSError, http.client.HTTPException):
                         killer.join()
                         gateway.start()
                 at += 2
             if gateway.process.poll() is not None:
                 gateway.start()
-        states = [(one["time"], one["state"]) for one in self.wait_for(at)]
+        states = [(one["time"], one["state"]) for one in self.wait_for(gateway, at)]
         self.assertEqual(len(set(states)), at)
         # One that was told just before a kill may be told again.
         self.assertLessEqual(len(states) - at, 6)
@@ -245,29 +247,23 @@ class Told(unittest.TestCase):
         self.addCleanup(server.shutdown)
         gateway = self.over([f'name = "hot"\nunder = 1\npost = "http://127.0.0.1:{server.server_address[1]}/a"'])
         self.write(gateway, f"w v=0 {T}\nw v=1 {T + 1}")
-        ends = time.monotonic() + SECONDS
-        while len(taken) < 3 and time.monotonic() < ends:
-            time.sleep(0.05)
-        time.sleep(0.3)
+        self.assertTrue(until(lambda: len(taken) >= 3 and self.listed(gateway)["untold"] == 0))
         self.assertEqual([one["state"] for one in taken], ["begin", "begin", "end"])
 
     def test_a_command_that_hangs_holds_no_write_up_and_is_given_up(self):
         with open(self.command, "w") as file:
-            file.write("#!/bin/sh\nsleep 100\n")
+            file.write(f"#!/bin/sh\nsleep {9 * SECONDS}\n")
         gateway = self.over([self.by_command('name = "hot"\nover = 1')], {"alarms": FOREVER + '\nseconds = "0.2s"\ngive_up = "0.5s"'})
         begun = time.monotonic()
         self.write(gateway, f"w v=9 {T}")
         self.assertLess(time.monotonic() - begun, SECONDS)
-        ends = time.monotonic() + SECONDS
-        while self.listed(gateway)["untold"] and time.monotonic() < ends:
-            time.sleep(0.05)
+        self.assertTrue(until(lambda: self.listed(gateway)["untold"] == 0))
         self.assertEqual(gateway.metrics()['zurtkvani_gateway_untold_alarms_total{alarm="hot"}'], 1)
 
     def test_a_damaged_file_is_set_aside(self):
         gateway = self.over(['name = "hot"\nover = 1'])
         self.write(gateway, f"w v=9 {T}")
-        gateway.process.send_signal(signal.SIGTERM)
-        gateway.process.wait(60)
+        gateway.stop()
         path = os.path.join(gateway.stores, "alarms.json")
         with open(path, "w") as file:
             file.write('{"version": 1')

@@ -1,25 +1,40 @@
 """Who is let in to a gateway, and what is too much."""
 import base64
+import contextlib
 import gzip
 import hashlib
 import os
+import re
+import select
 import signal
 import socket
 import tempfile
 import threading
-import time
 import unittest
 
 from gateway_server import SECOND, Gateway, OverAGateway, T, require_all
+from waiting import SECONDS, until
 
 require_all()
 
+TOKENS = "".join(f'{kind} = ["{hashlib.sha256(kind.encode()).hexdigest()}"]\n' for kind in ("read", "write"))
+
+
+def connected(gateway):
+    return socket.create_connection(("127.0.0.1", gateway.port), SECONDS)
+
+
+def answer_of(connection, count=1):
+    """What a connection is answered, until so many answers have begun, or it is hung up on."""
+    data = b""
+    with contextlib.suppress(ConnectionError):
+        while data.count(b"HTTP/1.1 ") < count and (more := connection.recv(10_000)):
+            data += more
+    return data
+
 
 class Guarded(OverAGateway):
-    SECTIONS = {
-        "tokens": "".join(f'{kind} = ["{hashlib.sha256(kind.encode()).hexdigest()}"]\n' for kind in ("read", "write")),
-        "limits": 'body = "4K"\nunpacked = "8K"\nclient_connections = 8\nclient_requests_a_second = 20\nhead_seconds = "1s"\nbody_seconds = "1s"\n',
-    }
+    SECTIONS = {"tokens": TOKENS, "limits": 'body = "4K"\nunpacked = "8K"\n'}
 
     def test_tokens(self):
         basic = base64.b64encode(b"user:write").decode()
@@ -34,23 +49,6 @@ class Guarded(OverAGateway):
         allowed = {"Authorization": "Bearer write"}
         self.assertEqual(self.gateway.write("# " + "x" * 5000, **allowed)[0], 413)
         self.assertEqual(self.gateway.write(gzip.compress(b"# " + b"x" * 10**6), Content_Encoding="gzip", **allowed)[0], 413)
-        with socket.create_connection(("127.0.0.1", self.gateway.port), 10) as slow:
-            slow.sendall(b"POST /write HTTP/1.1\r\nHost: localhost\r\nAuthorization: Bearer write\r\nContent-Length: 100\r\n\r\nw a=1")
-            self.assertIn(b" 408 ", slow.recv(1000))
-        with socket.create_connection(("127.0.0.1", self.gateway.port), 10) as silent:
-            silent.sendall(b"POST /wri")
-            self.assertEqual(silent.recv(1000), b"")
-
-    def test_limits_of_connections_and_pace(self):
-        held = [socket.create_connection(("127.0.0.1", self.gateway.port), 10) for _ in range(9)]
-        self.assertEqual(held[-1].recv(10), b"")
-        for one in held:
-            one.close()
-        time.sleep(0.2)
-        statuses = [self.gateway.ask("/ping")[0] for _ in range(60)]
-        self.assertIn(429, statuses)
-        self.assertEqual(statuses[0], 204)
-
     def test_pages_of_other_places_arent_let_in(self):
         allowed = {"Authorization": "Bearer write"}
         self.assertEqual(self.gateway.write(f"w a=1 {T}", Origin="http://elsewhere.example", **allowed)[0], 403)
@@ -58,23 +56,73 @@ class Guarded(OverAGateway):
         self.assertEqual(self.gateway.write(f"w a=1 {T}", Origin=f"http://127.0.0.1:{self.gateway.port}", **allowed)[0], 204)
 
 
+class Hurried(OverAGateway):
+    SECTIONS = {"tokens": TOKENS, "limits": 'head_seconds = "1s"\nbody_seconds = "1s"\n'}
+
+    def test_who_sends_a_part_alone_is_hung_up_on(self):
+        def slow():
+            with connected(self.gateway) as one, contextlib.suppress(ConnectionError):
+                one.sendall(b"POST /write HTTP/1.1\r\nHost: localhost\r\nAuthorization: Bearer write\r\nContent-Length: 100\r\n\r\nw a=1")
+                return answer_of(one)
+
+        # On a slow machine the head may come too late, too.
+        self.assertTrue(until(lambda: b" 408 " in (slow() or b"")))
+        with connected(self.gateway) as silent:
+            silent.sendall(b"POST /wri")
+            self.assertEqual(answer_of(silent), b"")
+
+
+class Crowded(OverAGateway):
+    SECTIONS = {"limits": "client_connections = 8\nclient_requests_a_second = 5\n"}
+
+    def test_limits_of_connections(self):
+        held = [connected(self.gateway) for _ in range(12)]
+
+        def hung_up_on():
+            return len(select.select(held, [], [], 0)[0])
+
+        # The two by which the start looked whether it listens may be counted a while longer.
+        self.assertTrue(until(lambda: 4 <= hung_up_on() <= 6), hung_up_on())
+        for one in held:
+            one.close()
+
+        def is_answered():
+            with contextlib.suppress(OSError):
+                return self.gateway.ask("/ping")[0] in (204, 429)
+
+        self.assertTrue(until(is_answered))
+
+    def test_limits_of_pace(self):
+        def statuses():
+            with connected(self.gateway) as one:
+                one.sendall(b"GET /ping HTTP/1.1\r\nHost: localhost\r\n\r\n" * 60)
+                return re.findall(rb"HTTP/1.1 (\d+) ", answer_of(one, 60))
+
+        first = statuses()
+        self.assertEqual((len(first), first[0]), (60, b"204"))
+        self.assertTrue(until(lambda: b"429" in first or b"429" in statuses()))
+
+
 class Busy(unittest.TestCase):
     def test_who_takes_no_answer_is_hung_up_on(self):
-        with tempfile.TemporaryDirectory() as folder:
-            gateway = Gateway(folder, {"read": 'at_once = 1\nseconds = "9s"\nlookback = "1d"'}, SECOND).start()
+        # Where a slow machine makes no such answer in time it has more time at another try.
+        self.assertTrue(any(map(self.is_hung_up_on, (9, 60, 240))))
+
+    def is_hung_up_on(self, seconds):
+        """Whether one who asks for much, and takes nothing of it, is hung up on; an answer that isn't made in so many seconds is a 503."""
+        with tempfile.TemporaryDirectory() as folder, socket.socket() as slow:
+            gateway = Gateway(folder, {"read": f'at_once = 1\nseconds = "{seconds}s"\nlookback = "1d"'}, SECOND).start()
             try:
                 self.assertEqual(gateway.write("\n".join(f"w,n={at} v={at} {T}" for at in range(60)))[0], 204)
-                slow = socket.socket()
-                self.addCleanup(slow.close)
                 slow.setsockopt(socket.SOL_SOCKET, socket.SO_RCVBUF, 4096)
                 slow.connect(("127.0.0.1", gateway.port))
                 slow.sendall(f"GET /api/v1/query_range?query=w_v&start={T}&end={T + 10_000}&step=1 HTTP/1.1\r\nHost: localhost\r\n\r\n".encode())
-                broken, ends = 'zurtkvani_gateway_requests_total{path="/api/v1/query_range",status="499"}', time.monotonic() + 200
-                while broken not in gateway.metrics():
-                    self.assertLess(time.monotonic(), ends)
-                    time.sleep(0.2)
-                self.assertEqual(gateway.ask(f"/api/v1/query?query=w_v&time={T}")[0], 200)
+                path = 'zurtkvani_gateway_requests_total{path="/api/v1/query_range",status='
+                found = until(lambda: [name for name in gateway.metrics() if name.startswith(path)], 2 * SECONDS)
+                self.assertIn(found, ([path + '"499"}'], [path + '"503"}']))
+                self.assertTrue(until(lambda: gateway.ask(f"/api/v1/query?query=w_v&time={T}")[0] == 200))
                 self.assertEqual([line for line in gateway.told().splitlines() if not line.startswith("{")], [])
+                return found == [path + '"499"}']
             finally:
                 gateway.close()
 
@@ -82,16 +130,21 @@ class Busy(unittest.TestCase):
         with tempfile.TemporaryDirectory() as folder:
             gateway = Gateway(folder, {"write": 'waiting_points = 1000\nseconds = "2s"'}, SECOND).start()
             try:
-                self.assertEqual(gateway.write(f"w v=0 {T}")[0], 204)
+                # On a slow machine two seconds may be too few.
+                self.assertTrue(until(lambda: gateway.write(f"w v=0 {T}")[0] == 204))
                 (child,) = gateway.children()
                 os.kill(child, signal.SIGSTOP)
                 lines = ["\n".join(f"w v={at} {T + number * 1000 + at}" for at in range(900)) for number in range(4)]
                 waiting = [threading.Thread(target=gateway.write, args=(one,)) for one in lines[:3]]
                 for one in waiting:
                     one.start()
-                time.sleep(0.7)
-                status, text, headers = gateway.ask("/write?precision=s", lines[3])
-                self.assertEqual((status, headers.get("Retry-After")), (503, "1"), text)
+
+                def sent_away():
+                    status, _, headers = gateway.ask("/write?precision=s", lines[3])
+                    self.assertEqual(status, 503)
+                    return headers["Retry-After"] == "1"
+
+                self.assertTrue(until(sent_away))
                 self.assertEqual(gateway.ask("/healthz")[0], 200)
                 for one in waiting:
                     one.join()
@@ -99,10 +152,7 @@ class Busy(unittest.TestCase):
                 self.assertEqual(gateway.write(lines[-1])[0], 503)
                 os.kill(child, signal.SIGCONT)
                 for one in lines:
-                    ends = time.monotonic() + 30
-                    while gateway.write(one)[0] != 204:
-                        self.assertLess(time.monotonic(), ends)
-                        time.sleep(0.1)
+                    self.assertTrue(until(lambda: gateway.write(one)[0] == 204))
                 self.assertEqual(gateway.stop(), 0)
                 self.assertEqual((len(gateway.exported("w_v")), gateway.exported("fresh_v")), (3600, {T: "1.00"}))
             finally:
@@ -125,13 +175,12 @@ class Busy(unittest.TestCase):
             try:
                 bad = threading.Thread(target=gateway.write, args=(gzip.compress(b"bad\n" * 2**20),), kwargs={"Content_Encoding": "gzip"})
                 bad.start()
-                slowest = 0
+                others = 0
                 while bad.is_alive():
-                    begun = time.monotonic()
                     self.assertEqual(gateway.ask("/ping")[0], 204)
-                    slowest = max(slowest, time.monotonic() - begun)
+                    others += bad.is_alive()
                 bad.join()
-                self.assertLess(slowest, 2)
+                self.assertGreater(others, 9)
             finally:
                 gateway.close()
 

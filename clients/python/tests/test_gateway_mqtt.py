@@ -1,5 +1,6 @@
 """The gateway's client of MQTT, over a small broker of this file: what a message comes to, and that none is acknowledged before it is stored."""
 import asyncio
+import contextlib
 import json
 import os
 import random
@@ -11,7 +12,8 @@ import threading
 import time
 import unittest
 
-from gateway_server import SECONDS, Gateway, T, require_all
+from gateway_server import Gateway, T, require_all
+from waiting import until
 
 require_all()
 
@@ -30,8 +32,10 @@ class Broker(threading.Thread):
         super().__init__(daemon=True)
         self.listening = socket.create_server(("127.0.0.1", 0))
         self.port = self.listening.getsockname()[1]
-        self.free, self.number = threading.Lock(), 0
-        self.unacknowledged, self.acknowledged, self.published, self.connects = {}, [], [], 0
+        self.free, self.sent, self.number = threading.Lock(), 0, 0
+        self.unacknowledged = {}  # by their numbers, which come again behind 65,535: which message it is, its topic and its payload
+        self.acknowledged, self.published = [], []
+        self.connects = self.pings = 0  # the pings are those of the last connection that were answered
         self.client = self.connect = self.filters = None
         self.is_taking = True  # whether it acknowledges what is published to it
         self.is_alive = True  # whether it answers pings
@@ -62,20 +66,20 @@ class Broker(threading.Thread):
                     break
             body = self.read(file, length)
             if head >> 4 == 1:
-                self.connect, self.connects = body, self.connects + 1
+                self.connect, self.connects, self.pings = body, self.connects + 1, 0
                 client.sendall(b"\x20\2\1\0")
             elif head == 0x82:
                 self.filters = body[2:]
                 client.sendall(b"\x90\3" + body[:2] + b"\1")
                 with self.free:
                     self.client = client
-                    for number, (topic, payload) in self.unacknowledged.items():
+                    for number, (_, topic, payload) in self.unacknowledged.items():
                         client.sendall(self.message(number, topic, payload, 0x3A))
             elif head >> 4 == 4:
                 with self.free:
-                    number = struct.unpack(">H", body)[0]
-                    self.unacknowledged.pop(number, None)
-                    self.acknowledged.append(number)
+                    message = self.unacknowledged.pop(struct.unpack(">H", body)[0], None)
+                    if message:
+                        self.acknowledged.append(message[0])
             elif head >> 4 == 3:
                 (count,) = struct.unpack(">H", body[:2])
                 self.published.append((body[2 : 2 + count].decode(), json.loads(body[4 + count :])))
@@ -83,6 +87,7 @@ class Broker(threading.Thread):
                     client.sendall(b"\x40\2" + body[2 + count : 4 + count])
             elif head >> 4 == 12 and self.is_alive:
                 client.sendall(b"\xd0\0")
+                self.pings += 1
 
     @staticmethod
     def read(file, count):
@@ -97,28 +102,31 @@ class Broker(threading.Thread):
         return mqtt_packets.packet(head >> 4, body, head & 15)
 
     def send(self, topic, payload, head=0x32):
-        """Sends a message with QoS 1, and gives its number."""
+        """Sends a message with QoS 1, and gives which one it is, by which it is among those that are acknowledged then."""
         with self.free:
-            self.number += 1
-            self.unacknowledged[self.number] = topic, payload
+            while (number := self.number % 65535 + 1) in self.unacknowledged:
+                self.number = number
+            self.number, self.sent = number, self.sent + 1
+            self.unacknowledged[number] = self.sent, topic, payload
             if self.client:
                 try:
-                    self.client.sendall(self.message(self.number, topic, payload, head))
+                    self.client.sendall(self.message(number, topic, payload, head))
                 except OSError:
                     pass
-            return self.number
+            return self.sent
+
+    def hang_up(self):
+        """Ends the connection, where there is one, and waits until it has ended."""
+        with self.free:
+            client = self.client
+            if client:
+                client.shutdown(socket.SHUT_RDWR)
+        return until(lambda: self.client is not client or client is None)
 
     def close(self):
+        with contextlib.suppress(OSError):
+            self.listening.shutdown(socket.SHUT_RDWR)  # for who waits in `accept`
         self.listening.close()
-
-
-def until(holds, seconds=SECONDS):
-    ends = time.monotonic() + seconds
-    while time.monotonic() < ends:
-        if holds():
-            return True
-        time.sleep(0.02)
-    return holds()
 
 
 class Packets(unittest.TestCase):
@@ -249,31 +257,36 @@ class OverABroker(unittest.TestCase):
     def test_kills_lose_nothing_that_was_acknowledged(self):
         gateway = self.over(TOPIC.format("plant/#", "temp") + JSON, 'keep_alive = "2s"')
         draw, sent, ends = random.Random(2), {}, threading.Event()
+        pauses = [0.2 + 0.3 * draw.random() for _ in range(9)]
 
         def send():
-            while not ends.is_set() and len(sent) < 20_000:
+            # As long as the kills take, and at most a thousand messages a second, so that no store is full before.
+            while not ends.wait(0.001):
                 if len(self.broker.unacknowledged) < 40:
                     at, value = T + len(sent), draw.randrange(1000)
                     sent[at] = value, self.broker.send("plant/x", self.object(value, at))
-                else:
-                    time.sleep(0.002)
 
-        sender = threading.Thread(target=send)
+        def taken():
+            return len(self.broker.acknowledged)
+
+        sender = threading.Thread(target=send, daemon=True)
+        self.addCleanup(ends.set)
         sender.start()
-        for kill in range(9):
-            time.sleep(0.2 + 0.3 * draw.random())
-            before = len(self.broker.acknowledged)
+        self.assertTrue(until(lambda: taken() > 5), "messages are taken")
+        for kill, pause in enumerate(pauses):
+            time.sleep(pause)
             if kill % 3 == 0:
                 gateway.kill()
+                self.assertTrue(until(lambda: self.broker.client is None))
+                before = taken()
                 gateway.start()
             elif kill % 3 == 1:
-                for child in gateway.children():
-                    os.kill(child, signal.SIGKILL)
+                gateway.kill_runs()
+                before = taken()
             else:
-                with self.broker.free:
-                    if self.broker.client:
-                        self.broker.client.shutdown(socket.SHUT_RDWR)
-            self.assertTrue(until(lambda: len(self.broker.acknowledged) > before + 5), "messages are taken behind a kill")
+                self.assertTrue(self.broker.hang_up())
+                before = taken()
+            self.assertTrue(until(lambda: taken() > before + 5), f"messages are taken behind a kill: {before}, {taken()}\n{gateway.told()[-3000:]}")
         ends.set()
         sender.join()
         gateway.kill()
@@ -282,21 +295,20 @@ class OverABroker(unittest.TestCase):
         (name,) = gateway.listed()
         stored = {at: float(value) for at, value in gateway.exported(name).items()}
         acknowledged = set(self.broker.acknowledged)
-        lost = [at for at, (value, number) in sent.items() if number in acknowledged and stored.get(at) != value]
+        lost = [at for at, (value, message) in sent.items() if message in acknowledged and stored.get(at) != value]
         self.assertEqual(lost, [])
         self.assertEqual([at for at, value in stored.items() if sent[at][0] != value], [])
         self.assertGreater(len(acknowledged), 50)
 
     def test_a_broker_that_gives_no_sign_of_life_is_left_and_told(self):
         gateway = self.over(TOPIC.format("a", "b"), 'keep_alive = "4s"')
-        self.assertEqual(gateway.ask("/healthz")[0], 200)
-        time.sleep(7)
-        self.assertEqual(self.broker.connects, 1)
-        self.broker.is_alive = False
-        self.assertTrue(until(lambda: self.broker.connects == 2 and self.broker.client))
+        self.assertTrue(until(lambda: gateway.ask("/healthz")[0] == 200))
+        # Three times the two seconds between two pings are the longest that a connection has without an answer.
+        self.assertTrue(until(lambda: self.broker.pings > 4), "a connection stays whose pings are answered")
+        self.broker.is_alive, connects = False, self.broker.connects
+        self.assertTrue(until(lambda: self.broker.connects > connects and self.broker.client), "one stays not whose pings are answered no more")
         self.broker.close()
-        with self.broker.free:
-            self.broker.client.shutdown(socket.SHUT_RDWR)
+        self.broker.hang_up()
         self.assertTrue(until(lambda: gateway.ask("/healthz")[0] == 503))
         self.assertIn(b"mqtt", gateway.ask("/healthz")[1])
         self.assertEqual(gateway.write(f"w v=1 {T}")[0], 204)
@@ -307,8 +319,7 @@ class OverABroker(unittest.TestCase):
         self.assertEqual(gateway.write(f"w v=9 {T}")[0], 204)
         self.assertTrue(until(lambda: len(self.broker.published) == 1))
         self.broker.is_taking = True
-        with self.broker.free:
-            self.broker.client.shutdown(socket.SHUT_RDWR)
+        self.assertTrue(self.broker.hang_up())
         self.assertTrue(until(lambda: len(self.broker.published) == 2), "what wasn't acknowledged is published again")
         self.assertEqual(gateway.write(f"w v=1 {T + 1}")[0], 204)
         self.assertTrue(until(lambda: len(self.broker.published) == 3))

@@ -1,5 +1,6 @@
 """The stores of a gateway: retention, backups, further ones, and those that can't be worked on."""
 import contextlib
+import fcntl
 import io
 import json
 import os
@@ -10,6 +11,7 @@ import time
 import unittest
 
 from gateway_server import PROGRAM, SECOND, Gateway, OverAGateway, T, require_all
+from waiting import until
 
 require_all()
 
@@ -25,9 +27,7 @@ class Kept(OverAGateway):
         now = int(time.time())
         times = [now - 90 * 86_400, now - 9000, now - 5000, now - 100, now]
         self.require_written("\n".join(f"{name} v=1 {at}" for name in ("old", "new") for at in times))
-        ends = time.monotonic() + 30
-        while time.monotonic() < ends and len(self.values("old_v[400d]", now + 1).get('{"__name__": "old_v"}', ())) > 2:
-            time.sleep(0.3)
+        self.assertTrue(until(lambda: len(self.values("old_v[400d]", now + 1)['{"__name__": "old_v"}']) == 2))
         self.require_written(f"old v=2 {now + 1}")
         self.assertEqual(self.gateway.stop(), 0)
         self.assertEqual(sorted(self.gateway.exported("old_v")), [now - 100, now, now + 1])
@@ -58,15 +58,16 @@ class Backups(OverAGateway):
         answered, sent, ends = [], [], threading.Event()
 
         def write():
-            while not ends.is_set() and len(sent) < 20_000:
+            while not ends.wait(0.005):
                 part = list(range(len(sent), len(sent) + 50))
                 sent.extend(part)
                 if self.gateway.write("\n".join(f"w,n={at % 7} v={at} {T + at}" for at in part))[0] == 204:
                     answered.extend(part)
 
-        writer = threading.Thread(target=write)
+        writer = threading.Thread(target=write, daemon=True)
+        self.addCleanup(ends.set)
         writer.start()
-        time.sleep(0.5)
+        self.assertTrue(until(lambda: answered))
         bounds = []
         for _ in range(3):
             before = list(answered)
@@ -117,6 +118,25 @@ class Growing(unittest.TestCase):
                 self.assertEqual(gateway.stop(), 0)
                 listed = [name for store in "abc" for name in gateway.listed(f"{store}.store")]
                 self.assertEqual((len(listed), len(set(listed))), (90, 90))
+            finally:
+                gateway.close()
+
+    def test_a_series_is_made_though_the_run_ends_meanwhile(self):
+        with tempfile.TemporaryDirectory() as folder:
+            gateway = Gateway(folder, {}, SECOND).start()
+            try:
+                self.assertEqual(gateway.write(f"w v=1 {T}")[0], 204)
+                (child,) = gateway.children()
+                os.kill(child, signal.SIGSTOP)
+                answers = []
+                writing = threading.Thread(target=lambda: answers.append(gateway.write(f"fresh v=1 {T}")))
+                writing.start()
+                time.sleep(0.5)
+                os.kill(child, signal.SIGKILL)
+                writing.join()
+                self.assertEqual(answers, [(204, "")])
+                self.assertEqual(gateway.stop(), 0)
+                self.assertEqual(gateway.exported("fresh_v"), {T: "1.00"})
             finally:
                 gateway.close()
 
@@ -185,6 +205,28 @@ class Broken(unittest.TestCase):
                 self.assertEqual(gateway.stop(), 0)
                 self.assertGreater(len(answered), 2000)
                 self.assertLessEqual(answered.items(), gateway.exported("w_v").items())
+            finally:
+                gateway.close()
+
+    def test_a_store_that_another_run_holds_is_waited_for(self):
+        with tempfile.TemporaryDirectory() as folder:
+            runs = os.path.join(folder, "runs")
+            gateway = Gateway(folder, {}, SECOND, program=script(folder, f'echo "$2" >> {runs}\nexec PROGRAM "$@"')).start()
+            try:
+                self.assertEqual(gateway.write(f"w v=1 {T}")[0], 204)
+                self.assertEqual(gateway.stop(), 0)
+                with open(os.path.join(gateway.stores, "gateway.store"), "rb") as store, open(runs) as told:
+                    fcntl.flock(store, fcntl.LOCK_EX)
+                    before = told.read()
+                    starting = threading.Thread(target=gateway.start)
+                    starting.start()
+                    self.assertTrue(until(lambda: gateway.process.poll() is None and gateway.events("a run ended")))
+                    told.seek(0)
+                    self.assertEqual(told.read(), before, "no run is started beside another one")
+                starting.join()
+                self.assertEqual(gateway.write(f"w v=2 {T + 1}")[0], 204)
+                self.assertEqual(gateway.stop(), 0)
+                self.assertEqual(gateway.exported("w_v"), {T: "1.00", T + 1: "2.00"})
             finally:
                 gateway.close()
 

@@ -9,6 +9,7 @@ import zlib
 from decimal import Decimal
 
 from gateway_server import OverAGateway, T, require_all
+from waiting import SECONDS
 from test_gateway_points import message_of
 
 require_all()
@@ -95,7 +96,7 @@ class Writes(OverAGateway):
 
     def test_random_writes_by_many_at_once_are_what_is_stored(self):
         draw, model = random.Random(3), {}
-        clients = [http.client.HTTPConnection("127.0.0.1", self.gateway.port, timeout=60) for _ in range(4)]
+        clients = [http.client.HTTPConnection("127.0.0.1", self.gateway.port, timeout=SECONDS) for _ in range(4)]
         for _ in range(20):
             for number, client in enumerate(clients):  # each its own series, so the order of two clients doesn't matter
                 points = [(f"s{number}_{draw.randrange(20)}", T + draw.randrange(5000), draw.randrange(-10**6, 10**6)) for _ in range(200)]

@@ -16,6 +16,8 @@ import unittest
 from datetime import datetime, timedelta, timezone
 from unittest import mock
 
+from waiting import SECONDS, until
+
 ROOT = os.path.dirname(os.path.dirname(os.path.dirname(os.path.dirname(os.path.realpath(__file__)))))
 PROGRAM = os.path.join(ROOT, "crates/chart_program/out/chart_program")
 sys.path.insert(0, os.path.join(ROOT, "clients/python"))
@@ -231,10 +233,16 @@ class Imports(unittest.TestCase):
     def test_a_bar_on_a_terminal(self):
         self.assertEqual(bar(1500, 0.5, 3), f"[{'#' * 15}{'.' * 15}]  50%  1,500 rows, 500 a second, 0:03 left")
         self.assertEqual(bar(1500, None, 3), "1,500 rows, 500 a second")
-        path = self.file("t,v\n" + "".join(f"{at},{at}\n" for at in range(200_000)))
+        path = os.path.join(self.folder, "a.csv")
         words = ["zurtkvani_client.readings", "--step", "1", path], ["zurtkvani_client", "import", path, "--store", self.path, "--dry-run"]
         for command_words in words:
-            self.assertRegex(shown_on_a_terminal(command_words), r"\[#+\.+\] +\d+%  [\d,]+ rows, [\d,]+ a second, \d+:\d\d left")
+            # A bar is shown behind 0.2 seconds, in which a fast machine reads many rows.
+            for count in (200_000, 800_000, 3_200_000, 12_800_000):
+                self.file("t,v\n" + "".join(f"{at},{at}\n" for at in range(count)))
+                told = shown_on_a_terminal(command_words)
+                if "left" in told:
+                    break
+            self.assertRegex(told, r"\[#+\.+\] +\d+%  [\d,]+ rows, [\d,]+ a second, \d+:\d\d left")
 
     def test_no_rows(self):
         for text in ("", "\n\n", "t,v\n"):
@@ -260,12 +268,19 @@ class Imports(unittest.TestCase):
         self.assertEqual(status, 1)
         self.assertIn("Full", told)
 
+    def is_released(self):
+        """Whether no run holds the store any more, as one whose parent was killed, until it has read its input's end."""
+        with contextlib.suppress(Exception):
+            return bool(self.series())
+
     def test_interrupted_and_run_again_it_ends_as_if_it_had_run_once(self):
         text = "t,v,w\n" + "".join(f"{1793491200 + at},{at / 4},{-at}\n" for at in range(120_000))
         once, again = self.path, os.path.join(self.folder, "b.store")
         self.assertEqual(self.taken(text)[0], 0)
         words = lambda file: [sys.executable, "-m", "zurtkvani_client", "import", file, "--store", again, "--program", PROGRAM]
         how = {"cwd": os.path.join(ROOT, "clients/python"), "stdout": subprocess.DEVNULL, "stderr": subprocess.DEVNULL}
+        # Who was started in a shell's background has Control-C ignored, and so have its children.
+        how["preexec_fn"] = lambda: signal.signal(signal.SIGINT, signal.SIG_DFL)
         for end in (signal.SIGINT, signal.SIGTERM, signal.SIGKILL):
             child = subprocess.Popen(words("-"), stdin=subprocess.PIPE, **how)
             # All but what a pipe holds was read then, and the child waits for more.
@@ -273,13 +288,10 @@ class Imports(unittest.TestCase):
             child.stdin.flush()
             self.assertTrue(os.path.exists(again))
             child.send_signal(end)
-            self.assertNotEqual(child.wait(), 0)
+            self.assertNotEqual(child.wait(SECONDS), 0)
             child.stdin.close()
             self.path = again
-            while True:
-                with contextlib.suppress(Exception):
-                    self.series()
-                    break
+            self.assertTrue(until(self.is_released))
         subprocess.run(words(os.path.join(self.folder, "a.csv")), check=True, **how)
         for name in "vw":
             self.path = once

@@ -10,6 +10,8 @@ import sys
 import tempfile
 import unittest
 
+from waiting import SECONDS
+
 ROOT = os.path.dirname(os.path.dirname(os.path.dirname(os.path.dirname(os.path.realpath(__file__)))))
 PROGRAM = os.path.join(ROOT, "crates/chart_program/out/chart_program")
 sys.path.insert(0, os.path.join(ROOT, "clients/python"))
@@ -139,8 +141,10 @@ class Pandas(unittest.TestCase):
         path = os.path.join(self.folder, "a.ipynb")
         with open(path, "w", encoding="utf-8") as file:
             json.dump(notebooks.new_notebook(cells=[notebooks.new_code_cell(source)]), file)
-        run = [sys.executable, "-m", "nbconvert", "--to", "notebook", "--execute", "--inplace", path]
-        done = subprocess.run(run, stdout=subprocess.PIPE, stderr=subprocess.STDOUT, text=True)
+        guards = [f"--ExecutePreprocessor.{name}={SECONDS}" for name in ("timeout", "startup_timeout")]
+        run = [sys.executable, "-m", "nbconvert", "--to", "notebook", "--execute", "--inplace", *guards, path]
+        # What it keeps in somebody's folder it keeps in that of the test.
+        done = subprocess.run(run, stdout=subprocess.PIPE, stderr=subprocess.STDOUT, text=True, env={**os.environ, "HOME": self.folder})
         self.assertEqual(done.returncode, 0, done.stdout)
         with open(path, encoding="utf-8") as file:
             data = json.load(file)["cells"][0]["outputs"][0]["data"]

@@ -1,4 +1,5 @@
 """Readings with dates, to the lines of `load`; and the example of the README."""
+import importlib.util
 import io
 import os
 import re
@@ -96,6 +97,7 @@ class Readings(unittest.TestCase):
 
 
 class Readme(unittest.TestCase):
+    @unittest.skipUnless(importlib.util.find_spec("ensurepip"), "there is no ensurepip, of Debian's python3-venv")
     def test_its_examples_run_as_typed(self):
         with open(os.path.join(ROOT, "clients/python/README.md"), encoding="utf-8") as file:
             text = file.read()
@@ -104,8 +106,8 @@ class Readme(unittest.TestCase):
         with tempfile.TemporaryDirectory() as folder:
             os.symlink(PROGRAM, os.path.join(folder, "chart"))
             subprocess.run([sys.executable, "-m", "venv", os.path.join(folder, "env")], check=True)
-            pip = [os.path.join(folder, "env/bin/pip"), "install", "-q", "--no-index", "--disable-pip-version-check", os.path.join(ROOT, "clients/python")]
-            subprocess.run(pip, check=True)
+            pip = [os.path.join(folder, "env/bin/pip"), "--isolated", "--no-cache-dir", "--disable-pip-version-check"]
+            subprocess.run([*pip, "install", "-q", "--no-index", os.path.join(ROOT, "clients/python")], check=True)
             for commands, shown in examples:
                 done = subprocess.run(["bash", "-c", commands], cwd=folder, stdout=subprocess.PIPE, stderr=subprocess.STDOUT, text=True)
                 self.assertEqual(done.stdout, re.sub("^    ", "", shown, flags=re.MULTILINE))

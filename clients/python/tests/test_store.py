@@ -11,6 +11,8 @@ import zlib
 from random import Random
 from unittest import mock
 
+from waiting import until
+
 ROOT = os.path.dirname(os.path.dirname(os.path.dirname(os.path.dirname(os.path.realpath(__file__)))))
 PROGRAM = os.path.join(ROOT, "crates/chart_program/out/chart_program")
 sys.path.insert(0, os.path.join(ROOT, "clients/python"))
@@ -242,13 +244,12 @@ class OverAStore(unittest.TestCase):
                 for picture in store.follow("a", 20, 10):
                     seen.append((picture.window, picture.hi))
 
-            looking = threading.Thread(target=look)
+            looking = threading.Thread(target=look, daemon=True)
             looking.start()
             for value in range(1, 50):
                 store.append("a", [value])
                 time.sleep(0.001)
-            while seen[-1:] != [((0, 50), 49)]:
-                time.sleep(0.01)
+            self.assertTrue(until(lambda: seen[-1:] == [((0, 50), 49)]))
         looking.join()
         self.assertEqual(seen, sorted(set(seen)))
         self.assertTrue(all(window[1] == hi + 1 for window, hi in seen))

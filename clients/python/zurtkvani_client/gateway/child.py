@@ -36,6 +36,11 @@ class Lost(Exception):
     """The run ended before all lines of a turn were answered. Lines of edits may be sent again: done twice, they do what they do once."""
 
 
+class Held(Ended):
+    """No run was started, since another one holds the store. (Of one that is started beside it nobody could tell whether a sync of its own failed,
+    where the other one ends just behind it.)"""
+
+
 class Run:
     """One `PROGRAM PATH serve`."""
 
@@ -211,7 +216,8 @@ class Keeper:
     async def _live(self):
         """One run from its start to its end; gives how it ended, None where another hand ended it."""
         try:
-            await until_released(self.path)
+            if not await until_released(self.path):
+                return Held(6, 0, "serve", self.path)
             self.series = await asyncio.to_thread(Store(self.path, self.program).series)
             run = await Run.start(self.program, self.path)
         except Ended as end:
@@ -233,7 +239,7 @@ class Keeper:
         if end.status in DAMAGED:
             return str(end)
         # A sync may have failed, and a run behind it would take for stored what never reached the medium: docs/FORMATS.md tells why.
-        if end.status == 6 and not is_held(self.path):
+        if end.status == 6 and not isinstance(end, Held) and not is_held(self.path):
             return str(end)
         return f"{MOST_SOON} runs in a row ended at once: {end}" if soon >= MOST_SOON else None
 
@@ -258,11 +264,12 @@ def is_held(path):
 
 
 async def until_released(path, seconds=10):
-    """Waits until no other run holds the store, as one that ends by itself now that its gateway was killed."""
+    """Waits until no other run holds the store, as one that ends by itself now that its gateway was killed. Tells whether none does."""
     for _ in range(int(seconds / PAUSE)):
         if not is_held(path):
-            return
+            return True
         await asyncio.sleep(PAUSE)
+    return False
 
 
 def done_or_refused(frame):

@@ -16,6 +16,7 @@ from .replacing import sync_folder
 from .rules import grid_for, rule_for
 
 MOST_SERIES = 512  # of a store
+MOST_LOST = 8  # runs that end while they make series, until those who asked for them are told
 START_SECONDS = 30  # until a run that is started again stands
 MOST_LABELS = 4000  # bytes of a series' labels
 FULL, EXISTS, TOO_MANY = 21, 9, 10  # refusals
@@ -131,16 +132,18 @@ class Stores:
             await asyncio.to_thread(self.names.add, pairs, self.inner.__contains__)
 
     async def _create(self, grids):
-        # A run that is started again may have made some of them, which it lists then: so none is made twice.
-        await asyncio.gather(*(asyncio.wait_for(keeper.is_up.wait(), START_SECONDS) for keeper in self.keepers))
+        lost = 0
         while grids := {key: grid for key, grid in grids.items() if key not in self.by_key}:
+            # A run that is started again may have made some of them, which it lists then: so none is made twice.
+            await asyncio.gather(*(asyncio.wait_for(keeper.is_up.wait(), START_SECONDS) for keeper in self.keepers))
             keepers = await self._keepers_with_room()
             # Spread over all of them, since stores that are written side by side take less time than one.
             share, left = -(-len(grids) // len(keepers)), iter(grids.items())
             parts = [dict(itertools.islice(left, min(share, MOST_SERIES - self.count(keeper)))) for keeper in keepers]
             works = [self._create_in(keeper, part) for keeper, part in zip(keepers, parts) if part]
             for why in await asyncio.gather(*works, return_exceptions=True):
-                if why:
+                lost += isinstance(why, child.Lost)
+                if why and (not isinstance(why, child.Lost) or lost > MOST_LOST):
                     raise why
 
     def count(self, keeper):
