@@ -55,8 +55,8 @@ def of_a_point_each(client, at):
     return "".join(f"o,host=h{client},part=p{n} v={NUMBERS[(at * 7 + n) % len(NUMBERS)]} {T + at}\n" for n in range(SMALL))
 
 
-QUERIED = 10**7  # slots of the series whose ranges are asked for, a second each
-BLOCKS = 131072  # of a store that has room for it
+QUERIED = 10**6  # slots of the series whose ranges are asked for, a second each
+BLOCKS = 16384  # of a store that has room for it
 STEPS, ASKS, SECONDS = 1000, 100, 20  # of a range; queries of a kind; until no further one is asked
 KINDS = {
     "5,000 points of one series": (of_one_series, BATCH, POINTS), "5,000 points of 100 series": (of_a_hundred, BATCH, POINTS),

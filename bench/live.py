@@ -6,7 +6,7 @@ import time
 
 from measuring import HEIGHT, PROGRAM, WIDTH, build_store, lines_of_series, walk
 
-COUNT, BLOCKS, ROUNDS = 10**6, 16384, 100
+COUNT, BLOCKS, ROUNDS = 10**6, 16384, 30
 FOLLOWERS = (1, 16)
 MORE = 1000  # slots of the window that are still to come
 CACHE = 131072  # the largest: a view of WIDTH columns may need (3 * WIDTH + 1) * 35 coefficients
