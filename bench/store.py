@@ -6,7 +6,7 @@ import sqlite3
 import subprocess
 import sys
 
-from measuring import HEIGHT, LINE, PROGRAM, WIDTH, build_store, counted_calls, least_processor, least_seconds, lines_of_series, make_store, measure, walk
+from measuring import HEIGHT, LINE, PROGRAM, WIDTH, build_store, counted_calls, least_processor, least_seconds, lines_of_series, measure, walk
 
 SYNCS = ("fsync", "fdatasync", "msync", "sync_file_range")
 READS = ("pread64",)
