@@ -1,4 +1,4 @@
-"""How long clients take from a view's frame to its picture: the proved one as a library and as a module, and those by hand. See bench/run."""
+"""How long of the processor clients take from a view's frame to its picture: the proved one as a library and as a module, and those by hand. See bench/run."""
 import io
 import os
 import shutil
@@ -19,17 +19,17 @@ MODULE = os.environ.get("CHART_MODULE", f"{ROOT}/dist/chart_client.wasm")
 
 
 def python_times(client_over):
-    """Of each view the milliseconds from the bytes of its frame to its picture, and those of them that go into the values of its columns."""
+    """Of each view the milliseconds of the processor from the bytes of its frame to its picture, and those of them that go into the values of its columns."""
     with open("frames", "rb") as file:
         client = client_over(io.BytesIO(file.read()))
     for _ in range(VIEWS):
         client.accept()
-        start = time.perf_counter()
+        start = time.process_time()
         picture = client.accept()[1]
-        drawn = time.perf_counter()
+        drawn = time.process_time()
         if isinstance(client, Proved):
             client.values(picture.w)
-        yield 1000 * (drawn - start), 1000 * (time.perf_counter() - drawn)
+        yield 1000 * (drawn - start), 1000 * (time.process_time() - drawn)
         client.accept()
 
 
@@ -57,11 +57,11 @@ def measure_clients():
     times = {name: [] for name, _ in ways()}
     drawn = []
     for _ in range(ROUNDS):
-        drawn.append(1000 * measure([PROGRAM, "-", "draw"], "frames")[0] / VIEWS)
+        drawn.append(1000 * measure([PROGRAM, "-", "draw"], "frames")[3] / VIEWS)
         for name, way in ways():
             if callable(way):
                 times[name] += way()
-    print(f"from a frame to its picture: first views of {COUNT} slots of a random walk, {WIDTH} by {HEIGHT} pixels, {VIEWS} in each of {ROUNDS} rounds")
+    print(f"processor milliseconds from a frame to its picture: first views of {COUNT} slots of a random walk, {WIDTH} by {HEIGHT} pixels, {VIEWS} in each of {ROUNDS} rounds")
     print(f"{'client':38}{'median ms':>10}{'least ms':>10}{'of it columns':>15}")
     print(f"{'`draw`, with its start':38}{statistics.median(drawn):10.2f}{min(drawn):10.2f}")
     for name, way in ways():

@@ -2,7 +2,7 @@
 import io
 import os
 
-from measuring import HEIGHT, PROGRAM, WIDTH, build_store, least_seconds, lines_of_series, measure
+from measuring import HEIGHT, PROGRAM, WIDTH, build_store, least_processor, lines_of_series, measure
 from views import BLOCKS, output_of, series, view, write_lines
 
 SHARES = (0, 1, 5, 10, 25, 50)  # per cent of the coefficients
@@ -20,7 +20,7 @@ def black_of(pictures):
 
 def measure_cover():
     print(f"views of all slots, {WIDTH} by {HEIGHT} pixels: black pixels of the cover over those of the picture, by the share of the coefficients that are")
-    print(f"taken; and the least milliseconds of a picture by `draw`, and of a cover by `cover`, of {COVERS} equally spaced ones a view ({VIEWS} views, {ROUNDS} rounds)")
+    print(f"taken; and the least processor milliseconds of a picture by `draw`, and of a cover by `cover`, of {COVERS} equally spaced ones a view ({VIEWS} views, {ROUNDS} rounds)")
     print(f"{'series':28}{'sent':>8}" + "".join(f"{share:>7}%" for share in SHARES) + f"{'picture':>9}{'cover':>7}{'ratio':>7}")
     for name, values in series():
         build_store("cover.store", BLOCKS, lines_of_series(values))
@@ -32,7 +32,7 @@ def measure_cover():
         *covers, picture = list(black_of(output_of([PROGRAM, "-", "cover", str(every)], "frames")))[: -(-sent // every) + 1]
         words = {"draw": [PROGRAM, "-", "draw"], "cover": [PROGRAM, "-", "cover", str(-(-sent // COVERS))]}
         runs = {way: [measure(run, "frames") for _ in range(ROUNDS)] for way, run in words.items()}
-        least = least_seconds(runs)
+        least = least_processor(runs)
         drawn = 1000 * least["draw"] / VIEWS
         covered = 1000 * (least["cover"] - least["draw"]) / (VIEWS * -(-sent // -(-sent // COVERS)))
         shares = "".join(f"{covers[share] / picture:8.2f}" for share in SHARES)

@@ -7,7 +7,7 @@ import sqlite3
 import subprocess
 import sys
 
-from measuring import HEIGHT, PROGRAM, ROOT, WIDTH, build_store, counted_calls, least_seconds, lines_of_series, measure_all, walk
+from measuring import HEIGHT, PROGRAM, ROOT, WIDTH, build_store, counted_calls, least_processor, lines_of_series, measure_all, walk
 
 COUNT, BLOCKS = 10**6, 32768
 READS = ("pread64",)
@@ -57,7 +57,7 @@ def measure_derive():
     derive = [PROGRAM, "pair.store", "derive"]
     print(f"the sum of two series of {COUNT} slots, {HEIGHT} pixels high, the least of {ROUNDS} rounds: `derive` over a store whose trees have {2 * -(-COUNT // 128)} lowest pages; a C program")
     print(f"over two files of 64-bit numbers, and sqlite {sqlite3.sqlite_version} from Python, which tell the least and the greatest sum of each of {WIDTH} columns and draw nothing")
-    print(f"{'series':26}{'program':26}{'seconds':>9}{'peak MiB':>10}{'blocks read':>13}")
+    print(f"{'series':26}{'program':26}{'processor s':>13}{'peak MiB':>10}{'blocks read':>13}")
     for name, first, second, widths in pairs():
         build_store("pair.store", BLOCKS, [*lines_of_series(first, "s"), *lines_of_series(second, "t")])
         make_database("pair.sqlite", first, second)
@@ -72,12 +72,12 @@ def measure_derive():
         given = rows[-1][2]
         rows += [("C", [os.path.abspath("sums"), str(WIDTH), "first", "second"], given), ("sqlite", [*by, "pair.sqlite"], given)]
         runs = measure_all(rows, ROUNDS)
-        least = least_seconds(runs)
+        least = least_processor(runs)
         for program, words, line in rows:
             reads = counted_calls(words, line, READS) if words is derive else ""
             if words is derive and not runs[program][0][2].startswith(b"P4\n"):
                 sys.exit("bench: a line isn't answered by a picture")
-            print(f"{name:26}{program:26}{least[program]:9.3f}{max(run[1] for run in runs[program]):10.1f}{'-' if reads is None else reads:>13}")
+            print(f"{name:26}{program:26}{least[program]:13.3f}{max(run[1] for run in runs[program]):10.1f}{'-' if reads is None else reads:>13}")
         for path in ("pair.store", "pair.sqlite"):
             os.remove(path)
 

@@ -1,7 +1,7 @@
 """The seconds that a filtered view of a long series takes and the blocks that it reads, by how much of the series its filter decides. See bench/run."""
 import random
 
-from measuring import HEIGHT, PROGRAM, WIDTH, build_store, counted_calls, least_seconds, lines_of_series, measure_all
+from measuring import HEIGHT, PROGRAM, WIDTH, build_store, counted_calls, least_processor, lines_of_series, measure_all
 
 COUNT, VIEWS, ROUNDS, RARE = 1000000, 20, 5, 100000
 STORE, BLOCKS = "filters.store", 16384
@@ -39,9 +39,9 @@ def measure_filters():
     for number, (name, text) in enumerate(ROWS):
         write_input(f"filter{number}", VIEWS * [view(text) + "\n"])
         rows.append((name, serve, f"filter{number}"))
-    least = least_seconds(measure_all(rows, ROUNDS))
+    least = least_processor(measure_all(rows, ROUNDS))
     whole = least[ROWS[-1][0]] - least["without"]
-    print(f"seconds of a view of {COUNT} values, {WIDTH} by {HEIGHT} pixels, by its filter: the least of {ROUNDS} rounds of `serve` with")
+    print(f"processor seconds of a view of {COUNT} values, {WIDTH} by {HEIGHT} pixels, by its filter: the least of {ROUNDS} rounds of `serve` with")
     print(f"{VIEWS} such views less that without, over {VIEWS}; and as a part of the full scan's; and the blocks that one view reads, with the opening")
     print(f"{'filter':34}{'a view s':>12}{'of the scan':>12}{'blocks':>8}")
     for name, text in ROWS:

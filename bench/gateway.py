@@ -18,8 +18,8 @@ from measuring import ROOT, build_store, lines_of_series, walk
 sys.path.insert(0, os.path.join(ROOT, "clients/python/tests"))
 
 T = 1_700_000_000
-BATCH, POINTS, ROUNDS = 5000, 200_000, 3
-SMALL, SMALL_POINTS = 100, 10_000
+BATCH, POINTS, ROUNDS = 5000, 100_000, 2
+SMALL, SMALL_POINTS = 100, 4_000
 SERIES = '[[series]]\nstep = "1s"\nscale = 3\n'
 INFLUXD = """reporting-disabled = true
 bind-address = "127.0.0.1:{other}"
@@ -55,9 +55,9 @@ def of_a_point_each(client, at):
     return "".join(f"o,host=h{client},part=p{n} v={NUMBERS[(at * 7 + n) % len(NUMBERS)]} {T + at}\n" for n in range(SMALL))
 
 
-QUERIED = 10**7  # slots of the series whose ranges are asked for, a second each
-BLOCKS = 131072  # of a store that has room for it
-STEPS, ASKS, SECONDS = 1000, 100, 60  # of a range; queries of a kind; until no further one is asked
+QUERIED = 10**6  # slots of the series whose ranges are asked for, a second each
+BLOCKS = 16384  # of a store that has room for it
+STEPS, ASKS, SECONDS = 1000, 100, 20  # of a range; queries of a kind; until no further one is asked
 KINDS = {
     "5,000 points of one series": (of_one_series, BATCH, POINTS), "5,000 points of 100 series": (of_a_hundred, BATCH, POINTS),
     "a point each of 100 series": (of_a_point_each, SMALL, SMALL_POINTS),
@@ -263,8 +263,19 @@ def measure_queries(servers):
         print(f"{name:12} {peak(pid):8.0f} MiB at most")
 
 
+def can_run(word):
+    from gateway_server import MISSING
+
+    if MISSING:
+        print(f"{word}: passed over: {MISSING}")
+    return not MISSING
+
+
 def measure_ranges():
     from gateway_server import free_port
+
+    if not can_run("ranges"):
+        return
 
     folder, values = os.getcwd(), list(walk(QUERIED))
     os.mkdir("stores")
@@ -284,10 +295,9 @@ def measure_ranges():
 
 
 def measure_gateway():
-    from gateway_server import MISSING, free_port
+    from gateway_server import free_port
 
-    if MISSING:
-        print(f"gateway: passed over: {MISSING}")
+    if not can_run("gateway"):
         return
     folder = os.getcwd()
     with contextlib.ExitStack() as stack:
@@ -295,4 +305,3 @@ def measure_gateway():
         if shutil.which("influxd"):
             servers["influxd"] = stack.enter_context(influxd(folder, free_port))
         measure_writes(servers)
-    measure_ranges()

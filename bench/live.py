@@ -6,7 +6,7 @@ import time
 
 from measuring import HEIGHT, PROGRAM, WIDTH, build_store, lines_of_series, walk
 
-COUNT, BLOCKS, ROUNDS = 10**6, 16384, 100
+COUNT, BLOCKS, ROUNDS = 10**6, 16384, 30
 FOLLOWERS = (1, 16)
 MORE = 1000  # slots of the window that are still to come
 CACHE = 131072  # the largest: a view of WIDTH columns may need (3 * WIDTH + 1) * 35 coefficients
@@ -36,6 +36,11 @@ class Run:
             sizes.append(4 + len(body))
         return sizes
 
+    def processor(self):
+        """The seconds of the processor that the run took so far."""
+        with open(f"/proc/{self.program.pid}/schedstat") as file:
+            return int(file.read().split()[0]) / 10**9
+
     def end(self):
         self.program.stdin.close()
         if self.program.wait():
@@ -59,10 +64,10 @@ def opened(command, followers):
 
 
 def rounds_of(command, followers, values):
-    """Of each append: the bytes of all views behind it, and the seconds until the first of them and the last is there."""
+    """Of each append: the bytes of all views behind it, the seconds until the first of them and the last is there, and those of the processor."""
     run = opened(command, followers)
     for value in values:
-        began = time.perf_counter()
+        began, before = time.perf_counter(), run.processor()
         run.ask([f"append s {value}"])
         run.frames([DONE])
         sizes, first = [], None
@@ -71,7 +76,8 @@ def rounds_of(command, followers, values):
                 run.ask([view_of(session)])
             sizes += run.frames([VIEW])
             first = first or time.perf_counter() - began
-        yield sum(sizes), first, time.perf_counter() - began
+        last = time.perf_counter() - began
+        yield sum(sizes), first, last, run.processor() - before
     run.end()
 
 
@@ -81,13 +87,13 @@ def middle(numbers):
 
 def measure_live():
     print(f"an append of one value to {COUNT} slots, and the views of {WIDTH} columns behind it: the middle of {ROUNDS} appends")
-    print(f"{'program':22}{'sessions':>9}{'bytes a view':>14}{'first, ms':>11}{'all, ms':>9}")
+    print(f"{'program':22}{'sessions':>9}{'bytes a view':>14}{'first, ms':>11}{'all, ms':>9}{'processor, ms':>15}")
     values = list(walk(COUNT + ROUNDS))
     build_store("full.store", BLOCKS, lines_of_series(values[:COUNT]))
     for followers in FOLLOWERS:
         for name, command in (("live, pushed", "live"), ("serve, asked anew", "serve")):
             subprocess.run(["cp", "--sparse=always", "full.store", STORE], check=True)
             seen = list(rounds_of(command, followers, values[COUNT:]))
-            size, first, last = (middle([one[at] for one in seen]) for at in range(3))
-            print(f"{name:22}{followers:9}{size // followers:14}{1000 * first:11.2f}{1000 * last:9.2f}")
+            size, first, last, processor = (middle([one[at] for one in seen]) for at in range(4))
+            print(f"{name:22}{followers:9}{size // followers:14}{1000 * first:11.2f}{1000 * last:9.2f}{1000 * processor:15.2f}")
     print(f"{'four values a column':22}{'':9}{ROWS_HEAD + ROW * WIDTH:14}")

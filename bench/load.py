@@ -1,13 +1,15 @@
-"""What a load of a CSV file costs, beside sqlite's import and a C program with the same writes and syncs. See bench/run."""
+"""What a load of a CSV file costs, beside sqlite's import and a C program with the same writes and syncs, and what slow syncs make of it. See bench/run."""
 import os
 import shutil
 import subprocess
+import tempfile
 
-from measuring import BLOCK, LINE, PROGRAM, ROOT, build_store, counted_calls, least_seconds, measure, walk
+from measuring import BLOCK, LINE, MEMORY, PROGRAM, ROOT, build_store, counted_calls, least_processor, least_seconds, measure, walk
 
 SYNCS, WRITES = ("fsync", "fdatasync", "msync", "sync_file_range"), ("write", "pwrite64", "pwritev")
 ROWS = {10**5: 2048, 10**6: 16384}  # readings, and the blocks of a store that has room for them
 ROUNDS = 3
+DELAY = 5000  # microseconds that each sync is made longer by
 SETTING = "pragma journal_mode = wal; pragma synchronous = full; create table points (time integer primary key, value real);"
 BY_SQLITE, BY_C = "sqlite3 .import", "C, same writes"
 
@@ -36,24 +38,30 @@ def clear(rows):
     os.sync()
 
 
+def programs_for(given):
+    """The words of a load of a file, and of sqlite's import of it."""
+    programs = {"load": [PROGRAM, "load.store", "load", "s"]}
+    if shutil.which("sqlite3"):
+        programs[BY_SQLITE] = ["sqlite3", "load.sqlite", SETTING, ".mode csv", f".import --skip 1 {given} points"]
+    return programs
+
+
 def measure_rows(rows):
-    """The runs of each program on so many readings, the syncs and writes of each, and the pages that the readings take."""
+    """The runs of each program on so many readings, the syncs and writes of each, and the bytes that the readings take of a store and of sqlite's file."""
     given = f"readings{rows}.csv"
     write_readings(given, rows)
     build_store(f"empty{rows}.store", ROWS[rows], ["create s 0 1 2"])
-    load = [PROGRAM, "load.store", "load", "s"]
+    programs = programs_for(given)
+    load = programs["load"]
     commits = -(-rows // LINE)
     clear(rows)
     syncs = counted_calls(load, given, SYNCS)
     clear(rows)
     writes = counted_calls(load, given, WRITES)
     pages = used_blocks("load.store")
-    programs = {"load": load}
-    if shutil.which("sqlite3"):
-        programs[BY_SQLITE] = ["sqlite3", "load.sqlite", SETTING, ".mode csv", f".import --skip 1 {given} points"]
     if syncs and writes:
         programs[BY_C] = ["./load", "load.blocks", str(round(writes / commits)), str(round(syncs / commits))]
-    runs, counts = {name: [] for name in programs}, {}
+    runs, counts, bytes_taken = {name: [] for name in programs}, {}, {"load": BLOCK * pages}
     for _ in range(ROUNDS):
         for name, words in programs.items():
             clear(rows)
@@ -61,17 +69,39 @@ def measure_rows(rows):
     for name, words in programs.items():
         clear(rows)
         counts[name] = counted_calls(words, given, SYNCS)
-    return runs, counts, pages, writes
+        if name == BY_SQLITE:
+            bytes_taken[name] = os.path.getsize("load.sqlite")
+    return runs, counts, bytes_taken
+
+
+def print_slow(rows):
+    """The seconds in memory, where a sync costs nothing, and there with each sync made longer: one run of each."""
+    given, folder = f"readings{rows}.csv", os.getcwd()
+    slow = ["strace", "--seccomp-bpf", "-f", "-o", "/dev/null", "-e", f"trace={','.join(SYNCS)}", "-e", f"inject={','.join(SYNCS)}:delay_exit={DELAY}"]
+    print(f"{rows} readings, files in memory: seconds of one run where syncs cost nothing, and where each was made {DELAY / 1000:.0f} ms longer")
+    with tempfile.TemporaryDirectory(dir=MEMORY) as memory:
+        for name in given, f"empty{rows}.store":
+            subprocess.run(["cp", "--sparse=always", name, memory], check=True)
+        os.chdir(memory)
+        for name, words in programs_for(given).items():
+            seconds = []
+            for before in [], slow:
+                clear(rows)
+                seconds.append(measure([*before, *words], given)[0])
+            print(f"{name:18}{seconds[0]:10.2f}{seconds[1]:10.2f}")
+        os.chdir(folder)
 
 
 def measure_load():
     subprocess.run(["gcc", "-O2", "-o", "load", f"{ROOT}/bench/load.c"], check=True)
     print(f"a load of a CSV file of readings that follow each other, the least of {ROUNDS} rounds")
-    print(f"{'program':18}{'readings':>10}{'seconds':>10}{'syncs':>8}{'peak MiB':>10}{'bytes a reading':>17}{'time, over C':>14}")
+    print(f"{'program':18}{'readings':>10}{'seconds':>10}{'processor s':>13}{'syncs':>8}{'peak MiB':>10}{'bytes a reading':>17}{'time, over C':>14}")
     for rows in ROWS:
-        runs, counts, pages, writes = measure_rows(rows)
-        least = least_seconds(runs)
+        runs, counts, bytes_taken = measure_rows(rows)
+        least, processor = least_seconds(runs), least_processor(runs)
         for name in runs:
-            taken = f"{BLOCK * pages / rows:.1f}" if name == "load" else f"{os.path.getsize('load.sqlite') / rows:.1f}" if name == BY_SQLITE and os.path.exists("load.sqlite") else "-"
+            taken = f"{bytes_taken[name] / rows:.1f}" if name in bytes_taken else "-"
             ratio = f"{least[name] / least[BY_C]:.2f}" if BY_C in least else "-"
-            print(f"{name:18}{rows:10}{least[name]:10.2f}{counts[name] if counts[name] is not None else '-':>8}{max(run[1] for run in runs[name]):10.1f}{taken:>17}{ratio:>14}")
+            print(f"{name:18}{rows:10}{least[name]:10.2f}{processor[name]:13.3f}{counts[name] if counts[name] is not None else '-':>8}{max(run[1] for run in runs[name]):10.1f}{taken:>17}{ratio:>14}")
+    if os.path.isdir(MEMORY) and shutil.which("strace"):
+        print_slow(max(ROWS))

@@ -1,7 +1,7 @@
 """What the benchmarks share: the built program, its stores, the values that they draw, and the seconds and the memory of a run."""
 import os
+import resource
 import shutil
-import statistics
 import subprocess
 import tempfile
 import time
@@ -69,15 +69,21 @@ def counted_calls(words, given, calls):
     return sum(int(row[3]) for row in rows if row and row[-1] in calls)
 
 
+def processor_seconds():
+    """The seconds of the processor that the children which have ended took, and those that they waited for."""
+    used = resource.getrusage(resource.RUSAGE_CHILDREN)
+    return used.ru_utime + used.ru_stime
+
+
 def measure(words, given):
-    """Seconds, the peak of memory in MiB and what was written, of one run on the file given."""
+    """Seconds, the peak of memory in MiB, what was written, and the seconds of the processor, of one run on the file given."""
     with open(given, "rb") as given, open("written", "wb") as written:
-        start = time.perf_counter()
+        start, before = time.perf_counter(), processor_seconds()
         # A child of this process would count this process's own memory as its peak, so a small one starts it.
         subprocess.run(["/usr/bin/time", "-f", "%M", "-o", "peak", *words], stdin=given, stdout=written, check=True)
-        seconds = time.perf_counter() - start
+        seconds, processor = time.perf_counter() - start, processor_seconds() - before
     with open("peak") as peak, open("written", "rb") as written:
-        return seconds, int(peak.read()) / 1024, written.read()
+        return seconds, int(peak.read()) / 1024, written.read(), processor
 
 
 def measure_all(rows, rounds):
@@ -91,18 +97,23 @@ def measure_all(rows, rounds):
 
 
 def least_seconds(runs):
+    """The least seconds of each row by the clock."""
     return {name: min(run[0] for run in runs[name]) for name in runs}
 
 
+def least_processor(runs):
+    """The least seconds of the processor of each row, which other work on the machine changes little."""
+    return {name: min(run[3] for run in runs[name]) for name in runs}
+
+
 def print_table(title, rows, runs, base):
-    least = least_seconds(runs)
+    least, processor = least_seconds(runs), least_processor(runs)
     print(title)
-    print(f"{'program':24}{'median s':>10}{'least s':>9}{'peak MiB':>10}{'ratio':>8}")
+    print(f"{'program':24}{'least s':>9}{'ratio':>8}{'processor s':>13}{'ratio':>8}{'peak MiB':>10}")
     for name, words, _ in rows:
         if name not in runs:
             print(f"{name:24}  {words}")
             continue
-        median = statistics.median(run[0] for run in runs[name])
         peak = max(run[1] for run in runs[name])
-        ratio = f"{least[name] / least[base]:8.2f}" if base in least else ""
-        print(f"{name:24}{median:10.3f}{least[name]:9.3f}{peak:10.1f}{ratio}")
+        ratio, of_it = (f"{by[name] / by[base]:8.2f}" if base in by else f"{'':8}" for by in (least, processor))
+        print(f"{name:24}{least[name]:9.3f}{ratio}{processor[name]:13.3f}{of_it}{peak:10.1f}")

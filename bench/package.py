@@ -3,6 +3,8 @@ import importlib.util
 import io
 import os
 import random
+import shutil
+import sqlite3
 import statistics
 import subprocess
 import sys
@@ -14,7 +16,7 @@ sys.path.insert(0, os.path.join(ROOT, "clients/python"))
 
 from zurtkvani_client import Store, client  # noqa: E402
 
-ROWS, ROUNDS, SYNCS, PICTURES = 10**6, 3, 200, 20
+ROWS, FILE_ROWS, ROUNDS, SYNCS, PICTURES = 10**6, 200_000, 3, 200, 20
 START, SIZE, STORE = 1793491200, 2**28, "package.store"  # 2026-11-01T00:00:00Z
 
 
@@ -25,10 +27,10 @@ def sync_milliseconds():
     return statistics.median(taken)
 
 
-def milliseconds_of(work):
-    begin = time.perf_counter()
+def milliseconds_of(work, clock=time.perf_counter):
+    begin = clock()
     work()
-    return 1000 * (time.perf_counter() - begin)
+    return 1000 * (clock() - begin)
 
 
 def tell(what, taken):
@@ -39,6 +41,20 @@ def fresh_store():
     if os.path.exists(STORE):
         os.remove(STORE)
     return Store.make(STORE, SIZE, program=PROGRAM)
+
+
+def append_by_sqlite(values):
+    for name in ("package.sqlite", "package.sqlite-wal", "package.sqlite-shm"):
+        if os.path.exists(name):
+            os.remove(name)
+    database = sqlite3.connect("package.sqlite", isolation_level=None)
+    database.execute("pragma journal_mode = wal")
+    database.execute("pragma synchronous = full")
+    database.execute("create table points (time integer primary key, value real)")
+    database.execute("begin")
+    database.executemany("insert into points values (?, ?)", enumerate(values, START))
+    database.execute("commit")
+    database.close()
 
 
 def measure_appends():
@@ -55,6 +71,7 @@ def measure_appends():
                 store.create("s", START, 1, 2)
                 taken.append(milliseconds_of(lambda: store.append("s", numbers)))
         tell(f"append of {kind} of {ROWS:,} floats", taken)
+    tell("the list by sqlite, one executemany, WAL, full sync", [milliseconds_of(lambda: append_by_sqlite(values)) for _ in range(ROUNDS)])
 
 
 def measure_commands():
@@ -90,39 +107,62 @@ def measure_notebook():
         for _ in range(PICTURES):
             reader, pictures = over(io.BytesIO(sent)), [whole]
             reader.accept()
-            drawn.append(milliseconds_of(lambda: pictures.append(reader.accept()[1])))
+            drawn.append(milliseconds_of(lambda: pictures.append(reader.accept()[1]), time.process_time))
             pictures[1].series, pictures[1].window, pictures[1].unit = whole.series, whole.window, whole.unit
-            shown.append(milliseconds_of(lambda: (pictures[1]._repr_svg_(), pictures[1]._repr_png_())))
-        tell(f"from the frame to a picture, by {name}", drawn)
-        tell("from that to its texts for a notebook, SVG and PNG", shown)
+            shown.append(milliseconds_of(lambda: (pictures[1]._repr_svg_(), pictures[1]._repr_png_()), time.process_time))
+        tell(f"of the processor: from the frame to a picture, by {name}", drawn)
+        tell("of the processor: from that to SVG and PNG for a notebook", shown)
+    if importlib.util.find_spec("matplotlib"):
+        tell("of the processor: the same series to a PNG, by matplotlib", matplotlib_times())
+
+
+def matplotlib_times():
+    import matplotlib
+    import numpy
+
+    matplotlib.use("agg")
+    import matplotlib.pyplot
+
+    times, values = numpy.arange(START, START + ROWS), numpy.array(list(walk(ROWS))) / 100
+
+    def draw():
+        figure, axes = matplotlib.pyplot.subplots(figsize=(WIDTH / 100, HEIGHT / 100), dpi=100)
+        axes.plot(times, values)
+        figure.savefig(io.BytesIO(), format="png")
+        matplotlib.pyplot.close(figure)
+
+    return [milliseconds_of(draw, time.process_time) for _ in range(PICTURES)]
 
 
 def write_logger(path, date, values):
     """A file of rows: a date by a form of strftime, and the values that a row's second and reading give."""
     with open(path, "w") as file:
-        file.writelines(f"{time.strftime(date, time.gmtime(START + second))}{values(second, value)}\n" for second, value in enumerate(walk(ROWS)))
+        file.writelines(f"{time.strftime(date, time.gmtime(START + second))}{values(second, value)}\n" for second, value in enumerate(walk(FILE_ROWS)))
 
 
-def measure_run(what, words):
-    """Tells the seconds, the seconds of the processor, and the peak of memory of a run of a module of the package, and of what it ran."""
-    timed = ["/usr/bin/time", "-f", "%e %U %S %M", "-o", os.path.abspath("peak"), sys.executable, "-m", *words]
-    subprocess.run(timed, stdout=subprocess.DEVNULL, cwd=os.path.join(ROOT, "clients/python"), check=True)
+def measure_run(what, words, folder):
+    """Tells the seconds, the seconds of the processor, and the peak of memory of a run, and of what it ran."""
+    timed = ["/usr/bin/time", "-f", "%e %U %S %M", "-o", os.path.abspath("peak"), *words]
+    subprocess.run(timed, stdout=subprocess.DEVNULL, cwd=folder, check=True)
     with open("peak") as file:
         wall, user, system, peak = map(float, file.read().split())
     print(f"{what:62}{wall:10.1f}{user + system:10.1f}{peak / 1024:6.0f}")
 
 
 def measure_files():
-    source = random.Random(1)
-    print(f"{f'{ROWS:,} rows':62}{'s':>10}{'processor':>10}{'MiB':>6}")
+    source, package = random.Random(1), os.path.join(ROOT, "clients/python")
+    print(f"{f'{FILE_ROWS:,} rows':62}{'s':>10}{'processor':>10}{'MiB':>6}")
     for columns in (3, 4):
         path, store = os.path.abspath("logger.csv"), os.path.abspath(f"import{columns}.store")
         write_logger(path, "%FT%T", lambda _, value: f".{source.randrange(400):03}Z" + "".join(f",{value / 100 + at}" for at in range(columns)))
-        words = ["zurtkvani_client", "import", path, "--store", store, "--program", PROGRAM, "--series", ",".join("abcd"[:columns])]
-        measure_run(f"import, a date and {columns} values, by --dry-run", [*words, "--dry-run"])
-        measure_run(f"import, a date and {columns} values", words)
+        words = [sys.executable, "-m", "zurtkvani_client", "import", path, "--store", store, "--program", PROGRAM, "--series", ",".join("abcd"[:columns])]
+        measure_run(f"import, a date and {columns} values, by --dry-run", [*words, "--dry-run"], package)
+        measure_run(f"import, a date and {columns} values", words, package)
+        if shutil.which("sqlite3"):
+            make = f"pragma journal_mode = wal; pragma synchronous = full; create table rows (date text primary key{''.join(f', {name} real' for name in 'abcd'[:columns])});"
+            measure_run("sqlite3 .import, the date as a text", ["sqlite3", f"import{columns}.sqlite", make, ".mode csv", f".import {path} rows"], os.getcwd())
     write_logger(path, "%FT%TZ", lambda _, value: f",{value / 100}")
-    measure_run("readings", ["zurtkvani_client.readings", "--step", "1", "--scale", "2", path])
+    measure_run("readings", [sys.executable, "-m", "zurtkvani_client.readings", "--step", "1", "--scale", "2", path], package)
 
 
 def measure_package():

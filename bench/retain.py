@@ -4,7 +4,7 @@ import shutil
 import sqlite3
 import sys
 
-from measuring import PROGRAM, build_store, counted_calls, least_seconds, lines_of_series, measure, walk
+from measuring import PROGRAM, build_store, counted_calls, least_processor, least_seconds, lines_of_series, measure, walk
 
 SYNCS = ("fsync", "fdatasync", "msync", "sync_file_range")
 SERIES = {10**5: 2048, 10**6: 16384}  # slots, and the blocks of a store that has room for them
@@ -37,7 +37,7 @@ def deletes(path, old, at_once):
 def measure_retain():
     print(f"all slots of a series but the last {LEFT}, dropped: the least of {ROUNDS} rounds. `retain`, and sqlite {sqlite3.sqlite_version} with write-ahead log and")
     print(f"full sync, from Python: {RANGE} slots in one delete, or all")
-    print(f"{'program':14}{'old slots':>11}{'commits':>9}{'syncs':>7}{'seconds':>9}{'peak MiB':>10}")
+    print(f"{'program':14}{'old slots':>11}{'commits':>9}{'syncs':>7}{'seconds':>9}{'processor s':>13}{'peak MiB':>10}")
     by = [sys.executable, os.path.realpath(__file__)]
     for slots, blocks in SERIES.items():
         old = slots - LEFT
@@ -70,10 +70,10 @@ def measure_retain():
             syncs[name] = counted_calls(words, "rules", SYNCS)
         if any(not run[2].startswith(b"swept %d " % clears) for run in runs["retain"]):
             sys.exit("bench: a rule isn't answered by its clears")
-        least = least_seconds(runs)
+        least, processor = least_seconds(runs), least_processor(runs)
         for name, (_, commits) in programs.items():
             peak = max(run[1] for run in runs[name])
-            print(f"{name:14}{old:11}{commits:9}{'-' if syncs[name] is None else syncs[name]:>7}{least[name]:9.3f}{peak:10.1f}")
+            print(f"{name:14}{old:11}{commits:9}{'-' if syncs[name] is None else syncs[name]:>7}{least[name]:9.3f}{processor[name]:13.3f}{peak:10.1f}")
         for name in ("full.store", "old.store", "full.sqlite", "old.sqlite"):
             os.remove(name)
 

@@ -6,7 +6,7 @@ import sqlite3
 import subprocess
 import sys
 
-from measuring import HEIGHT, LINE, PROGRAM, WIDTH, build_store, counted_calls, least_seconds, lines_of_series, make_store, measure, walk
+from measuring import HEIGHT, LINE, PROGRAM, WIDTH, build_store, counted_calls, least_processor, least_seconds, lines_of_series, measure, walk
 
 SYNCS = ("fsync", "fdatasync", "msync", "sync_file_range")
 READS = ("pread64",)
@@ -110,7 +110,7 @@ def print_edits():
 
 
 def measure_view(slots, store, views=VIEWS):
-    """Seconds of a first view, the blocks that so many of them read, and the peak of memory of a run with them, over a store with a series of so many slots."""
+    """Processor seconds of a first view, the blocks that so many of them read, and the peak of memory of a run with them, over a store with a series of so many slots."""
     serve = [PROGRAM, store, "serve"]
     asked = {"without": "", "with": f"view 1 s {WIDTH} {HEIGHT} 0 {slots} auto\n"}
     runs, read = {}, {}
@@ -121,7 +121,7 @@ def measure_view(slots, store, views=VIEWS):
     for _ in range(ROUNDS):
         for kind in asked:
             runs.setdefault(kind, []).append(measure(serve, kind))
-    least = least_seconds(runs)
+    least = least_processor(runs)
     reads = None if read["with"] is None else read["with"] - read["without"]
     return (least["with"] - least["without"]) / views, reads, max(run[1] for run in runs["with"])
 

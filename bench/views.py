@@ -4,7 +4,7 @@ import shlex
 import subprocess
 import sys
 
-from measuring import HEIGHT, PROGRAM, ROOT, WIDTH, build_store, least_seconds, lines_of_series, measure_all, walk
+from measuring import HEIGHT, PROGRAM, ROOT, WIDTH, build_store, least_processor, lines_of_series, measure_all, walk
 
 COUNT, VIEWS, ROUNDS = 1000000, 20, 5
 DAY, HOUR = 86400, 3600
@@ -129,8 +129,8 @@ def pictures_of(name, written):
 
 def print_seconds():
     runs = measure_ways()
-    least = least_seconds(runs)
-    print(f"seconds of a first view: the least of {ROUNDS} rounds with {VIEWS} of them less that without, over {VIEWS}")
+    least = least_processor(runs)
+    print(f"processor seconds of a first view: the least of {ROUNDS} rounds with {VIEWS} of them less that without, over {VIEWS}")
     print(f"{'program':26}{'a view s':>12}{'without s':>12}{'peak MiB':>12}")
     pictures = set()
     for name, _, _ in ways():
