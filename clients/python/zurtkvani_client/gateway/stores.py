@@ -37,6 +37,10 @@ class Known:
     def labels(self):
         return dict(self.key)
 
+    def told(self):
+        """What its store has of it now."""
+        return self.record._replace(slots=self.slots)
+
 
 def require_short(key):
     if sum(len(name.encode()) + len(value.encode()) for name, value in key) > MOST_LABELS:
@@ -50,8 +54,8 @@ class NoRoom(Exception):
 class Stores:
     """All stores, and all series by their labels."""
 
-    def __init__(self, configuration, counts):
-        self.given, self.rules, self.counts = configuration.stores, configuration.series, counts
+    def __init__(self, configuration, counts, news):
+        self.given, self.rules, self.counts, self.news = configuration.stores, configuration.series, counts, news
         self.names = None
         self.keepers, self.full = [], set()
         self.by_key, self.by_name, self.inner = {}, {}, {}
@@ -102,6 +106,13 @@ class Stores:
                 known.slots = record.slots
             else:
                 tell("a series stands in two stores, and this one is passed over", "warning", path=keeper.path, series=record.name)
+
+        # What was dropped or stored without an answer while there was no run is seen from now on.
+        self.tell([known for known in self.inner.values() if known.keeper is keeper])
+
+    def tell(self, changed):
+        """Tells that some series changed."""
+        self.news.tell([known.told() for known in changed])
 
     def _take(self, known):
         if known.key in self.by_key:
@@ -177,7 +188,9 @@ class Stores:
                 record = next((record for record in keeper.series if record.name == names[key]), None)
             if record is None or refusal and refusal.number != EXISTS:
                 raise NoRoom(f"{text_of(key)} can't be made: {frame.hex()}")
-            self._take(Known(key, keeper, record))
+            known = Known(key, keeper, record)
+            self._take(known)
+            self.tell([known])
             self.counts.add("made_series_total")
             tell("a series is made", path=keeper.path, name=names[key], series=text_of(key), step=record.step, scale=record.scale)
 
