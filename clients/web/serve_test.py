@@ -21,7 +21,7 @@ import urllib.parse
 sys.dont_write_bytecode = True
 from serve_probe import PROGRAM, ROOT, SECONDS, Served, made_store, read_until, run_served
 
-sys.path.insert(0, os.path.join(ROOT, "scripts/lib"))
+sys.path.insert(0, os.path.join(ROOT, "clients/python"))
 
 from page_server.sessions import Sessions  # noqa: E402
 
@@ -221,7 +221,7 @@ class Starts(unittest.TestCase):
     def test_a_store_that_is_none_ends_it_with_the_programs_status_and_words(self):
         missing = run_served(os.path.join(self.folder, "no.store"), "--program", PROGRAM)
         self.assertEqual((missing.returncode, missing.stdout), (6, b""))
-        self.assertIn(b"status 6 at 0. The store's file can't be opened", missing.stderr)
+        self.assertRegex(missing.stderr, b"status 6 at 0: .*no.store: No such file")
         store = made_store(self.folder)
         with open(store, "r+b") as file:
             file.seek(66 * 4096)
@@ -245,7 +245,7 @@ class Starts(unittest.TestCase):
         run = run_served(store, "--program", os.path.join(self.folder, "no"))
         self.assertEqual((run.returncode, run.stderr.count(b"\n")), (1, 1), run.stderr)
         copy = os.path.join(self.folder, "copy")
-        for part in ("clients/web", "scripts", "docs"):
+        for part in ("clients/web", "clients/python/zurtkvani_client", "docs"):
             shutil.copytree(os.path.join(ROOT, part), os.path.join(copy, part))
         with open(os.path.join(copy, "chart"), "w", encoding="ascii") as file:
             file.write('#!/bin/sh\n[ "$1" = --version ] && echo "chart 1, commit x, to be built" || touch built\n')

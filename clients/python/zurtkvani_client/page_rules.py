@@ -50,12 +50,12 @@ def file_of(path, folder, module=None):
 
 
 def lines_of(body, words):
-    """The lines of a request. Raises ValueError where they are too many or too long, and PermissionError where one doesn't begin with one of some
-    words."""
+    """The lines of a request. Raises ValueError where they are too many or too long, and PermissionError where one doesn't begin with one of the
+    words that are taken, None for any."""
     lines = body.split(b"\n")
     if len(lines) > MOST_LINES or not all(1 <= len(line) <= LONGEST and line != b"\r" for line in lines):
         raise ValueError(f"a request is at most {MOST_LINES} lines, each of 1 to {LONGEST} bytes")
-    if not all(re.match(rb"[^ \r]*", line)[0] in words for line in lines):
+    if words and not all(re.match(rb"[^ \r]*", line)[0] in words for line in lines):
         raise PermissionError
     return lines
 

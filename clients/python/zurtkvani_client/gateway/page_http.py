@@ -10,7 +10,7 @@ from .. import page_rules
 from . import bodies, child
 from .viewers import Full
 
-READING = (b"open", b"close", b"view")
+TAKEN = (b"open", b"close", b"view")
 
 
 class Refusal(Exception):
@@ -73,7 +73,7 @@ async def lines(gateway, request):
     """Sends the frames of request lines, each as soon as it is there."""
     response = None
     try:
-        wanted = page_rules.lines_of(await body_of(gateway, request), READING)
+        wanted = page_rules.lines_of(await body_of(gateway, request), TAKEN)
         for line in wanted:
             frames = b"".join(await gateway.viewers.answer(line))
             if response is None:
