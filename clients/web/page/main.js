@@ -1,4 +1,5 @@
 /** The page of a store: panels over one window of times, which the address names; what draws them, and what moves them. */
+import { Alarms } from "./alarms.js";
 import { newPanel, readAddress, spellAddress } from "./address.js";
 import { drawTimes, placedTimes } from "./axes.js";
 import { Catalog } from "./catalog.js";
@@ -28,6 +29,7 @@ class Page {
     this.panels = [];
     this.crosshair = new Crosshair(this);
     this.picker = new Picker(this);
+    this.alarms = new Alarms(this);
     this.line = new Line(this);
     this.look = { unit: "numbers", zone: "", grid: true, painted: "", spelled: String };
     this.wanted = null; // the panels that are to be drawn next, while others are being drawn
@@ -135,8 +137,11 @@ class Page {
   readLook(asked) {
     const [first] = this.shown(asked);
     const unit = asked.unit || (first ? guessUnit(first) : "numbers");
-    const how = { unit, zone: asked.zone };
+    const [how, before] = [{ unit, zone: asked.zone }, this.look.zone];
     this.look = { ...how, grid: asked.grid !== "off", painted: `${theme()} ${devicePixelRatio}`, spelled: (time) => spelled(time, how) };
+    if (before !== asked.zone) {
+      this.alarms.draw();
+    }
   }
 
   /** Draws all panels, once what is being drawn is there. */

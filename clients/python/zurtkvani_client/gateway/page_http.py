@@ -11,6 +11,7 @@ from . import bodies, child
 from .viewers import Full
 
 TAKEN = (b"open", b"close", b"view")
+MOST_ALARMS = 100  # that a page shows
 
 
 class Refusal(Exception):
@@ -45,7 +46,7 @@ def folder_of(given):
 @refusing
 async def file(gateway, request):
     folder = folder_of(gateway.given.page)
-    found = page_rules.file_of(request.path, folder) if folder else None
+    found = page_rules.file_of(request.path, folder, gateway.given.page.module) if folder else None
     try:
         if found is None:
             raise FileNotFoundError
@@ -130,12 +131,15 @@ async def events(gateway, request):
 
 
 async def send_changes(gateway, request, response, viewer):
-    news, beaten = gateway.news, float("-inf")
+    news, alarms, beaten, told = gateway.news, gateway.alarms, float("-inf"), None
     seen = news.count
     while not (viewer.is_over or gateway.is_ending.is_set() or request.transport is None or request.transport.is_closing()):
         if time.monotonic() - beaten > page_rules.BEAT:
             beaten = time.monotonic()
             await send(gateway, response, page_rules.SIGN_OF_LIFE)
+        if alarms.changes != told:
+            told, listed = alarms.changes, alarms.listed()
+            await send(gateway, response, page_rules.event("alarms", {"alarms": listed[:MOST_ALARMS], "count": len(listed)}))
         seen, series = await news.since(seen, 1)
         if series:
             await send(gateway, response, page_rules.event("changed", [page_rules.told(one) for one in series]))
