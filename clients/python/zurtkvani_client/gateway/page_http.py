@@ -1,6 +1,5 @@
 """The page of clients/web behind the gateway: its files, the lines that it sends, the series, and the stream of what changes."""
 import asyncio
-import json
 import os
 import time
 

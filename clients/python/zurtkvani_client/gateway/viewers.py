@@ -11,7 +11,6 @@ import struct
 import time
 
 from ..page_rules import CLOSED, GONE, OPENED, REFUSED, SESSION_OPEN, SWEEP, UNKNOWN_SESSION
-from . import child
 from .sessions import FIRST_OWN, Sessions
 
 MOST_CACHE = 131_072
