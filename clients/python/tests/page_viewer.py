@@ -72,13 +72,20 @@ class Viewer:
         return self
 
     def changed(self):
-        """The series that the next event tells."""
+        """The series that the next change tells, each with its slots."""
+        return {one["name"]: one["slots"] for one in self.told("changed")}
+
+    def told(self, name):
+        """What the next event of a name tells; others are passed over."""
+        event = None
         while True:
             line = self.answer.readline()
             if not line:
                 raise Denied("the stream has ended")
-            if line.startswith(b"data: "):
-                return {one["name"]: one["slots"] for one in json.loads(line[6:])}
+            if line.startswith(b"event: "):
+                event = line[7:].strip().decode()
+            if line.startswith(b"data: ") and event == name:
+                return json.loads(line[6:])
 
     def hang_up(self):
         if self.stream:
