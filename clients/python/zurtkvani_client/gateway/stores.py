@@ -25,7 +25,7 @@ class Known:
     """A series: its labels outside, its record in its store, and the same grid in nanoseconds."""
 
     def __init__(self, key, keeper, record):
-        self.key, self.keeper, self.record = key, keeper, record
+        self.key, self.keeper, self.record, self.place = key, keeper, record, 0  # which one of its store's series it is, as they were made
         self.unit = UNITS[unit_of(record.start)]
         self.first, self.gap, self.slots = record.start * self.unit, record.step * self.unit, record.slots
 
@@ -58,7 +58,7 @@ class Stores:
         self.given, self.rules, self.counts, self.news = configuration.stores, configuration.series, counts, news
         self.names = None
         self.keepers, self.full = [], set()
-        self.by_key, self.by_name, self.inner = {}, {}, {}
+        self.by_key, self.by_name, self.inner, self.places = {}, {}, {}, itertools.count()
         self.making, self.lock = asyncio.Lock(), None
 
     async def start(self):
@@ -117,6 +117,7 @@ class Stores:
     def _take(self, known):
         if known.key in self.by_key:
             return
+        known.place = next(self.places)
         self.by_key[known.key] = self.inner[known.name] = known
         self.by_name.setdefault(known.labels.get(NAME, ""), []).append(known)
 
