@@ -91,7 +91,7 @@ class Answers(Page):
         self.assertEqual((status, data[4:6]), (200, bytes((REFUSED, 2))))
 
     def test_the_page_has_its_files(self):
-        for path in ("/", "/page.css", "/panels.css", "/page/main.js", "/chart_client.js", "/proved_client.js", "/refusals.js", "/chart_client.wasm"):
+        for path in ("/", "/page.css", "/panels.css", "/page/main.js", "/chart_client.js", "/client/views.js", "/proved_client.js", "/refusals.js", "/chart_client.wasm"):
             self.assertEqual(self.served.ask("GET", path)[0], 200, path)
 
 

@@ -199,7 +199,7 @@ class Let(Viewed):
 
     def test_who_may_look_and_what_is_taken(self):
         own = f"http://127.0.0.1:{self.gateway.port}"
-        for path in ("/", "/page.css", "/panels.css", "/page/main.js", "/chart_client.js", "/proved_client.js", "/refusals.js"):
+        for path in ("/", "/page.css", "/panels.css", "/page/main.js", "/chart_client.js", "/client/views.js", "/proved_client.js", "/refusals.js"):
             status, _, headers = self.gateway.ask(path)
             self.assertEqual((status, {name: headers.get(name) for name in page_rules.HEADERS}), (200, page_rules.HEADERS), path)
         for path in ("/serve.py", "/page/../serve.py", "/page/main.py", "/page/", "/page/no_such.js", "/page_server/handler.py", "/%2e%2e/web/serve.py"):

@@ -11,7 +11,7 @@ HERE = os.path.dirname(os.path.realpath(__file__))
 # Of the repository and of ./install, and of Debian's package, whose modules stand elsewhere.
 FOLDERS = (os.path.join(HERE, "../../web"), "/usr/lib/zurtkvani/clients/web", "/usr/local/lib/zurtkvani/clients/web")
 MODULE = "chart_client.wasm"  # of the proved client
-SHOWN = re.compile(r"/(?:|(?:page|panels)\.css|chart_client\.(?:js|wasm)|proved_client\.js|refusals\.js|page/[a-z_]+\.js)")
+SHOWN = re.compile(r"/(?:|(?:page|panels)\.css|chart_client\.(?:js|wasm)|proved_client\.js|refusals\.js|(?:page|client)/[a-z_]+\.js)")
 KINDS = {
     ".html": "text/html; charset=utf-8", ".js": "text/javascript; charset=utf-8", ".css": "text/css; charset=utf-8", ".wasm": "application/wasm",
 }

@@ -45,7 +45,7 @@ ROUTES = [
     )),
     *(
         (method, path, OPEN, page_http.file) for method in ("GET", "HEAD")
-        for path in ("/", "/{name:page|panels}.css", "/page/{name}.js", "/{name:chart_client|proved_client|refusals}.js", "/chart_client.wasm")
+        for path in ("/", "/{name:page|panels}.css", "/{folder:page|client}/{name}.js", "/{name:chart_client|proved_client|refusals}.js", "/chart_client.wasm")
     ),
     ("POST", "/request", READ, page_http.lines), ("POST", "/catalog", READ, page_http.catalog), ("POST", "/events", READ, page_http.events),
     ("GET", "/api/v1/label/{label}/values", READ, prometheus_http.label_values), ("GET", "/api/v1/metadata", READ, prometheus_http.metadata),
