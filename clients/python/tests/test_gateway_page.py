@@ -202,7 +202,8 @@ class Let(Viewed):
         for path in ("/", "/page.css", "/panels.css", "/page/main.js", "/chart_client.js", "/client/views.js", "/proved_client.js", "/refusals.js"):
             status, _, headers = self.gateway.ask(path)
             self.assertEqual((status, {name: headers.get(name) for name in page_rules.HEADERS}), (200, page_rules.HEADERS), path)
-        for path in ("/serve.py", "/page/../serve.py", "/page/main.py", "/page/", "/page/no_such.js", "/page_server/handler.py", "/%2e%2e/web/serve.py"):
+        paths = ("/serve.py", "/page/../serve.py", "/page/main.py", "/page/", "/page/no_such.js", "/page_server/handler.py", "/%2e%2e/web/serve.py")
+        for path in paths:
             self.assertEqual(self.gateway.ask(path)[0], 404, path)
         cases = [
             ({"X-Chart-Token": "read"}, 200), ({"X-Chart-Token": "write"}, 401), ({}, 401), ({"X-Chart-Token": "read", "Origin": own}, 200),

@@ -18,7 +18,7 @@ HELP = {
     "requests_total": "Requests by what they asked for and their status",
     "request_seconds_total": "Time of these requests",
     "views_total": "Views that were asked of stores",
-    "page_views_total": "Views that pages were answered: own, by a session of their own; whole, by one that serves all; shared, as another page",
+    "page_views_total": "Views that pages were answered: by a session of their own, whole, or as another page",
     "made_series_total": "Series that the gateway made",
     "alarms_total": "Alarms that began and that ended",
     "untold_alarms_total": "Alarms that were given up, and not told",

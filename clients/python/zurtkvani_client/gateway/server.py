@@ -29,6 +29,9 @@ async def health(gateway, _request):
     return web.Response(status=503 if faults else 200, text=told, content_type="application/json")
 
 
+PAGE = (
+    "/", "/{name:page|panels}.css", "/{folder:page|client}/{name}.js", "/{name:chart_client|proved_client|refusals}.js", "/chart_client.wasm",
+)
 # For each address its method, what a token has to allow, and who answers.
 ROUTES = [
     ("POST", "/write", WRITE, writes_http.write_1), ("POST", "/api/v2/write", WRITE, writes_http.write_2),
@@ -45,7 +48,7 @@ ROUTES = [
     )),
     *(
         (method, path, OPEN, page_http.file) for method in ("GET", "HEAD")
-        for path in ("/", "/{name:page|panels}.css", "/{folder:page|client}/{name}.js", "/{name:chart_client|proved_client|refusals}.js", "/chart_client.wasm")
+        for path in PAGE
     ),
     ("POST", "/request", READ, page_http.lines), ("POST", "/catalog", READ, page_http.catalog), ("POST", "/events", READ, page_http.events),
     ("GET", "/api/v1/label/{label}/values", READ, prometheus_http.label_values), ("GET", "/api/v1/metadata", READ, prometheus_http.metadata),

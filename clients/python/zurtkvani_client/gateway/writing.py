@@ -34,8 +34,8 @@ class Batch:
         return self.done.result()
 
     def lines(self):
-        """Pairs of a series and a line that stores up to 256 slots of it which follow each other. Series stand as they were made: so edits that share a
-        commit change fewer pages of the catalog, and more of them have room in one."""
+        """Pairs of a series and a line that stores up to 256 slots of it which follow each other. Series stand as they were made: so edits that
+        share a commit change fewer pages of the catalog, and more of them have room in one."""
         for known, values in sorted(self.values.items(), key=lambda pair: pair[0].place):
             for line in lines_by_slots(known.name, known.record.start, known.record.step, values):
                 yield known, line
