@@ -11,6 +11,7 @@ from .viewers import Full
 
 TAKEN = (b"open", b"close", b"view")
 MOST_ALARMS = 100  # that a page shows
+MOST_PUSHES = 200  # a second, of all pages; what changes faster is told together
 
 
 class Refusal(Exception):
@@ -142,4 +143,4 @@ async def send_changes(gateway, request, response, viewer):
         seen, series = await news.since(seen, 1)
         if series:
             await send(gateway, response, page_rules.event("changed", [page_rules.told(one) for one in series]))
-            await asyncio.sleep(page_rules.REST)
+            await asyncio.sleep(max(page_rules.REST, len(gateway.viewers.held) / MOST_PUSHES))
