@@ -13,6 +13,7 @@ from built_program import Failed
 sys.path[:0] = [os.path.join(ROOT, "clients/python"), os.path.join(ROOT, "clients/python/tests")]
 
 DEBIANS = "/usr/bin/python3"
+FILES = ("one.store", "other.store")
 SECTIONS = {"stores": 'files = ["one.store", "other.store"]'}
 ALARMS = '[[series]]\nstep = "1s"\nscale = 2\n[[alarm]]\nname = "hot"\nmatch = "sea_v"\nover = 900\n[[alarm]]\nname = "low"\nunder = -900\n'
 CROWD = 30
@@ -29,7 +30,7 @@ class Behind(Page):
 
     def __init__(self, browser, gateway, screenshots):
         self.gateway = gateway
-        self.stores = {name: os.path.join(gateway.stores, file) for file in ("one.store", "other.store") for name in names_in(gateway, file)}
+        self.stores = {name: os.path.join(gateway.stores, file) for file in FILES for name in names_in(gateway, file)}
         super().__init__(browser, None, screenshots, f"http://127.0.0.1:{gateway.port}/#token=none")
 
     def wanted(self, number, told, size):
@@ -75,7 +76,7 @@ def behind_gateway(browser, folder, screenshots):
         status, text = gateway.write(lines_of(0, browser_page.values_of(6000)))
         require(status == 204, text)
         page = Behind(browser, gateway, screenshots)
-        for step in (draw_alone, draw_in_a_crowd, show_alarms, outlive_a_run, lose_gateway):
+        for step in (draw_alone, draw_in_a_crowd, show_alarms, call_by_labels, outlive_a_run, lose_gateway):
             step(page)
     except AssertionError as why:
         raise Failed(str(why)) from None
@@ -148,6 +149,23 @@ def outlive_a_run(page):
     page.do(lambda: page.write(lines_of(6100, [300])))
     page.do(lambda: page.browser.click("#all"))
     wait_for(lambda: page.read()["state"] == "live", lambda: f"the page says {page.read()['status']}")
+    page.compare()
+
+
+def call_by_labels(page):
+    """A series with labels is called by these, in the list and in its panel, and found by them."""
+    from gateway_server import T
+
+    page.write("\n".join(f"lake,site=north\\ shore v={at % 50} {T + at}" for at in range(500)))
+    page.browser.click("#open_picker")
+    page.browser.type("#find", "north", ends="")
+    shown = 'lake_v{site="north shore"}'
+    listed = "return [...document.querySelectorAll('#rows button.name')].map((it) => it.textContent)"
+    wait_for(lambda: page.browser.run(listed) == [shown], lambda: f"found by a label are {page.browser.run(listed)}")
+    page.do(lambda: page.browser.click("#rows button.name"))
+    names = "return [...document.querySelectorAll('.legend b')].map((it) => it.textContent)"
+    require(page.browser.run(names)[-1] == shown, f"the panels' series are {page.browser.run(names)}")
+    page.stores.update({name: os.path.join(page.gateway.stores, file) for file in FILES for name in names_in(page.gateway, file)})
     page.compare()
 
 

@@ -173,6 +173,10 @@ class Pushes(Viewed):
         names = {one["name"]: one["slots"] for one in json.loads(viewer.post("/catalog", b""))}
         self.assertEqual(set(names), {"sea_v", "tide_v", "wind_v", "fresh_v"})
         self.assertEqual(names["fresh_v"], names["sea_v"] - SLOTS + 1)
+        self.require_written(f"fresh,room=cellar v=1 {T}")
+        (name,) = viewer.changed()
+        (shown,) = [one["shown"] for one in json.loads(viewer.post("/catalog", b"")) if one["name"] == name]
+        self.assertEqual(shown, 'fresh_v{room="cellar"}')
 
 
 class Stores(Viewed):

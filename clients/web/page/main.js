@@ -89,10 +89,11 @@ class Page {
 
   /** Makes the panels that are asked for, where they aren't there. */
   makePanels(asked) {
-    const key = JSON.stringify(asked.panels.map(({ names, filter, range }) => [names, filter, range]));
+    const shown = asked.panels.map(({ names }) => names.map((name) => this.catalog.shown(name)));
+    const key = JSON.stringify([shown, asked.panels.map(({ names, filter, range }) => [names, filter, range])]);
     if (key !== this.made) {
       this.made = key;
-      this.panels = asked.panels.map((spec, number) => new Panel(spec, number, this.doing(number)));
+      this.panels = asked.panels.map((spec, number) => new Panel(spec, shown[number], number, this.doing(number)));
       this.panels.forEach((panel) => listenOver(panel, this));
       keepFocus(() => part("panels").replaceChildren(...this.panels.map(({ element }) => element)));
     }
@@ -217,7 +218,7 @@ class Page {
 
   showAsked(asked, window) {
     showControls(this, asked, window === NOWHERE ? null : window);
-    const names = asked.panels.flatMap((panel) => panel.names).join(", ");
+    const names = asked.panels.flatMap((panel) => panel.names.map((name) => this.catalog.shown(name))).join(", ");
     document.title = names === "" ? "Chart" : `${names} - Chart`;
   }
 

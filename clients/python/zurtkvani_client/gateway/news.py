@@ -10,7 +10,7 @@ class News(Latest):
         self.coming = asyncio.Event()
 
     def tell(self, series):
-        """Notes that some series of Stores changed."""
+        """Notes that some series changed: what has their names."""
         if series:
             self.note(series)
             self.coming.set()

@@ -7,6 +7,7 @@ from aiohttp import web
 
 from .. import page_rules
 from . import bodies, child
+from .labels import text_of
 from .viewers import Full
 
 TAKEN = (b"open", b"close", b"view")
@@ -108,7 +109,13 @@ async def send(gateway, response, data):
 
 @refusing
 async def catalog(gateway, _request):
-    return web.json_response([page_rules.told(known.told()) for known in gateway.stores.inner.values()])
+    return web.json_response([told(known) for known in gateway.stores.inner.values()])
+
+
+def told(known):
+    """A series as the page is told it; where it isn't called as in its store, by its labels too."""
+    shown = text_of(known.key)
+    return {**page_rules.told(known.told()), **({} if shown == known.name else {"shown": shown})}
 
 
 @refusing
@@ -131,16 +138,16 @@ async def events(gateway, request):
 
 
 async def send_changes(gateway, request, response, viewer):
-    news, alarms, beaten, told = gateway.news, gateway.alarms, float("-inf"), None
+    news, alarms, beaten, shown = gateway.news, gateway.alarms, float("-inf"), None
     seen = news.count
     while not (viewer.is_over or gateway.is_ending.is_set() or request.transport is None or request.transport.is_closing()):
         if time.monotonic() - beaten > page_rules.BEAT:
             beaten = time.monotonic()
             await send(gateway, response, page_rules.SIGN_OF_LIFE)
-        if alarms.changes != told:
-            told, listed = alarms.changes, alarms.listed()
+        if alarms.changes != shown:
+            shown, listed = alarms.changes, alarms.listed()
             await send(gateway, response, page_rules.event("alarms", {"alarms": listed[:MOST_ALARMS], "count": len(listed)}))
         seen, series = await news.since(seen, 1)
         if series:
-            await send(gateway, response, page_rules.event("changed", [page_rules.told(one) for one in series]))
+            await send(gateway, response, page_rules.event("changed", [told(known) for known in series]))
             await asyncio.sleep(max(page_rules.REST, len(gateway.viewers.held) / MOST_PUSHES))

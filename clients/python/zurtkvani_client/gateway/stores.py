@@ -112,7 +112,7 @@ class Stores:
 
     def tell(self, changed):
         """Tells that some series changed."""
-        self.news.tell([known.told() for known in changed])
+        self.news.tell(changed)
 
     def _take(self, known):
         if known.key in self.by_key:
