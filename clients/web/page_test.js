@@ -2,6 +2,7 @@
 import assert from "node:assert";
 import { test } from "node:test";
 import { readAddress, spellAddress } from "./page/address.js";
+import { beginOf, summaryOf, wordsOf } from "./page/alarms.js";
 import { floorOf, nextMultiple, roundNumbers, wholeNumber } from "./page/numbers.js";
 import { guessUnit, spelled, timeOf, timeTicks } from "./page/times.js";
 import { decimal, rangeOf, rescaled, rowOf, sharedRange, valueTicks, wholeOf } from "./page/values.js";
@@ -129,4 +130,14 @@ test("the times of a column are those that the picture puts there", () => {
     }
   }
   assert.deepStrictEqual([timesOf(window, 0, 5).from, timesOf(window, 4, 5).to], [-3n, 14n]);
+});
+
+test("alarms are told in words", () => {
+  const told = (kind, limit, value) => wordsOf({ kind, limit, value });
+  assert.strictEqual(told("over", "90", "91.25"), "above 90, 91.25");
+  assert.strictEqual(told("under", "-5", "-7.0"), "below -5, -7.0");
+  assert.strictEqual(told("rate", "3 within 1min", "4.5"), "changed by more than 3 within 1min, 4.5");
+  assert.strictEqual(told("stale", "5min", null), "no value for longer than 5min");
+  assert.strictEqual(beginOf({ begun: "2026-11-01T08:30:00.250Z" }, "utc"), "2026-11-01 08:30:00 UTC");
+  assert.deepStrictEqual([1, 2].map(summaryOf), ["1 alarm stands", "2 alarms stand"]);
 });

@@ -22,13 +22,14 @@ HERE = os.path.dirname(os.path.realpath(__file__))
 ROOT = os.path.dirname(os.path.dirname(HERE))
 CHART = os.path.join(ROOT, "chart")
 sys.dont_write_bytecode = True
-sys.path[:0] = [HERE, os.path.join(ROOT, "scripts/lib")]
+sys.path[:0] = [HERE, os.path.join(ROOT, "clients/python")]
 
 from page_server.changes import Changes  # noqa: E402
 from page_server.feed import feed  # noqa: E402
 from page_server.handler import MOST_STREAMS, Handler, Server  # noqa: E402
-from page_server.program import Ended, Program, is_built  # noqa: E402
+from page_server.program import Program, is_built  # noqa: E402
 from page_server.sessions import Sessions  # noqa: E402
+from zurtkvani_client import Ended, page_rules  # noqa: E402
 
 
 class Stopped(Exception):
@@ -51,7 +52,7 @@ def read_words():
     words.add_argument("--origin", action="append", default=[], help="another origin that the page is reached by, as http://localhost:9000")
     words.add_argument("--log", metavar="FILE", help="write a line for each request to a file; - is standard error")
     words.add_argument("--program", help="the chart program; else ./chart of the repository")
-    words.add_argument("--module", default=os.path.join(ROOT, "dist/chart_client.wasm"), help="the proved client's module; else the repository's")
+    words.add_argument("--module", default=os.path.join(ROOT, "dist", page_rules.MODULE), help="the proved client's module; else the repository's")
     return words.parse_intermixed_args()
 
 

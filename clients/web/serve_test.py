@@ -21,7 +21,7 @@ import urllib.parse
 sys.dont_write_bytecode = True
 from serve_probe import PROGRAM, ROOT, SECONDS, Served, made_store, read_until, run_served, until
 
-sys.path.insert(0, os.path.join(ROOT, "scripts/lib"))
+sys.path.insert(0, os.path.join(ROOT, "clients/python"))
 
 from page_server.sessions import Sessions  # noqa: E402
 
@@ -91,7 +91,7 @@ class Answers(Page):
         self.assertEqual((status, data[4:6]), (200, bytes((REFUSED, 2))))
 
     def test_the_page_has_its_files(self):
-        for path in ("/", "/page.css", "/page/main.js", "/chart_client.js", "/proved_client.js", "/refusals.js", "/chart_client.wasm"):
+        for path in ("/", "/page.css", "/panels.css", "/page/main.js", "/chart_client.js", "/client/views.js", "/proved_client.js", "/refusals.js", "/chart_client.wasm"):
             self.assertEqual(self.served.ask("GET", path)[0], 200, path)
 
 
@@ -234,7 +234,7 @@ class Starts(unittest.TestCase):
     def test_a_store_that_is_none_ends_it_with_the_programs_status_and_words(self):
         missing = run_served(os.path.join(self.folder, "no.store"), "--program", PROGRAM)
         self.assertEqual((missing.returncode, missing.stdout), (6, b""))
-        self.assertIn(b"status 6 at 0. The store's file can't be opened", missing.stderr)
+        self.assertRegex(missing.stderr, b"status 6 at 0: .*no.store: No such file")
         store = made_store(self.folder)
         with open(store, "r+b") as file:
             file.seek(66 * 4096)
@@ -258,7 +258,7 @@ class Starts(unittest.TestCase):
         run = run_served(store, "--program", os.path.join(self.folder, "no"))
         self.assertEqual((run.returncode, run.stderr.count(b"\n")), (1, 1), run.stderr)
         copy = os.path.join(self.folder, "copy")
-        for part in ("clients/web", "scripts", "docs"):
+        for part in ("clients/web", "clients/python/zurtkvani_client", "docs"):
             shutil.copytree(os.path.join(ROOT, part), os.path.join(copy, part))
         with open(os.path.join(copy, "chart"), "w", encoding="ascii") as file:
             file.write('#!/bin/sh\n[ "$1" = --version ] && echo "chart 1, commit x, to be built" || touch built\n')

@@ -22,6 +22,7 @@ ROOT = os.path.dirname(os.path.dirname(os.path.dirname(os.path.dirname(os.path.r
 PROGRAMS = [os.path.join(ROOT, way) for way in ("crates/chart_program/out/chart_program", "dist/chart_program")]
 PROGRAM = next(filter(os.path.exists, PROGRAMS), None)
 sys.path.insert(0, os.path.join(ROOT, "clients/python"))
+PYTHON = sys.executable
 T = 1_700_000_000  # seconds; a multiple of 10, and not of 60
 SECOND = '[[series]]\nstep = "1s"\nscale = 2\n'
 OPENER = urllib.request.build_opener(urllib.request.ProxyHandler({}))
@@ -70,7 +71,7 @@ class Gateway:
         def limit():
             resource.setrlimit(resource.RLIMIT_FSIZE, (most_bytes, most_bytes))
 
-        command = [sys.executable, "-m", "zurtkvani_client", "gateway", self.path]
+        command = [PYTHON, "-m", "zurtkvani_client", "gateway", self.path]
         environment = {**os.environ, "PYTHONPATH": os.path.join(ROOT, "clients/python")}
         if self.log:
             self.log.close()

@@ -28,10 +28,16 @@ export class Catalog {
     return this.series.get(name);
   }
 
-  /** The series whose names hold each word of a text. */
+  /** What a series is called on the page: by its labels, where a server tells these, else by its name. */
+  shown(name) {
+    return this.get(name)?.shown ?? name;
+  }
+
+  /** The series whose names, or labels, hold each word of a text. */
   matching(text) {
     const words = text.toLowerCase().split(/\s+/);
-    return [...this.series.values()].filter(({ name }) => words.every((word) => name.toLowerCase().includes(word)));
+    const called = (name) => `${name} ${this.shown(name)}`.toLowerCase();
+    return [...this.series.values()].filter(({ name }) => words.every((word) => called(name).includes(word)));
   }
 
   /** Asks for the last values of some series that aren't known. */

@@ -80,6 +80,12 @@ class Frames {
   }
 }
 
+/**
+ * Whether a frame answers a line. A server that opens a session of the program for a view, and closes it behind, sends the frames that tell
+ * this too, since the client draws by them.
+ */
+const isAnswer = ({ kind }, line) => !["opened", "closed"].includes(kind) || /^(open|close) /.test(line);
+
 export class Connection {
   constructor(said) {
     this.said = said; // is told in words which client draws
@@ -156,8 +162,11 @@ export class Connection {
       frames.add(piece.value);
       for (let bytes = frames.next(); bytes; bytes = frames.next()) {
         performance.measure("chart: answer", { start: asked });
-        answers.push(this.take(bytes, drawn.client));
-        took(answers.length - 1, answers.at(-1));
+        const answer = this.take(bytes, drawn.client);
+        if (isAnswer(answer.frame, lines[answers.length])) {
+          answers.push(answer);
+          took(answers.length - 1, answer);
+        }
       }
       if (covered && frames.isSlow()) {
         covered(answers.length, coverOf(drawn, frames.rest()));

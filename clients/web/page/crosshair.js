@@ -39,7 +39,7 @@ export class Crosshair {
   /** What each series has in the column, in words. */
   values() {
     const traces = this.page.panels.flatMap((panel) => panel.traces).filter(({ value }) => value.textContent);
-    return traces.map(({ name, value }) => `${name} ${value.textContent}`);
+    return traces.map(({ name, value }) => `${this.page.catalog.shown(name)} ${value.textContent}`);
   }
 
   /** Shows it where it is, also behind a drawing. */

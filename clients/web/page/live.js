@@ -72,6 +72,7 @@ export class Line {
         this.fail(error);
       }
       this.forgetLate();
+      this.page.alarms.age();
       if (!isSeen()) {
         continue;
       }
@@ -105,6 +106,8 @@ export class Line {
     for await (const { name, value } of readEvents(this.page.connection.number, alive, this.cut)) {
       if (name === "changed") {
         this.change(value);
+      } else if (name === "alarms") {
+        this.page.alarms.show(value);
       } else if (name === "ended") {
         this.status.is("ended", `Nothing more is drawn: ${value}.`);
       } else if (value) {

@@ -1,4 +1,5 @@
 /** The page of a store: panels over one window of times, which the address names; what draws them, and what moves them. */
+import { Alarms } from "./alarms.js";
 import { newPanel, readAddress, spellAddress } from "./address.js";
 import { drawTimes, placedTimes } from "./axes.js";
 import { Catalog } from "./catalog.js";
@@ -28,6 +29,7 @@ class Page {
     this.panels = [];
     this.crosshair = new Crosshair(this);
     this.picker = new Picker(this);
+    this.alarms = new Alarms(this);
     this.line = new Line(this);
     this.look = { unit: "numbers", zone: "", grid: true, painted: "", spelled: String };
     this.wanted = null; // the panels that are to be drawn next, while others are being drawn
@@ -87,10 +89,11 @@ class Page {
 
   /** Makes the panels that are asked for, where they aren't there. */
   makePanels(asked) {
-    const key = JSON.stringify(asked.panels.map(({ names, filter, range }) => [names, filter, range]));
+    const shown = asked.panels.map(({ names }) => names.map((name) => this.catalog.shown(name)));
+    const key = JSON.stringify([shown, asked.panels.map(({ names, filter, range }) => [names, filter, range])]);
     if (key !== this.made) {
       this.made = key;
-      this.panels = asked.panels.map((spec, number) => new Panel(spec, number, this.doing(number)));
+      this.panels = asked.panels.map((spec, number) => new Panel(spec, shown[number], number, this.doing(number)));
       this.panels.forEach((panel) => listenOver(panel, this));
       keepFocus(() => part("panels").replaceChildren(...this.panels.map(({ element }) => element)));
     }
@@ -135,8 +138,11 @@ class Page {
   readLook(asked) {
     const [first] = this.shown(asked);
     const unit = asked.unit || (first ? guessUnit(first) : "numbers");
-    const how = { unit, zone: asked.zone };
+    const [how, before] = [{ unit, zone: asked.zone }, this.look.zone];
     this.look = { ...how, grid: asked.grid !== "off", painted: `${theme()} ${devicePixelRatio}`, spelled: (time) => spelled(time, how) };
+    if (before !== asked.zone) {
+      this.alarms.draw();
+    }
   }
 
   /** Draws all panels, once what is being drawn is there. */
@@ -212,7 +218,7 @@ class Page {
 
   showAsked(asked, window) {
     showControls(this, asked, window === NOWHERE ? null : window);
-    const names = asked.panels.flatMap((panel) => panel.names).join(", ");
+    const names = asked.panels.flatMap((panel) => panel.names.map((name) => this.catalog.shown(name))).join(", ");
     document.title = names === "" ? "Chart" : `${names} - Chart`;
   }
 

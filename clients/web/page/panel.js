@@ -7,14 +7,14 @@ import { decimal, sharedRange } from "./values.js";
 
 /** A series of a panel: what stands of it on the page, and what was drawn of it last. */
 class Trace {
-  constructor(name, place, isTop, remove) {
+  constructor(name, shown, place, isTop, remove) {
     this.name = name;
     this.place = place;
     this.canvas = make("canvas", { "data-name": name });
     this.value = make("span", { class: "value" });
-    const drop = signButton("×", `Take ${name} away`, remove, { class: "drop" });
+    const drop = signButton("×", `Take ${shown} away`, remove, { class: "drop" });
     const top = isTop ? [make("small", { title: "Where charts overlap, this one is seen" }, "on top")] : [];
-    this.entry = make("li", { class: `series-${place + 1}` }, make("b", {}, name), ...top, this.value, drop);
+    this.entry = make("li", { class: `series-${place + 1}` }, make("b", {}, shown), ...top, this.value, drop);
   }
 
   /** Puts a picture on the canvas, where it isn't there already. */
@@ -35,11 +35,12 @@ class Trace {
 }
 
 export class Panel {
-  /** `does` has what the panel's buttons do: remove(), drop(place), up(), down(), change(words). */
-  constructor(spec, number, does) {
-    Object.assign(this, { spec, number, does, range: null, window: null });
+  /** `shown` has what its series are called, and `does` what the panel's buttons do: remove(), drop(place), up(), down(), change(words). */
+  constructor(spec, shown, number, does) {
+    Object.assign(this, { spec, shown, number, does, range: null, window: null });
     const { names } = spec;
-    this.traces = names.map((name, place) => new Trace(name, place, names.length > 1 && place === names.length - 1, () => does.drop(place)));
+    const isTop = (place) => names.length > 1 && place === names.length - 1;
+    this.traces = names.map((name, place) => new Trace(name, shown[place], place, isTop(place), () => does.drop(place)));
     this.labels = make("div", { class: "values", "aria-hidden": "true" });
     this.lines = { values: make("div", { class: "grid" }), times: make("div", { class: "grid" }) };
     this.selection = make("div", { class: "selection", hidden: true });
@@ -50,7 +51,7 @@ export class Panel {
     this.settings = this.makeSettings();
     this.grip = makeGrip(this, (height) => does.change({ height }));
     const body = make("div", { class: "body" }, this.labels, this.plot);
-    const label = `Panel ${number + 1}: ${names.join(", ")}`;
+    const label = `Panel ${number + 1}: ${shown.join(", ")}`;
     this.element = make("section", { class: "panel", "aria-label": label }, this.makeHead(), this.settings, this.fault, body, this.grip);
   }
 
@@ -116,7 +117,7 @@ export class Panel {
     tell(this.fault, "");
     drawValues({ labels: this.labels, lines: this.lines.values }, range, this.h, look.grid);
     const values = range ? `values from ${decimal(range.lo, range.scale)} to ${decimal(range.hi, range.scale)}` : "no value to show";
-    this.plot.setAttribute("aria-label", `${this.spec.names.join(" and ")} from ${look.spelled(window.t0)} to ${look.spelled(window.t1)}: ${values}`);
+    this.plot.setAttribute("aria-label", `${this.shown.join(" and ")} from ${look.spelled(window.t0)} to ${look.spelled(window.t1)}: ${values}`);
     const { dataset } = this.plot;
     Object.assign(dataset, { t0: window.t0, t1: window.t1, drawings: Number(dataset.drawings ?? 0) + 1 });
   }

@@ -95,13 +95,14 @@ export class Picker {
 
   row(series) {
     const { name, step, slots, scale } = series;
+    const shown = this.page.catalog.shown(name);
     const choose = (event) => {
       this.chosen[event.target.checked ? "add" : "delete"](name);
       this.tellChosen();
     };
-    const box = make("input", { type: "checkbox", "aria-label": `Choose ${name}`, on: { change: choose } });
+    const box = make("input", { type: "checkbox", "aria-label": `Choose ${shown}`, on: { change: choose } });
     box.checked = this.chosen.has(name);
-    const show = make("button", { type: "button", class: "name", on: { click: () => this.add([newPanel([name])]) } }, name);
+    const show = make("button", { type: "button", class: "name", on: { click: () => this.add([newPanel([name])]) } }, shown);
     const last = lastText(this.page.catalog.lasts.get(name), scale);
     const cells = [lengthInWords(BigInt(step), guessUnit(series)), slots.toLocaleString("en"), last].map((text) => make("td", {}, text));
     return make("tr", {}, make("td", {}, box), make("td", {}, show), ...cells);

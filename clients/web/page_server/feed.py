@@ -1,12 +1,11 @@
 """Edits from a stream, such as standard input: those that stand ready together are stored together."""
 import os
+import struct
 import sys
 
-from status_words import cause_of_refusal
+from zurtkvani_client import Ended, words
+from zurtkvani_client.page_rules import EDITS, LONGEST, MOST_LINES, REFUSED
 
-from .program import EDITS, MOST_LINES, REFUSED, Ended
-
-LONGEST = 8192
 AT_ONCE = 65536
 
 
@@ -25,7 +24,7 @@ def hand_on(program, lines):
         some = edits[at : at + MOST_LINES]
         for line, frame in zip(some, program.answers(some)):
             if frame[4] == REFUSED:
-                say(line, f"is refused: {cause_of_refusal(frame[5])}")
+                say(line, f"is refused: {words.refusal(*struct.unpack('>BQQ', frame[5:]))}")
 
 
 def feed(program, file):

@@ -10,26 +10,13 @@ import socket
 import sys
 import time
 
+from zurtkvani_client import Ended, page_rules
+from zurtkvani_client.page_rules import BEAT, MOST_BYTES, REST
+
 from .connections import ANSWER, BODY, HEAD, WAITING, Connections, refuse
-from .program import MOST_LINES, Ended
 
 FOLDER = os.path.dirname(os.path.dirname(os.path.realpath(__file__)))
-KINDS = {".html": "text/html; charset=utf-8", ".js": "text/javascript; charset=utf-8", ".css": "text/css; charset=utf-8"}
-SHOWN = re.compile(r"/(?:|page\.css|chart_client\.js|proved_client\.js|refusals\.js|page/[a-z_]+\.js)")
-MODULE = "/chart_client.wasm"
-LONGEST = 8192  # bytes of a line
-MOST_BYTES = 65536  # of a body
-READING = (b"open", b"close", b"view", b"zoom", b"pan")
 MOST_STREAMS = 48
-BEAT = 5  # seconds from one sign of life on a stream to the next
-REST = 0.02  # and at least from what changed to what changes next, so that many edits are told together
-HEADERS = {
-    "Content-Security-Policy": "default-src 'none'; script-src 'self' 'wasm-unsafe-eval'; style-src 'self'; connect-src 'self'; "
-    "base-uri 'none'; form-action 'none'; frame-ancestors 'none'",
-    "X-Content-Type-Options": "nosniff",
-    "Referrer-Policy": "no-referrer",
-    "Cache-Control": "no-store",
-}
 
 
 class Handler(http.server.BaseHTTPRequestHandler):
@@ -69,7 +56,7 @@ class Handler(http.server.BaseHTTPRequestHandler):
 
     def head(self, status, kind, more):
         self.send_response(status)
-        headers = {"Content-Type": kind, **more, **HEADERS}
+        headers = {"Content-Type": kind, **more, **page_rules.HEADERS}
         if self.close_connection:
             headers["Connection"] = "close"
         for name, value in headers.items():
@@ -94,12 +81,9 @@ class Handler(http.server.BaseHTTPRequestHandler):
         if not self.is_own():
             return self.refuse(403, "another host or origin")
         path = self.path.partition("?")[0]
-        if path == MODULE:
-            return self.send_file(self.server.module, "application/wasm", "its module isn't built")
-        if not SHOWN.fullmatch(path):
-            return self.refuse(404, "no such file")
-        name = path[1:] or "index.html"
-        return self.send_file(os.path.join(FOLDER, name), KINDS[os.path.splitext(name)[1]], "no such file")
+        found = page_rules.file_of(path, FOLDER, self.server.module)
+        why = "its module isn't built" if path == "/" + page_rules.MODULE else "no such file"
+        return self.send_file(*found, why) if found else self.refuse(404, why)
 
     do_HEAD = do_GET
 
@@ -115,7 +99,7 @@ class Handler(http.server.BaseHTTPRequestHandler):
         self.turn_to(BODY)
         if not self.is_own():
             return self.refuse(403, "another host or origin")
-        if not hmac.compare_digest((self.the_only("X-Chart-Token") or "").encode(), self.server.token.encode()):
+        if not hmac.compare_digest((self.the_only(page_rules.TOKEN) or "").encode(), self.server.token.encode()):
             return self.refuse(403, "a wrong token")
         body = self.body()
         if body is None:
@@ -139,20 +123,20 @@ class Handler(http.server.BaseHTTPRequestHandler):
 
     def answer_lines(self, body):
         """Sends the frames of request lines, each as soon as it is there."""
-        lines = body.split(b"\n")
-        if len(lines) > MOST_LINES or not all(1 <= len(line) <= LONGEST and line != b"\r" for line in lines):
-            return self.refuse(400, f"a request is at most {MOST_LINES} lines, each of 1 to {LONGEST} bytes")
-        words = {re.match(rb"[^ \r]*", line)[0] for line in lines}
-        if not self.server.edits and not words <= set(READING):
+        try:
+            lines = page_rules.lines_of(body, None if self.server.edits else page_rules.OF_SESSION)
+        except ValueError as why:
+            return self.refuse(400, str(why))
+        except PermissionError:
             return self.refuse(403, "without --edit only open, close, view, zoom and pan are taken")
         frames = self.server.sessions.answers(lines)
         if len(lines) == 1:
-            return self.send(200, "application/octet-stream", next(frames))
+            return self.send(200, page_rules.FRAMES, next(frames))
         return self.send_pieces(next(frames), frames)
 
     def send_pieces(self, first, others):
         """Sends a first piece and those that follow it, as they come. Where the program ends in between, the answer has no end."""
-        self.head(200, "application/octet-stream", {"Transfer-Encoding": "chunked"})
+        self.head(200, page_rules.FRAMES, {"Transfer-Encoding": "chunked"})
         try:
             for piece in itertools.chain([first], others, [b""]):
                 self.wfile.write(b"%x\r\n%b\r\n" % (len(piece), piece))
@@ -161,7 +145,7 @@ class Handler(http.server.BaseHTTPRequestHandler):
             self.close_connection = True
 
     def send_catalog(self, _):
-        self.send_json(200, [told(series) for series in list(self.server.program.catalog.values())])
+        self.send_json(200, [page_rules.told(series) for series in list(self.server.program.catalog.values())])
 
     def send_events(self, number):
         """A stream of events, which holds a session: `changed` with the series that changed, `ended` with how the program ended,
@@ -174,7 +158,7 @@ class Handler(http.server.BaseHTTPRequestHandler):
                 return self.refuse(503, "too many pages look at this store")
             try:
                 self.close_connection = True
-                self.head(200, "text/event-stream", {})
+                self.head(200, page_rules.EVENTS, {})
                 self.send_changes(session)
             finally:
                 self.server.streams.release()
@@ -187,19 +171,19 @@ class Handler(http.server.BaseHTTPRequestHandler):
         while not self.is_left():
             if time.monotonic() - beaten > BEAT:
                 beaten = time.monotonic()
-                self.wfile.write(b": here\n\n")
+                self.wfile.write(page_rules.SIGN_OF_LIFE)
             if program.over.is_set():
-                return self.event("ended", program.end)
+                return self.event("ended", str(program.end))
             if session.over.is_set():
                 return self.event("closed", session.gave_way)
             self.wfile.flush()
             seen, series = changes.since(seen, 1)
             if series:
-                self.event("changed", [told(one) for one in series])
+                self.event("changed", [page_rules.told(one) for one in series])
                 time.sleep(REST)
 
     def event(self, name, value):
-        self.wfile.write(f"event: {name}\ndata: {json.dumps(value)}\n\n".encode())
+        self.wfile.write(page_rules.event(name, value))
         self.wfile.flush()
 
     def is_left(self):
@@ -216,11 +200,6 @@ class Handler(http.server.BaseHTTPRequestHandler):
 
     def log_message(self, *_):
         pass
-
-
-def told(series):
-    """A series as JSON; its start as a text, since it may pass 2^53."""
-    return {**series._asdict(), "start": str(series.start)}
 
 
 class Server(http.server.ThreadingHTTPServer):

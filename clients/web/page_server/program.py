@@ -4,86 +4,31 @@ The catalog comes from a run of `list` before; from then on each edit goes throu
 and says which series changed.
 """
 import os
-import re
 import subprocess
-import sys
 import threading
-from typing import NamedTuple
 
-from status_words import words_of_status
+from zurtkvani_client.page_rules import DONE
+from zurtkvani_client.run import Listener
+from zurtkvani_client.store import Series, Store
 
-DONE, REFUSED, OPENED, CLOSED = 1, 2, 3, 4  # kinds of frames
-EDITS = (b"create", b"append", b"set", b"clear")
-MOST_LINES = 64  # the edits that a run stores together
 NO_REQUEST = b"?"  # a line that is refused; a run that answers it stands
 
 
-class Ended(Exception):
-    """The program has ended; `status` is its exit status."""
-
-    def __init__(self, why, status):
-        super().__init__(why)
-        self.status = status
-
-
-class Series(NamedTuple):
-    """What the catalog has of a series."""
-
-    name: str
-    start: int
-    step: int
-    scale: int
-    slots: int
-
-
-def end_in_words(status, said):
-    """A status and its place, what they mean, and what to do."""
-    command, place = said
-    if place is None:
-        return f"status {status}"
-    texts = words_of_status(status, place, command) or {}
-    return ". ".join([f"status {status} at {place}"] + [texts[key] for key in ("means", "do") if key in texts])
-
-
-def place_in(line):
-    """The place of the line in which the program tells its status, or None."""
-    found = re.fullmatch(rb"chart: status \d+ at (\d+)\n?", line)
-    return int(found[1]) if found else None
-
-
-def listed(program, store):
-    """The catalog of a store, by the names of its series."""
-    run = subprocess.run([program, store, "list"], stdin=subprocess.DEVNULL, capture_output=True, check=False)
-    if run.returncode:
-        lines = run.stderr.splitlines()
-        place = next((place_in(line) for line in lines if place_in(line) is not None), None)
-        if place is None:
-            sys.stderr.write(run.stderr.decode(errors="replace"))
-        raise Ended(f"the program has ended with {end_in_words(run.returncode, ('list', place))}", run.returncode)
-    rows = [line.split(" ") for line in run.stdout.decode().splitlines()]
-    return {name: Series(name, *map(int, numbers)) for name, *numbers in rows}
-
-
 class Program:
-    """A run of `serve`. `changed` is called with each series that edits changed, behind their answers."""
+    """A run of `serve`. `changed` is called with each series that edits changed, behind their answers. Raises Ended."""
 
     def __init__(self, program, store, changed):
-        self.catalog, self.changed = listed(program, store), changed
+        self.catalog, self.changed = {series.name: series for series in Store(store, program).series()}, changed
         pipes = {"stdin": subprocess.PIPE, "stdout": subprocess.PIPE, "stderr": subprocess.PIPE}
         # A session of its own, so that Control-C reaches this process alone.
         self.child = subprocess.Popen([program, store, "serve"], start_new_session=True, **pipes)
-        self.turn, self.over, self.end, self.status = threading.Lock(), threading.Event(), None, None
-        threading.Thread(target=self.listen, daemon=True).start()
+        self.turn, self.over, self.end = threading.Lock(), threading.Event(), None
+        threading.Thread(target=self.listen, args=(Listener(self.child, "serve", store),), daemon=True).start()
         self.answers([NO_REQUEST])
 
-    def listen(self):
-        """Hands on what the program says, and notes how it ended."""
-        place = None
-        for line in self.child.stderr:
-            sys.stderr.write(line.decode(errors="replace"))
-            place = place if place_in(line) is None else place_in(line)
-        self.status = self.child.wait()
-        self.end = f"the program has ended with {end_in_words(self.status, ('serve', place))}"
+    def listen(self, listener):
+        """Notes how the program ended, once it has."""
+        self.end = listener.end()
         self.over.set()
 
     def read(self, size):
@@ -108,7 +53,7 @@ class Program:
                 frames = [self.frame() for _ in lines]
             except (OSError, ValueError):
                 self.over.wait()
-                raise Ended(self.end, self.status) from None
+                raise self.end from None
             changed = {name for name in map(self.note, lines, frames) if name}
             series = [self.catalog[name] for name in changed]
         if series:

@@ -6,12 +6,8 @@ behind its last request. Where a page asks for a session and there is none left,
 import threading
 import time
 
-from .program import CLOSED, EDITS, OPENED, REFUSED, Ended
-
-UNKNOWN_SESSION, TOO_MANY = 4, 6  # numbers of refusals
-GONE = 30  # seconds from the last request until a session that no page holds is closed
-IDLE = {False: 5, True: 60}  # seconds without a request from which a session gives way, by whether a page holds it
-OF_SESSION = (b"open", b"close", b"view", b"zoom", b"pan")
+from zurtkvani_client import Ended
+from zurtkvani_client.page_rules import CLOSED, EDITS, GONE, OPENED, SWEEP, TOO_MANY, UNKNOWN_SESSION, gives_way, number_in, refusal_in
 
 
 class Session:
@@ -20,13 +16,6 @@ class Session:
 
     def idle(self):
         return time.monotonic() - self.asked
-
-
-def number_in(line):
-    """The number of the session that a line names, or None."""
-    word, _, rest = line.rstrip(b"\r").partition(b" ")
-    number = rest.partition(b" ")[0]
-    return number if word in OF_SESSION and number.isdigit() else None
 
 
 class Sessions:
@@ -41,7 +30,7 @@ class Sessions:
             return self.program.answer(line)
         with self.lock:
             frame = self.program.answer(line)
-            if frame[4:6] == bytes((REFUSED, TOO_MANY)) and self.make_room():
+            if refusal_in(frame) == TOO_MANY and self.make_room():
                 frame = self.program.answer(line)
             self.note(number, frame)
         return frame
@@ -57,7 +46,7 @@ class Sessions:
         if frame[4] == OPENED:
             self.let_go(number)
             self.held[number] = Session()
-        elif frame[4] == CLOSED or frame[4:6] == bytes((REFUSED, UNKNOWN_SESSION)):
+        elif frame[4] == CLOSED or refusal_in(frame) == UNKNOWN_SESSION:
             self.let_go(number)
         elif number in self.held:
             self.held[number].asked = time.monotonic()
@@ -72,13 +61,12 @@ class Sessions:
         self.program.answer(b"close " + number)
 
     def make_room(self):
-        """Closes the session that was idle longest, if one was for long enough; first of those that no page holds."""
-        idle = [(session.streams > 0, -session.idle(), number) for number, session in self.held.items() if session.idle() > IDLE[session.streams > 0]]
-        if idle:
-            number = min(idle)[2]
+        """Closes a session that was idle for long, if there is one; tells whether there was."""
+        number = gives_way(self.held)
+        if number:
             self.held[number].gave_way = True
             self.close(number)
-        return bool(idle)
+        return number is not None
 
     def attach(self, number):
         """The session that a page holds from now on by a stream, or None where it isn't open."""
@@ -95,7 +83,7 @@ class Sessions:
 
     def sweep(self):
         """Closes, again and again, the sessions whose pages are gone."""
-        while not self.program.over.wait(5):
+        while not self.program.over.wait(SWEEP):
             with self.lock:
                 gone = [number for number, session in self.held.items() if session.streams == 0 and session.idle() > GONE]
                 try:

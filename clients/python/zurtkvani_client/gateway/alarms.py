@@ -132,6 +132,7 @@ class Alarms:
         self.tellers = Tellers(configuration, counts, publish, self._keep)
         self.watches, self.kept = {}, {}
         self.writing, self.is_kept, self.task = asyncio.Lock(), True, None
+        self.changes = 0  # how often one began or ended
 
     async def start(self):
         """Takes in what was kept, and begins to look at what is stale and to tell what isn't told."""
@@ -217,6 +218,7 @@ class Alarms:
         """Has changes told, once they are kept."""
         if not changes:
             return
+        self.changes += len(changes)
         for watch, state, slot, number in changes:
             at = date_text(watch.time_of(slot))
             event = {**watch.told(), "state": state, "time": at, "value": None if number is None else decimal_text(number, watch.known.record.scale)}
@@ -245,9 +247,12 @@ class Alarms:
         found = [watch for watches in self.watches.values() for watch in watches if watch.begun is not None]
         return sorted(found, key=lambda watch: (watch.begun, watch.rule.name, watch.known.key))
 
+    def listed(self):
+        """What is told of these."""
+        return [{**watch.told(), "name": watch.known.name, "begun": date_text(watch.begun)} for watch in self.active()]
+
 
 async def listed(gateway, _request):
     """GET /alarms: those that have begun and not ended, and how much isn't told yet."""
     alarms = gateway.alarms
-    found = [{**watch.told(), "begun": date_text(watch.begun)} for watch in alarms.active()]
-    return web.Response(text=json.dumps({"alarms": found, "untold": len(alarms.tellers.untold())}) + "\n", content_type="application/json")
+    return web.Response(text=json.dumps({"alarms": alarms.listed(), "untold": len(alarms.tellers.untold())}) + "\n", content_type="application/json")

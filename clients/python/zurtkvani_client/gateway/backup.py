@@ -1,5 +1,6 @@
 """Backups of a running gateway: each store's file as it is between two turns, copied into the folder that the configuration names."""
 import asyncio
+import contextlib
 import datetime
 import json
 import os
@@ -12,12 +13,11 @@ import urllib.request
 
 from aiohttp import web
 
-from . import child, configuration
+from . import bring_up, child, configuration
 from .log import tell
 from .replacing import sync_folder
 
 SECONDS = 3600  # for a whole backup
-PIECE = 2**20  # bytes that are compared at once
 
 
 def copy(path, into):
@@ -29,35 +29,28 @@ def copy(path, into):
         raise OSError(done.stderr.decode(errors="replace").strip())
 
 
-def pieces_of(file):
-    """The pieces of a file that are no holes: pairs of an offset and a size."""
-    at, length = 0, os.fstat(file).st_size
-    while at < length:
+@contextlib.asynccontextmanager
+async def twin(path, into):
+    """A process that brings a copy up to what a file is, as often as it is asked; gives how to ask."""
+    pipe = asyncio.subprocess.PIPE
+    words = (sys.executable, "-I", bring_up.__file__, path, into)
+    process = await asyncio.create_subprocess_exec(*words, stdin=pipe, stdout=pipe, stderr=asyncio.subprocess.DEVNULL, start_new_session=True)
+
+    async def brought_up():
         try:
-            at = os.lseek(file, at, os.SEEK_DATA)
-        except OSError:  # there is no data behind
-            return
-        end = os.lseek(file, at, os.SEEK_HOLE)
-        for begin in range(at, end, PIECE):
-            yield begin, min(PIECE, end - begin)
-        at = end
+            process.stdin.write(b"\n")
+            await process.stdin.drain()
+            answer = await process.stdout.readline()
+        except ConnectionError:
+            answer = b""
+        if not answer:
+            raise OSError(f"{path} can't be read, or {into} can't be written")
 
-
-def bring_up_to(path, into):
-    """Makes a copy, that was made while the file changed, what the file is now: copies the pieces that differ."""
-    one, other = bytearray(PIECE), bytearray(PIECE)
-    source, copied = os.open(path, os.O_RDONLY), os.open(into, os.O_RDWR)
     try:
-        for at, size in pieces_of(source):
-            mine, theirs = memoryview(one)[:size], memoryview(other)[:size]
-            if os.preadv(source, [mine], at) != size:
-                raise OSError(f"{path} can't be read at {at}")
-            if os.preadv(copied, [theirs], at) != size or one != other:
-                if os.pwrite(copied, mine, at) != size:
-                    raise OSError(f"{into} can't be written at {at}")
+        yield brought_up
     finally:
-        os.close(source)
-        os.close(copied)
+        process.stdin.close()
+        await process.wait()
 
 
 def bring_to_disk(path):
@@ -66,19 +59,21 @@ def bring_to_disk(path):
 
 
 async def copy_store(keeper, folder):
-    """Copies a store as it is between two turns, and tells how long it was held for that. Most is copied before, while it changes. A run that is
-    started anew while the store is held finds nothing to finish, and so changes nothing."""
+    """Copies a store as it is between two turns, and tells how long it was held for that. Most is copied before, while it changes, and once more what
+    changed meanwhile. A run that is started anew while the store is held finds nothing to finish, and so changes nothing."""
     into = os.path.join(folder, os.path.basename(keeper.path))
     before = keeper.state()
     await asyncio.to_thread(copy, keeper.path, into)
-    await asyncio.wait_for(keeper.is_up.wait(), 30)
-    async with keeper.free:
-        if keeper.run is None and not keeper.down:
-            raise child.Lost(f"{keeper.path} has no run now")
-        begun = time.monotonic()
-        if keeper.state() != before:
-            await asyncio.to_thread(bring_up_to, keeper.path, into)
-        held = time.monotonic() - begun
+    async with twin(keeper.path, into) as brought_up:
+        await brought_up()
+        await asyncio.wait_for(keeper.is_up.wait(), 30)
+        async with keeper.free:
+            if keeper.run is None and not keeper.down:
+                raise child.Lost(f"{keeper.path} has no run now")
+            begun = time.monotonic()
+            if keeper.state() != before:
+                await brought_up()
+            held = time.monotonic() - begun
     await asyncio.to_thread(bring_to_disk, into)
     return {"store": os.path.basename(keeper.path), "bytes": os.path.getsize(into), "seconds_held": round(held, 3)}
 

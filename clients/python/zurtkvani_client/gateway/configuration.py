@@ -184,6 +184,7 @@ SECTIONS = {
         "lookback": ("5min", duration(0.001, 10**8)), "most_steps": (11_000, number(1, 10**6)),
         "most_values": (1_000_000, number(1000, 10**9)), "at_once": (4, number(1, 1000)), "seconds": ("30s", duration(1, 3600)),
     },
+    "page": {"folder": ("", none_or(text)), "module": ("", none_or(text)), "viewers": (256, number(1, 10_000))},
     "limits": {
         "body": ("16M", a_size(1024, 2**32)), "unpacked": ("64M", a_size(1024, 2**34)), "connections": (512, number(1, 100_000)),
         "client_connections": (128, number(1, 100_000)), "client_requests_a_second": (2000, number(1, 10**6)),

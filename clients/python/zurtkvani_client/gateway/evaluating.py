@@ -15,11 +15,24 @@ MOST_SERIES = 5_000
 AT_ONCE = 32  # series of a query that are read at once
 
 
-class Line(collections.namedtuple("Line", "labels values")):
-    """What a query comes to for some labels: a value, or None, for each time."""
+class Line(collections.namedtuple("Line", "labels given scale", defaults=[None])):
+    """What a query comes to for some labels: a value, or None, for each time. Given are decimals, or where a scale is named, as stored values are,
+    whole numbers of so many decimals."""
 
     def has_values(self):
-        return any(value is not None for value in self.values)
+        return any(value is not None for value in self.given)
+
+    @property
+    def values(self):
+        if self.scale is None:
+            return self.given
+        return [None if number is None else Decimal(number).scaleb(-self.scale, EXACT) for number in self.given]
+
+    def texts(self):
+        """The values as Prometheus spells them."""
+        if self.scale is None:
+            return [None if value is None else text_of(value) for value in self.given]
+        return [None if number is None else text_of_number(number, self.scale) for number in self.given]
 
 
 class Evaluation:
@@ -55,7 +68,7 @@ class Evaluation:
     async def selected(self, known):
         """A series as it is at each time: its last value of those that lie no longer back than the lookback, or than two steps of the series."""
         rows = await self.reads.rows(known, self.windows(max(self.lookback, 2 * known.gap)))
-        return Line(known.labels, [row and real(row.last, known) for row in rows])
+        return Line(known.labels, [row and row.last for row in rows], known.record.scale)
 
     async def called(self, tree, known):
         labels = {label: value for label, value in known.labels.items() if label != NAME}
@@ -65,7 +78,7 @@ class Evaluation:
         rows = await self.reads.rows(known, self.windows(tree.selector.range))
         field = {"min_over_time": "least", "max_over_time": "greatest", "last_over_time": "last"}[tree.name]
         labels = known.labels if field == "last" else labels
-        return Line(labels, [row and real(getattr(row, field), known) for row in rows])
+        return Line(labels, [row and getattr(row, field) for row in rows], known.record.scale)
 
     def aggregated(self, tree, lines):
         if isinstance(lines, list) and lines and not isinstance(lines[0], Line):
@@ -155,6 +168,15 @@ OPERATIONS = {"+": EXACT.add, "-": EXACT.subtract, "*": EXACT.multiply, "/": EXA
 def pairwise(sign, left, right):
     operation = OPERATIONS[sign]
     return [None if one is None or other is None else operation(one, other) for one, other in zip(left, right)]
+
+
+def text_of_number(number, scale):
+    """A whole number of so many decimals as `text_of` spells its value."""
+    if not scale:
+        return str(number)
+    digits = str(abs(number)).zfill(scale + 1)
+    text = f"{digits[:-scale]}.{digits[-scale:]}".rstrip("0").rstrip(".")
+    return f"-{text}" if number < 0 else text
 
 
 def text_of(value):

@@ -9,8 +9,10 @@ from .intake import Intake
 from .line_protocol import Reader
 from .metrics import Counts
 from .mqtt import Broker
+from .news import News
 from .retention import Retention
 from .stores import Stores
+from .viewers import Viewers
 from .writing import Writer
 
 try:
@@ -25,18 +27,19 @@ class Gateway:
     def __init__(self, given):
         self.given, self.snappy = given, snappy
         self.counts, self.budget, self.guard = Counts(), Budget(given.write.waiting_bytes), Guard(given)
-        self.stores, self.writers = Stores(given, self.counts), {}
+        self.news, self.is_ending = News(), asyncio.Event()
+        self.stores, self.writers = Stores(given, self.counts, self.news), {}
         self.intake = Intake(given, self.stores, self.writer_of, self.waiting, self.counts)
         self.broker = Broker(self)
         self.alarms = Alarms(given, self.stores, self.counts, self.broker.publish)
-        self.retention, self.backing_up = Retention(self), asyncio.Lock()
+        self.retention, self.backing_up, self.viewers = Retention(self), asyncio.Lock(), Viewers(self)
         self.reading = asyncio.Semaphore(given.read.at_once)
         self.sweeping = None
         self.line_reader = Reader(given.write.database_label, given.write.separator)
 
     def writer_of(self, keeper):
         if keeper not in self.writers:
-            self.writers[keeper] = Writer(keeper, self.counts, self.stores.full, self.alarms.saw)
+            self.writers[keeper] = Writer(keeper, self.counts, self.stores, self.alarms.saw)
         return self.writers[keeper]
 
     def waiting(self):
@@ -51,11 +54,13 @@ class Gateway:
         await self.stores.start()
         await self.alarms.start()
         self.broker.start()
+        self.viewers.start()
         self.sweeping = asyncio.create_task(self.retention.work())
 
     async def stop(self):
         """Stores what was taken in, and ends the runs."""
         await self.broker.stop()
+        await self.viewers.stop()
         if self.sweeping:
             self.sweeping.cancel()
             await asyncio.wait({self.sweeping})

@@ -8,6 +8,8 @@ import urllib.parse
 
 from aiohttp import web
 
+from .. import page_rules
+
 READ, WRITE, EITHER, OPEN = "read", "write", "either", "open"  # what a token has to allow
 LOOPBACK = ("localhost", "127.0.0.1", "::1")
 MOST_CLIENTS = 10_000  # of which the pace is kept
@@ -23,7 +25,7 @@ def token_of(request):
             return base64.b64decode(shown, validate=True).decode().partition(":")[2]
         except (binascii.Error, UnicodeDecodeError):
             return ""
-    return request.query.get("p", "")
+    return request.headers.get(page_rules.TOKEN) or request.query.get("p", "")
 
 
 def is_one_of(token, digests):

@@ -18,11 +18,12 @@ HELP = {
     "requests_total": "Requests by what they asked for and their status",
     "request_seconds_total": "Time of these requests",
     "views_total": "Views that were asked of stores",
+    "page_views_total": "Views that pages were answered: by a session of their own, whole, or as another page",
     "made_series_total": "Series that the gateway made",
     "alarms_total": "Alarms that began and that ended",
     "untold_alarms_total": "Alarms that were given up, and not told",
 }
-LABELLED = {"requests_total", "request_seconds_total", "alarms_total", "untold_alarms_total"}  # sums of which there is one for each label
+LABELLED = {"requests_total", "request_seconds_total", "page_views_total", "alarms_total", "untold_alarms_total"}  # sums of which there is one for each label
 
 
 class Counts:
@@ -84,6 +85,7 @@ def text(gateway):
         *gauge("store_pages_used", "Pages in use of a store", [(labels, used) for labels, (used, _) in pages]),
         *gauge("store_pages_left", "Pages of a store that are free", [(labels, total - used) for labels, (used, total) in pages]),
         *gauge("alarms", "Alarms that have begun and not ended", [((), len(gateway.alarms.active()))]),
+        *gauge("page_viewers", "Pages that look at the stores", [((), len(gateway.viewers.held))]),
         *gauge("start_time_seconds", "When the gateway was started", [((), int(gateway.counts.begun))]),
     ]
     return "\n".join(lines) + "\n"

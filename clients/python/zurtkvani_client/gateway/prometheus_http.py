@@ -31,14 +31,22 @@ def in_form(answer):
                 data, *ways = await answer(gateway, words, request)
         except tuple(FAILURES) as why:
             status, kind = next(found for of, found in FAILURES.items() if isinstance(why, of))
-            return form(status, {"status": "error", "errorType": kind, "error": str(why) or "the query takes too long"})
-        return form(200, {"status": "success", "data": data}, **{"Zurtkvani-Read": ways[0]} if ways else {})
+            return form(status, spelled({"status": "error", "errorType": kind, "error": str(why) or "the query takes too long"}))
+        text = data if isinstance(data, Spelled) else spelled(data)
+        return form(200, f'{{"status":"success","data":{text}}}', **{"Zurtkvani-Read": ways[0]} if ways else {})
 
     return answered
 
 
-def form(status, told, **headers):
-    text = json.dumps(told, ensure_ascii=False, separators=(",", ":"))
+class Spelled(str):
+    """What is JSON already."""
+
+
+def spelled(told):
+    return json.dumps(told, ensure_ascii=False, separators=(",", ":"))
+
+
+def form(status, text, **headers):
     return web.Response(status=status, text=text, content_type="application/json", headers=headers)
 
 
@@ -109,13 +117,21 @@ async def query_range(gateway, words, _request):
     found = await asked.lines(promql.parse(word(words, "query")))
     if found and not isinstance(found[0], Line):
         found = [Line({}, found)]
-    times = [seconds(first + at * step) for at in range(count)]
-    result = [{"metric": line.labels, "values": pairs} for line in found if (pairs := pairs_of(times, line.values))]
-    return {"resultType": "matrix", "result": result}, ways_of(asked.reads)
+    times = times_of(first, step, count)
+    result = ",".join([f'{{"metric":{spelled(line.labels)},"values":[{pairs}]}}' for line in found if (pairs := pairs_of(times, line))])
+    return Spelled(f'{{"resultType":"matrix","result":[{result}]}}'), ways_of(asked.reads)
 
 
-def pairs_of(times, values):
-    return [[at, evaluating.text_of(value)] for at, value in zip(times, values) if value is not None]
+def times_of(first, step, count):
+    """The times of a query as Prometheus tells them."""
+    if first % SECOND == 0 and step % SECOND == 0:
+        return range(first // SECOND, (first + count * step) // SECOND, step // SECOND)
+    return [seconds(first + at * step) for at in range(count)]
+
+
+def pairs_of(times, line):
+    """The values of a line as JSON, each behind its time. Of what a value is spelled with JSON quotes nothing."""
+    return ",".join([f'[{at},"{text}"]' for at, text in zip(times, line.texts()) if text is not None])
 
 
 @in_form

@@ -9,7 +9,7 @@ import time
 
 from aiohttp import web
 
-from . import alarms, backup, charts_http, configuration, metrics, names, prometheus_http, writes_http
+from . import alarms, backup, charts_http, configuration, metrics, names, page_http, prometheus_http, writes_http
 from .gateway import Gateway
 from .guard import EITHER, OPEN, READ, WRITE
 from .log import LogLines, tell
@@ -29,6 +29,9 @@ async def health(gateway, _request):
     return web.Response(status=503 if faults else 200, text=told, content_type="application/json")
 
 
+PAGE = (
+    "/", "/{name:page|panels}.css", "/{folder:page|client}/{name}.js", "/{name:chart_client|proved_client|refusals}.js", "/chart_client.wasm",
+)
 # For each address its method, what a token has to allow, and who answers.
 ROUTES = [
     ("POST", "/write", WRITE, writes_http.write_1), ("POST", "/api/v2/write", WRITE, writes_http.write_2),
@@ -43,6 +46,11 @@ ROUTES = [
         ("query", prometheus_http.query), ("query_range", prometheus_http.query_range), ("series", prometheus_http.series),
         ("labels", prometheus_http.labels),
     )),
+    *(
+        (method, path, OPEN, page_http.file) for method in ("GET", "HEAD")
+        for path in PAGE
+    ),
+    ("POST", "/request", READ, page_http.lines), ("POST", "/catalog", READ, page_http.catalog), ("POST", "/events", READ, page_http.events),
     ("GET", "/api/v1/label/{label}/values", READ, prometheus_http.label_values), ("GET", "/api/v1/metadata", READ, prometheus_http.metadata),
     ("GET", "/api/v1/status/buildinfo", READ, prometheus_http.build_info),
 ]
@@ -106,6 +114,7 @@ def answering(gateway, path, kind, answer):
 
 # What waits for no other answer.
 LIGHT = {answer for _, _, kind, answer in ROUTES if kind != READ} | {metrics_of, alarms.listed, prometheus_http.build_info}
+LIGHT |= {page_http.lines, page_http.catalog, page_http.events}
 
 
 def application(gateway, doors):
@@ -183,6 +192,7 @@ async def serve(given):
         tell("the gateway listens", address=str(given.listen.address), port=given.listen.port, series=len(gateway.stores.by_key))
         await ended.wait()
         tell("the gateway ends")
+        gateway.is_ending.set()
     finally:
         await runner.cleanup()
         await gateway.stop()

@@ -26,7 +26,7 @@ class Known:
     """A series: its labels outside, its record in its store, and the same grid in nanoseconds."""
 
     def __init__(self, key, keeper, record):
-        self.key, self.keeper, self.record = key, keeper, record
+        self.key, self.keeper, self.record, self.place = key, keeper, record, 0  # which one of its store's series it is, as they were made
         self.unit = UNITS[unit_of(record.start)]
         self.first, self.gap, self.slots = record.start * self.unit, record.step * self.unit, record.slots
 
@@ -37,6 +37,10 @@ class Known:
     @property
     def labels(self):
         return dict(self.key)
+
+    def told(self):
+        """What its store has of it now."""
+        return self.record._replace(slots=self.slots)
 
 
 def require_short(key):
@@ -51,11 +55,11 @@ class NoRoom(Exception):
 class Stores:
     """All stores, and all series by their labels."""
 
-    def __init__(self, configuration, counts):
-        self.given, self.rules, self.counts = configuration.stores, configuration.series, counts
+    def __init__(self, configuration, counts, news):
+        self.given, self.rules, self.counts, self.news = configuration.stores, configuration.series, counts, news
         self.names = None
         self.keepers, self.full = [], set()
-        self.by_key, self.by_name, self.inner = {}, {}, {}
+        self.by_key, self.by_name, self.inner, self.places = {}, {}, {}, itertools.count()
         self.making, self.lock = asyncio.Lock(), None
 
     async def start(self):
@@ -104,9 +108,17 @@ class Stores:
             else:
                 tell("a series stands in two stores, and this one is passed over", "warning", path=keeper.path, series=record.name)
 
+        # What was dropped or stored without an answer while there was no run is seen from now on.
+        self.tell([known for known in self.inner.values() if known.keeper is keeper])
+
+    def tell(self, changed):
+        """Tells that some series changed."""
+        self.news.tell(changed)
+
     def _take(self, known):
         if known.key in self.by_key:
             return
+        known.place = next(self.places)
         self.by_key[known.key] = self.inner[known.name] = known
         self.by_name.setdefault(known.labels.get(NAME, ""), []).append(known)
 
@@ -180,7 +192,9 @@ class Stores:
                 record = next((record for record in keeper.series if record.name == names[key]), None)
             if record is None or refusal and refusal.number != EXISTS:
                 raise NoRoom(f"{text_of(key)} can't be made: {frame.hex()}")
-            self._take(Known(key, keeper, record))
+            known = Known(key, keeper, record)
+            self._take(known)
+            self.tell([known])
             self.counts.add("made_series_total")
             tell("a series is made", path=keeper.path, name=names[key], series=text_of(key), step=record.step, scale=record.scale)
 

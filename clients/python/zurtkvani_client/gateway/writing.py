@@ -34,8 +34,9 @@ class Batch:
         return self.done.result()
 
     def lines(self):
-        """Pairs of a series and a line that stores up to 256 slots of it which follow each other."""
-        for known, values in self.values.items():
+        """Pairs of a series and a line that stores up to 256 slots of it which follow each other. Series stand as they were made: so edits that
+        share a commit change fewer pages of the catalog, and more of them have room in one."""
+        for known, values in sorted(self.values.items(), key=lambda pair: pair[0].place):
             for line in lines_by_slots(known.name, known.record.start, known.record.step, values):
                 yield known, line
 
@@ -43,8 +44,8 @@ class Batch:
 class Writer:
     """Stores the batches of one store, one after the other."""
 
-    def __init__(self, keeper, counts, full, on_stored):
-        self.keeper, self.counts, self.full, self.on_stored = keeper, counts, full, on_stored
+    def __init__(self, keeper, counts, stores, on_stored):
+        self.keeper, self.counts, self.stores, self.on_stored = keeper, counts, stores, on_stored
         self.batch, self.working, self.task = None, None, None
         self.progress = time.monotonic()  # when the last turn was answered, or began where none waited
 
@@ -93,14 +94,17 @@ class Writer:
         self.counts.add("edits_total", len(pairs))
         self.counts.add("turns_total")
         self.counts.add("turn_seconds_total", time.monotonic() - begun)
+        changed = {}
         for answer, (known, _) in zip(answers, pairs):
             slots = child.slots_of(answer)
             if slots is None:
                 refused[known] = child.done_or_refused(answer)
                 if refused[known].number == FULL:
-                    self.full.add(self.keeper)
+                    self.stores.full.add(self.keeper)
             else:
                 known.slots = slots
+                changed[known] = None
+        self.stores.tell(changed)
 
     async def _ask(self, lines):
         """A `set` that is sent again stores what it stored before, so a turn that got lost is asked anew of the next run."""
