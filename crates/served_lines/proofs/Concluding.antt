@@ -26,7 +26,7 @@ use Rattle.chart_service.proofs.Progress.{Progress, first_at}
 use Rattle.chart_service.proofs.Sending.{stands_on}
 use Rattle.served_lines.specs.Standing.{IsHeld, StandsSo}
 use Rattle.served_lines.specs.Turning.{Answered, Begun, Does, Held, Over, Stand, Turn, lines_of}
-use Rattle.served_lines.proofs.Carried.{Turned, ended, lines_all, paused, told_are, turned}
+use Rattle.served_lines.proofs.Carried.{Turned, all_ended, ended, lines_all, paused, told_are, turned}
 use Rattle.served_lines.proofs.Reached.{Passing, behind, passing, place, reached, reading_at}
 use Rattle.served_lines.proofs.TurnLemmas.{answered_then}
 
@@ -93,7 +93,7 @@ module _ {S F : Type 0} (makes : Makes S F) (v w : S) (total : ℕ) (book : List
       let done = all.done in
       let e = ended makes all.are.earlier done.given first done.text done.behind all.are.paused all.are.given_are done.carries in
       let are : lines_all done.given ≡ told input =
-      ap lines_all all.are.given_are ∙ end_none all.are.earlier ∙ told_are all.are.earlier input all.are.lines_are in
+      ap lines_all all.are.given_are ∙ all_ended all.are.earlier ∙ told_are all.are.earlier input all.are.lines_are in
       let a = all_answered done.given done.text done.behind e.0 e.1 all.stands input are in
       record {
         book = e.0.new.state.book;
@@ -104,12 +104,6 @@ module _ {S F : Type 0} (makes : Makes S F) (v w : S) (total : ℕ) (book : List
           sent = all.sent;
         };
       }
-    where
-      end_none : (earlier : List Given) → lines_all (earlier ++ End ∷ []) ≡ lines_all earlier
-      end_none [] = refl
-      end_none (Line at line ∷ later) = ap (λ l. unless_empty line ++ l) (end_none later)
-      end_none (Pause ∷ later) = end_none later
-      end_none (End ∷ later) = end_none later
 
   -- at a failed take
   pub read_over : (o left : Option (List ℕ)) (pieces pieces' : ℕ) → runs.Runs (Does makes) (Over first) (runs.AreTaken pieces pieces' left) StandsNow o before now

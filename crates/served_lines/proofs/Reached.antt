@@ -31,7 +31,7 @@ whole_behind (b ∷ bs) piece (inl none) = absurd (cc (none))
 whole_behind (b ∷ bs) piece (inr ([], is)) = inl (nothing_behind bs piece (cc (is)))
 whole_behind (b ∷ bs) piece (inr (x ∷ xs, is)) = whole_behind bs piece (inr (xs, cc (is)))
 
-no_lines : {line : Option (List ℕ)} {later : List (Option (List ℕ))} → [] ≡ line ∷ later → ⊥
+pub no_lines : {line : Option (List ℕ)} {later : List (Option (List ℕ))} → [] ≡ line ∷ later → ⊥
 no_lines {line} {later} none = cc
 
 -- a part of a front is a front
@@ -49,7 +49,7 @@ begins_in input front rest piece behind all part = record {
 }
 
 -- the first line stands before the others
-first_of : (bytes : List ℕ) (line : Option (List ℕ)) (later : List (Option (List ℕ))) → lines bytes ≡ line ∷ later
+pub first_of : (bytes : List ℕ) (line : Option (List ℕ)) (later : List (Option (List ℕ))) → lines bytes ≡ line ∷ later
     → lines bytes ≡ line ∷ lines (after_first is_line_feed bytes)
 first_of bytes line later is =
     let some : bytes ≢ [] = λ none. absurd (no_lines (sym (ap lines none ∙ lines_none) ∙ is)) in
