@@ -1,10 +1,10 @@
 -- How the answering of an input's lines ends, over a book.
-use Rattle.std.proofs.Common.{◌≡◌, ◌∙◌, ℕ, ◌+◌, ◌≤◌, List, [], ◌∷◌, ◌++◌, length, Option, None, Some, IfSome, refl, ap, sym, subst}
+use Rattle.std.proofs.Common.{◌≡◌, ◌∙◌, ℕ, ◌+◌, ◌≤◌, List, [], ◌++◌, length, Option, None, Some, IfSome, refl, ap, sym, subst}
 use Rattle.std.specs.Borrow.{GName}
 use Rattle.std.proofs.lemmas.List.{append-nil}
 use Rattle.block_disk.specs.View.{Image, View}
 use Rattle.chart_world.specs.LineLaws.{told_so}
-use Rattle.line_runs.specs.Given.{AreBefore, AreFirst, Given, Line, Pause, End}
+use Rattle.line_runs.specs.Given.{AreBefore, AreFirst, Given}
 use Rattle.line_runs.specs.Runs as runs
 use Rattle.series_book.specs.declared.edits.Edit.{Edit}
 use Rattle.series_book.specs.declared.one_series.Series.{Series}
@@ -13,7 +13,7 @@ use Rattle.zoom_session.specs.declared.session.Session.{Session}
 use Rattle.chart_frames.specs.declared.frame.Frame.{Frame}
 use Rattle.chart_service.specs.Answering.{EndsAnswers, EndsAt}
 use Rattle.chart_service.specs.Making.{Makes, AreMade, AreMadeFrom, LinesMoments, LinesStop, LinesStopAt}
-use Rattle.chart_service.specs.Serving.{RepliesToAll, SendsLines, SendsText, SendsTaken, most_ahead, told, unless_empty}
+use Rattle.chart_service.specs.Serving.{RepliesToAll, SendsLines, SendsText, SendsTaken, most_ahead, told}
 use Rattle.chart_service.specs.Moments.{IsAhead}
 use Rattle.chart_service.specs.State.{State}
 use Rattle.chart_service.specs.Stepping.{StandsAfter, state_of}

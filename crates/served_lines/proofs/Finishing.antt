@@ -1,5 +1,5 @@
 -- What a run of the loop over lines says of the answering.
-use Rattle.std.proofs.Common.{◌≡◌, ◌∙◌, ℕ, ◌+◌, ◌*◌, ◌-◌, ◌^◌, ◌<◌, ◌≤◌, ◌⊎◌, List, [], ◌∷◌, ◌++◌, length, Option, None, Some, Result, Ok, Err, IfErr, IfSome, refl, ap, sym, subst, inl, inr, arith, append_assoc, length-append}
+use Rattle.std.proofs.Common.{◌≡◌, ◌∙◌, ℕ, ◌+◌, ◌-◌, ◌^◌, ◌<◌, ◌⊎◌, List, [], ◌∷◌, ◌++◌, length, Option, None, Some, Result, Ok, Err, IfErr, IfSome, refl, ap, sym, subst, inl, inr, arith, append_assoc, length-append}
 use Rattle.std.specs.Prelude.{OnOk}
 use Rattle.std.specs.Borrow.{GName}
 use Rattle.std.specs.List.{after_first, filter}
@@ -12,7 +12,7 @@ use Rattle.chart_world.specs.LineLaws.{lines_none, piece_ends, piece_line, piece
 use Rattle.chart_world.specs.Lines.{is_line_feed, lines}
 use Rattle.chart_world.specs.declared.line_answer.LineFault.TheVariants as fault
 use Rattle.line_runs.specs.Carried.{Done}
-use Rattle.line_runs.specs.Given.{AreBefore, AreFirst, Given, IsNext, Line, Pause, End, pauses}
+use Rattle.line_runs.specs.Given.{AreBefore, Given, IsNext, Line, Pause, End, pauses}
 use Rattle.line_runs.specs.GivenLaws.{pauses_joined}
 use Rattle.line_runs.specs.Moments as moments
 use Rattle.line_runs.specs.Runs as runs
@@ -22,7 +22,6 @@ use Rattle.series_book.specs.declared.edits.Edit.{Edit}
 use Rattle.series_book.specs.declared.one_series.Series.{Series}
 use Rattle.stored_book.specs.Standing.{StandsForBook}
 use Rattle.zoom_session.specs.declared.session.Session.{Session}
-use Rattle.chart_frames.specs.declared.frame.Frame.{Frame}
 use Rattle.chart_service.specs.Answering.{EndsAnswers}
 use Rattle.chart_service.specs.EditGroups.{SpellEdits}
 use Rattle.chart_service.specs.Making.{Makes, AreMade, AreMadeFrom}
@@ -37,9 +36,9 @@ use Rattle.chart_service.proofs.SyncLemmas.{edits_joined}
 use Rattle.served_lines.specs.Ending.{answer_of}
 use Rattle.served_lines.specs.Shown.{StopsBy}
 use Rattle.served_lines.specs.Standing.{IsHeld, StandsSo}
-use Rattle.served_lines.specs.Turning.{AreTold, Costs, CostsSome, Does, Held, Leaves, LeavesSo, Over, ReadsNext, Rests, Stand, StopsSo, Turn, lines_of, pauses_of}
+use Rattle.served_lines.specs.Turning.{AreTold, Costs, CostsSome, Does, Held, Leaves, Over, ReadsNext, Rests, Stand, StopsSo, Turn, lines_of, pauses_of}
 use Rattle.served_lines.proofs.Carried.{Turned, all_ended, ended, lines_all, paused, told_are, turned}
-use Rattle.served_lines.proofs.Concluding.{OnWay, ahead_over, count_at, done_over, ends_over, first_held, long_over, on_way, passing_at, read_over, rest_at, rests_over, told_place}
+use Rattle.served_lines.proofs.Concluding.{OnWay, ahead_over, done_over, ends_over, first_held, long_over, on_way, passing_at, read_over, rest_at, rests_over, told_place}
 use Rattle.served_lines.proofs.Counting.{costs_lines}
 use Rattle.served_lines.proofs.Reached.{first_of, no_lines, place, place_begins}
 use Rattle.served_lines.proofs.TurnLemmas.{costs_then}

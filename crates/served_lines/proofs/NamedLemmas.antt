@@ -1,5 +1,5 @@
 -- What a run of the loop over lines gave, whatever the pages are.
-use Rattle.std.proofs.Common.{◌≡◌, ◌∙◌, ℕ, Bool, true, false, List, [], ◌∷◌, ◌++◌, All, IsTrue, Option, Result, Ok, Err, IfErr, refl, ap, sym, subst}
+use Rattle.std.proofs.Common.{◌≡◌, ◌∙◌, ℕ, Bool, true, false, List, [], ◌∷◌, All, IsTrue, Option, Result, Ok, Err, IfErr, refl, ap, sym, subst}
 use Rattle.std.specs.Prelude.{OnOk, ◌==◌, ◌&&◌, ◌||◌, not}
 use Rattle.std.specs.Borrow.{GName}
 use Rattle.std.proofs.lemmas.List.Elements.{All-head, All-tail}
@@ -11,7 +11,7 @@ use Rattle.chart_frames.specs.Opened.{opens}
 use Rattle.chart_frames.specs.declared.frame.Frame.{Frame}
 use Rattle.chart_frames.specs.declared.frame.Frame.TheVariants.{Done, Refused, Opened, Closed, View as ViewFrame, Rows, Live}
 use Rattle.chart_world.specs.declared.line_answer.LineFault.TheVariants as fault
-use Rattle.line_runs.specs.Carried.{Carries, Done as DoneSo}
+use Rattle.line_runs.specs.Carried.{Carries}
 use Rattle.line_runs.specs.Given.{Given}
 use Rattle.line_runs.specs.Runs as runs
 use Rattle.line_runs.specs.declared.lines_stop.LinesStop.{LinesStop}
@@ -20,11 +20,10 @@ use Rattle.series_book.specs.declared.edits.Edit.{Edit}
 use Rattle.zoom_session.specs.declared.session.Session.{Session}
 use Rattle.zoom_session.specs.Sessions.{is_open}
 use Rattle.chart_service.specs.Knowing.{EndsKnown, Follows, KnowsOpen, NamesKnown}
-use Rattle.chart_service.specs.Making.{Makes, AreMade, FrameStops}
+use Rattle.chart_service.specs.Making.{Makes, AreMade}
 use Rattle.chart_service.specs.Naming.{Gives, GivesBy, GivesFirst, StopsBehind, opens_all}
 use Rattle.chart_service.specs.declared.failure.AnswerEnd.{AnswerEnd}
 use Rattle.chart_service.specs.declared.failure.AnswerEnd.TheVariants.{Serve, Reply}
-use Rattle.chart_service.specs.declared.failure.ServeEnd.TheVariants.{ReadFault, SendFault, DiskFault, Damaged, InputTooLong, NoMemory}
 use Rattle.chart_service.proofs.Naming.{first_behind, first_fault, gives_joined, gives_none}
 use Rattle.served_lines.specs.Ending.{answer_of}
 use Rattle.served_lines.specs.Shown.{StopsBy}

@@ -4,7 +4,7 @@ use Rattle.chart_world.specs.declared.line_answer.LineFault.TheVariants as fault
 use Rattle.line_runs.specs.declared.lines_stop.LinesStop.{LinesStop}
 use Rattle.line_runs.specs.declared.lines_stop.LinesStop.TheVariants as stop
 use Rattle.chart_service.specs.declared.failure.AnswerEnd.{AnswerEnd}
-use Rattle.chart_service.specs.declared.failure.AnswerEnd.TheVariants.{Serve, Reply}
+use Rattle.chart_service.specs.declared.failure.AnswerEnd.TheVariants.{Serve}
 use Rattle.chart_service.specs.declared.failure.ServeEnd.TheVariants.{ReadFault, InputTooLong}
 
 -- the end that a stop is

@@ -1,4 +1,4 @@
-use Rattle.std.proofs.Common.{rules, ◌≡◌, ℕ, IfErr, refl, sym, subst, arith}
+use Rattle.std.proofs.Common.{rules, refl, subst, arith}
 use Rattle.std.specs.Prelude.{OnOk}
 use Rattle.chart_service.specs.Making.{AreMade}
 use Rattle.chart_service.specs.Answering.{SendsAll}
