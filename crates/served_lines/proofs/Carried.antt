@@ -66,7 +66,7 @@ module _ {S F : Type 0} (makes : Makes S F) where
       record { new = old; is = all.1; turn = subst T (sym all.0) (turn_none makes old) }
   turned (it ∷ later) old text stand all =
       by all.between all.does (λ mid same. turned later mid all.more stand
-          (let C : Stand S → Type 0 = λ b. Carries (Does makes) b later all.more stand in subst C same all.others)) refl
+      (let C : Stand S → Type 0 = λ b. Carries (Does makes) b later all.more stand in subst C same all.others)) refl
     where
       by : (between : Stand S) → Does makes (Over old) it all.first between
           → ((mid : Held S) → all.between ≡ Over mid → Turned mid later all.more stand) → all.between ≡ between

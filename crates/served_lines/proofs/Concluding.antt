@@ -280,9 +280,11 @@ module _ {S F : Type 0} (makes : Makes S F) (v : S) (total : ℕ) (book : List S
           → EndsAnswers makes v w' o (state_of book total own) image sessions left before now end
       ends_over (Serve ReadFault) o are why = stops_standing (Serve ReadFault) o are why
       ends_over (Serve SendFault) o are why = stops_standing (Serve SendFault) o are why
-      ends_over (Serve DiskFault) o are why =
-          (between.kept, told_so (λ input. AreBefore input given it) (λ input. SendsLines (AreMade makes v between.kept) input (state_of book total own) before now) o
-          (λ input. lines_only input why) are)
+      ends_over (Serve DiskFault) o are why = (
+        between.kept,
+        told_so (λ input. AreBefore input given it) (λ input. SendsLines (AreMade makes v between.kept) input (state_of book total own) before now) o
+            (λ input. lines_only input why) are,
+      )
       ends_over (Serve (Damaged page)) o are why = absurd why
       ends_over (Serve InputTooLong) o are why = stops_standing (Serve InputTooLong) o are why
       ends_over (Serve NoMemory) o are why = stops_standing (Serve NoMemory) o are why

@@ -56,6 +56,7 @@ front_more input front rest (Line at line) begins is = by (whole_of rest begins.
     whole_of : (bytes : List ℕ) → IsWhole front ⊎ (bytes ≡ []) → lines bytes ≡ line ∷ is.1.later → IsWhole front
     whole_of bytes (inl whole) are = whole
     whole_of bytes (inr none) are = absurd (no_lines (sym (ap lines none ∙ lines_none) ∙ are))
+
     by : IsWhole front → FrontMore input front (Line at line)
     by whole =
         let first = first_piece rest in

@@ -50,7 +50,7 @@ module _ {S F : Type 0} (makes : Makes S F) where
   }
   given (it ∷ later) old text stand all =
       by all.between all.does (λ mid same. given later mid all.more stand
-          (let C : Stand S → Type 0 = λ b. Carries (Does makes) b later all.more stand in subst C same all.others)) refl
+      (let C : Stand S → Type 0 = λ b. Carries (Does makes) b later all.more stand in subst C same all.others)) refl
     where
       by : (between : Stand S) → Does makes (Any old) it all.first between → ((mid : Named S) → all.between ≡ Any mid → GivesTo mid all.more stand)
           → all.between ≡ between → GivesTo old text stand
@@ -112,9 +112,10 @@ module _ {S F : Type 0} (makes : Makes S F) (v w : S) (own sessions : List Sessi
       let t = given makes d.given start d.text d.behind d.carries in
       let mid = sent_after d.text before in
       let P : Stand S → Type 0 = λ s. Stops s why.next end mid in
-      let s : StopsAt makes t.new name' w mid now end = subst P t.is why.why in
-      (first_behind makes v t.new.kept w (λ n. is_open n own) (λ n. is_open n t.new.sessions) before mid now end (t.gives before mid refl) s.gives,
-      s.same_reference ∙ t.same_reference)
+      let s : StopsAt makes t.new name' w mid now end = subst P t.is why.why in (
+        first_behind makes v t.new.kept w (λ n. is_open n own) (λ n. is_open n t.new.sessions) before mid now end (t.gives before mid refl) s.gives,
+        s.same_reference ∙ t.same_reference,
+      )
 
 -- ---- what is known of open sessions
 
@@ -159,7 +160,7 @@ module _ {S F : Type 0} (makes : Makes S F) (knows : S → ℕ → Bool) (follow
   first_known v w own before now end known g =
       stops_known g.last w g.now_open g.sent now end
       (λ n is. known_behind g.given.frames v g.last (λ n. is_open n own) [] g.given.text g.given.fits g.given.made known n
-          (subst IsTrue (g.given.open_now n) is)) g.stops
+      (subst IsTrue (g.given.open_now n) is)) g.stops
 
   -- a frame whose bytes weren't made names known sessions
   pub known_by : {T : Type 0} (v w : S) (own sessions : List Session) (before now : Option (List ℕ)) (r : Result T (AnswerEnd F)) → KnowsOpen knows v own

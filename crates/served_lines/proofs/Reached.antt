@@ -129,8 +129,10 @@ module _ (input front rest : List ℕ) (begins : BeginsWith input front rest) (e
       whole_of : (bytes : List ℕ) → IsWhole front ⊎ (bytes ≡ []) → lines bytes ≡ line ∷ next.later → IsWhole front
       whole_of bytes (inl whole) is = whole
       whole_of bytes (inr none) is = absurd (no_lines (sym (ap lines none ∙ lines_none) ∙ is))
+
       lines_behind : lines rest ≡ line ∷ lines (after_first is_line_feed rest)
       lines_behind = first_of rest line next.later next.lines_are
+
       by : IsWhole front → Stretch (ahead ++ unless_empty line)
       by whole =
           let first = first_piece rest in

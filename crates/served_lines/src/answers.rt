@@ -115,7 +115,9 @@ fn answer_of<F>(answer: Result<(), LinesStop<AnswerEnd<F>>>) -> Result<(), Answe
     match answer {
         Ok(()) => Ok(()),
         Err(LinesStop::Fault(LineFault::ReadFault)) => Err(AnswerEnd::Serve(ServeEnd::ReadFault)),
-        Err(LinesStop::Fault(LineFault::InputTooLong)) => Err(AnswerEnd::Serve(ServeEnd::InputTooLong)),
+        Err(LinesStop::Fault(LineFault::InputTooLong)) => Err(AnswerEnd::Serve(
+            ServeEnd::InputTooLong,
+        )),
         Err(LinesStop::Work(end)) => Err(end),
     }
 }
