@@ -46,6 +46,12 @@ all_lines front = all_from 0 (split_lines front)
 pub told_are : (given : List Given) (front : List ℕ) → unpaused given ≡ given_lines front → lines_all given ≡ told front
 told_are given front are = sym (all_unpaused given) ∙ ap lines_all are ∙ all_lines front
 
+pub all_ended : (earlier : List Given) → lines_all (earlier ++ End ∷ []) ≡ lines_all earlier
+all_ended [] = refl
+all_ended (Line at line ∷ later) = ap (λ l. unless_empty line ++ l) (all_ended later)
+all_ended (Pause ∷ later) = all_ended later
+all_ended (End ∷ later) = all_ended later
+
 module _ {S F : Type 0} (makes : Makes S F) where
   -- what stands behind them over a book
   pub record Turned (old : Held S) (given : List Given) (text : List ℕ) (stand : Stand S) : Type 0 where
@@ -60,7 +66,7 @@ module _ {S F : Type 0} (makes : Makes S F) where
       record { new = old; is = all.1; turn = subst T (sym all.0) (turn_none makes old) }
   turned (it ∷ later) old text stand all =
       by all.between all.does (λ mid same. turned later mid all.more stand
-          (let C : Stand S → Type 0 = λ b. Carries (Does makes) b later all.more stand in subst C same all.others)) refl
+      (let C : Stand S → Type 0 = λ b. Carries (Does makes) b later all.more stand in subst C same all.others)) refl
     where
       by : (between : Stand S) → Does makes (Over old) it all.first between
           → ((mid : Held S) → all.between ≡ Over mid → Turned mid later all.more stand) → all.between ≡ between

@@ -1,10 +1,10 @@
 -- How the answering of an input's lines ends, over a book.
-use Rattle.std.proofs.Common.{◌≡◌, ◌∙◌, ℕ, ◌+◌, ◌≤◌, List, [], ◌∷◌, ◌++◌, length, Option, None, Some, IfSome, refl, ap, sym, subst}
+use Rattle.std.proofs.Common.{◌≡◌, ◌∙◌, ℕ, ◌+◌, ◌≤◌, List, [], ◌++◌, length, Option, None, Some, IfSome, refl, ap, sym, subst}
 use Rattle.std.specs.Borrow.{GName}
 use Rattle.std.proofs.lemmas.List.{append-nil}
 use Rattle.block_disk.specs.View.{Image, View}
 use Rattle.chart_world.specs.LineLaws.{told_so}
-use Rattle.line_runs.specs.Given.{AreBefore, AreFirst, Given, Line, Pause, End}
+use Rattle.line_runs.specs.Given.{AreBefore, AreFirst, Given}
 use Rattle.line_runs.specs.Runs as runs
 use Rattle.series_book.specs.declared.edits.Edit.{Edit}
 use Rattle.series_book.specs.declared.one_series.Series.{Series}
@@ -13,7 +13,7 @@ use Rattle.zoom_session.specs.declared.session.Session.{Session}
 use Rattle.chart_frames.specs.declared.frame.Frame.{Frame}
 use Rattle.chart_service.specs.Answering.{EndsAnswers, EndsAt}
 use Rattle.chart_service.specs.Making.{Makes, AreMade, AreMadeFrom, LinesMoments, LinesStop, LinesStopAt}
-use Rattle.chart_service.specs.Serving.{RepliesToAll, SendsLines, SendsText, SendsTaken, most_ahead, told, unless_empty}
+use Rattle.chart_service.specs.Serving.{RepliesToAll, SendsLines, SendsText, SendsTaken, most_ahead, told}
 use Rattle.chart_service.specs.Moments.{IsAhead}
 use Rattle.chart_service.specs.State.{State}
 use Rattle.chart_service.specs.Stepping.{StandsAfter, state_of}
@@ -26,7 +26,7 @@ use Rattle.chart_service.proofs.Progress.{Progress, first_at}
 use Rattle.chart_service.proofs.Sending.{stands_on}
 use Rattle.served_lines.specs.Standing.{IsHeld, StandsSo}
 use Rattle.served_lines.specs.Turning.{Answered, Begun, Does, Held, Over, Stand, Turn, lines_of}
-use Rattle.served_lines.proofs.Carried.{Turned, ended, lines_all, paused, told_are, turned}
+use Rattle.served_lines.proofs.Carried.{Turned, all_ended, ended, lines_all, paused, told_are, turned}
 use Rattle.served_lines.proofs.Reached.{Passing, behind, passing, place, reached, reading_at}
 use Rattle.served_lines.proofs.TurnLemmas.{answered_then}
 
@@ -93,7 +93,7 @@ module _ {S F : Type 0} (makes : Makes S F) (v w : S) (total : ℕ) (book : List
       let done = all.done in
       let e = ended makes all.are.earlier done.given first done.text done.behind all.are.paused all.are.given_are done.carries in
       let are : lines_all done.given ≡ told input =
-      ap lines_all all.are.given_are ∙ end_none all.are.earlier ∙ told_are all.are.earlier input all.are.lines_are in
+      ap lines_all all.are.given_are ∙ all_ended all.are.earlier ∙ told_are all.are.earlier input all.are.lines_are in
       let a = all_answered done.given done.text done.behind e.0 e.1 all.stands input are in
       record {
         book = e.0.new.state.book;
@@ -104,12 +104,6 @@ module _ {S F : Type 0} (makes : Makes S F) (v w : S) (total : ℕ) (book : List
           sent = all.sent;
         };
       }
-    where
-      end_none : (earlier : List Given) → lines_all (earlier ++ End ∷ []) ≡ lines_all earlier
-      end_none [] = refl
-      end_none (Line at line ∷ later) = ap (λ l. unless_empty line ++ l) (end_none later)
-      end_none (Pause ∷ later) = end_none later
-      end_none (End ∷ later) = end_none later
 
   -- at a failed take
   pub read_over : (o left : Option (List ℕ)) (pieces pieces' : ℕ) → runs.Runs (Does makes) (Over first) (runs.AreTaken pieces pieces' left) StandsNow o before now
@@ -286,9 +280,11 @@ module _ {S F : Type 0} (makes : Makes S F) (v : S) (total : ℕ) (book : List S
           → EndsAnswers makes v w' o (state_of book total own) image sessions left before now end
       ends_over (Serve ReadFault) o are why = stops_standing (Serve ReadFault) o are why
       ends_over (Serve SendFault) o are why = stops_standing (Serve SendFault) o are why
-      ends_over (Serve DiskFault) o are why =
-          (between.kept, told_so (λ input. AreBefore input given it) (λ input. SendsLines (AreMade makes v between.kept) input (state_of book total own) before now) o
-          (λ input. lines_only input why) are)
+      ends_over (Serve DiskFault) o are why = (
+        between.kept,
+        told_so (λ input. AreBefore input given it) (λ input. SendsLines (AreMade makes v between.kept) input (state_of book total own) before now) o
+            (λ input. lines_only input why) are,
+      )
       ends_over (Serve (Damaged page)) o are why = absurd why
       ends_over (Serve InputTooLong) o are why = stops_standing (Serve InputTooLong) o are why
       ends_over (Serve NoMemory) o are why = stops_standing (Serve NoMemory) o are why

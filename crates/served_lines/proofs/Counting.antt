@@ -16,7 +16,7 @@ divided n k m some most = (le-div_iff_mul-le some).1 most
 pub costs_lines : (state : State) (front : List ℕ) (all done more : List (Option (List ℕ))) (paused taken from to : ℕ)
     → all ≡ told front → all ≡ done ++ more → paused ≤ taken + 2 → Costs state (edits_of done) all paused from to
     → (others : ℕ) × (length (lines front) ≡ others + length (edits_of (lines front)))
-      × (to ≤ from + most_syncs state.total state.book (edits_of (lines front)) others taken)
+    × (to ≤ from + most_syncs state.total state.book (edits_of (lines front)) others taken)
 costs_lines state front all done more paused taken from to told_is split few c =
     let every = edits_of (lines front) in
     let edits_are : edits_of all ≡ every = ap edits_of told_is ∙ edits_told (lines front) in

@@ -180,19 +180,24 @@ module _ {S F : Type 0} (makes : Makes S F) (name : GName) (kept : S) (edits : L
           error_so r (Unsettled makes mid kept' edits' new.image sessions now new.reads new.syncs)
           (λ end. StopsBy makes (Over held) (Line position line) name' kept' new.image sessions before now new.reads new.syncs end)
           (λ end u. ahead_stopped makes held (Line position line) edits' mid.ahead [] kept' new.image sessions now new.reads new.syncs end next_are u.some here.spells few u.why u.reads_few
-              (group_costs held.state (edits_of mid.ahead) (unless_empty line) 0 0 1 held.syncs new.syncs counted (omega arith)
-              (omega (arith, full, ap length (spelled_edits mid.ahead edits' here.spells))) u.few))
+          (group_costs held.state (edits_of mid.ahead) (unless_empty line) 0 0 1 held.syncs new.syncs counted (omega arith)
+          (omega (arith, full, ap length (spelled_edits mid.ahead edits' here.spells))) u.few))
           (unsettled mid here)
         where
           next_are : held.ahead ++ unless_empty line ≡ (held.ahead ++ line ∷ []) ++ []
           next_are = ap (λ l. held.ahead ++ l) (spelled_line line edit spells) ∙ sym (append-nil (held.ahead ++ line ∷ []))
+
           counted : length (unless_empty line) ≡ 0 + length (edits_of (unless_empty line))
-          counted = omega (arith, ap length (spelled_line line edit spells), ap (λ l. length (edits_of l)) (spelled_line line edit spells),
-              ap length (spelled_edits (line ∷ []) (edit ∷ []) (spells, tt)))
+          counted = omega (
+            arith,
+            ap length (spelled_line line edit spells),
+            ap (λ l. length (edits_of l)) (spelled_line line edit spells),
+            ap length (spelled_edits (line ∷ []) (edit ∷ []) (spells, tt)),
+          )
 
       pub full_leaves : (stand : Stand S) (position : ℕ) → length edits' ≤ most_ahead → StandsSo stand name kept edits told at own before → Lasting stand
           → ((held : Held S) → IsHeld held kept edits' told at own before → AreTold held.sent
-            → Through at new (λ image count. (1 ≤ length held.ahead) × LinesMoments makes held.kept held.ahead held.state (sent_now at) image count))
+          → Through at new (λ image count. (1 ≤ length held.ahead) × LinesMoments makes held.kept held.ahead held.state (sent_now at) image count))
           → moments.Through at new (Leaves makes stand (Line position line) (sent_now at))
       full_leaves (Any named) position few is lasting leaves = absurd lasting
       full_leaves (Over held) position few is lasting leaves =

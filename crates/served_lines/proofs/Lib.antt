@@ -9,3 +9,5 @@ pub mod Carried
 pub mod Reached
 pub mod Concluding
 pub mod Counting
+pub mod Finishing
+pub mod NamedLemmas

@@ -89,12 +89,12 @@ module _ {S F : Type 0} (makes : Makes S F) (name : GName) (kept : S) (edits : L
         error_so r (Unsettled makes held kept' edits mid.image sessions now mid.reads mid.syncs)
         (λ end. StopsBy makes (Over held) it name' kept' mid.image sessions before now mid.reads mid.syncs end)
         (λ end u. ahead_stopped makes held it edits held.ahead (lines_of it) kept' mid.image sessions now mid.reads mid.syncs end refl u.some is.spells few u.why u.reads_few
-            (group_costs held.state (edits_of held.ahead) (lines_of it) (pauses_of it) others 0 held.syncs mid.syncs counted (omega (arith, paid)) (omega arith) u.few))
+        (group_costs held.state (edits_of held.ahead) (lines_of it) (pauses_of it) others 0 held.syncs mid.syncs counted (omega (arith, paid)) (omega arith) u.few))
         (unsettled held is)
 
     pub group_leaves : (stand : Stand S) (it : Given) → length edits ≤ most_ahead → StandsSo stand name kept edits told at own before → Lasting stand
         → ((held : Held S) → IsHeld held kept edits told at own before → AreTold held.sent
-          → Through at mid (λ image count. (1 ≤ length held.ahead) × LinesMoments makes held.kept held.ahead held.state (sent_now at) image count))
+        → Through at mid (λ image count. (1 ≤ length held.ahead) × LinesMoments makes held.kept held.ahead held.state (sent_now at) image count))
         → moments.Through at mid (Leaves makes stand it (sent_now at))
     group_leaves (Any named) it few is lasting leaves = absurd lasting
     group_leaves (Over held) it few is lasting leaves =
@@ -116,14 +116,14 @@ module _ {S F : Type 0} (makes : Makes S F) (name : GName) (kept : S) (edits : L
       pub line_does : {T : Type 0} (r : Result T (AnswerEnd F)) (stand : Stand S) (position : ℕ) → StandsSo stand name kept edits told at own before
           → GivesBy makes kept' kept'' sessions sessions' now later r
           → ((total : ℕ) (book : List Series) → told' → StandsForBook mid.image total book
-            → OnOk r (StandsAfter total new.image sessions' (λ s. LinesDone makes (unless_empty line) kept' kept'' (state_of book total sessions) s now later)))
+          → OnOk r (StandsAfter total new.image sessions' (λ s. LinesDone makes (unless_empty line) kept' kept'' (state_of book total sessions) s now later)))
           → (told' → told'') → (told' → new.image ≡ mid.image) → ReadsSo → new.syncs ≡ mid.syncs
           → OnOk r (DoesOne (Does makes) (λ s. StandsSo s name'' kept'' none told'' new sessions' later) stand (Line position line) before later)
       line_does r (Any named) position is gives done more same reads synced =
           ok_so r (Gives makes kept' kept'' (λ n. is_open n sessions) (λ n. is_open n sessions') now later)
           (DoesOne (Does makes) (λ s. StandsSo s name'' kept'' none told'' new sessions' later) (Any named) (Line position line) before later)
           (λ given. gives_does makes named name name'' kept kept'' own sessions' before later is (same_later ∙ same_name) (Line position line) none told'' new
-              (gives_joined makes kept kept' kept'' (λ n. is_open n own) (λ n. is_open n sessions) (λ n. is_open n sessions') before now later gives_mid given))
+          (gives_joined makes kept kept' kept'' (λ n. is_open n own) (λ n. is_open n sessions) (λ n. is_open n sessions') before now later gives_mid given))
           (gives_ok makes kept' kept'' sessions sessions' now later r gives)
       line_does r (Over held) position is gives done more same reads synced =
           let s = settles held is in
@@ -133,28 +133,28 @@ module _ {S F : Type 0} (makes : Makes S F) (name : GName) (kept : S) (edits : L
           ok_so r (StandsAfter state.total new.image sessions' (λ n. LinesDone makes (unless_empty line) kept' kept'' first n now later))
           (DoesOne (Does makes) (λ s. StandsSo s name'' kept'' none told'' new sessions' later) (Over held) (Line position line) before later)
           (λ after.
-              let a = other_answered makes held s.new s.text s.settles line said idle none told' told'' mid new sessions sessions' kept' kept'' now later s.stands
-              after (more told_mid) (same told_mid) (reads state.total state.book told_mid s.stands.stands) synced in
-              record {
-                text = s.text ++ a.reply;
-                behind = Over a.next;
-                done = (a.turn, tt);
-                stands = a.stands;
-                sent = sent_more s.text a.reply before now later s.sent a.sent;
-              })
+          let a = other_answered makes held s.new s.text s.settles line said idle none told' told'' mid new sessions sessions' kept' kept'' now later s.stands
+          after (more told_mid) (same told_mid) (reads state.total state.book told_mid s.stands.stands) synced in
+          record {
+            text = s.text ++ a.reply;
+            behind = Over a.next;
+            done = (a.turn, tt);
+            stands = a.stands;
+            sent = sent_more s.text a.reply before now later s.sent a.sent;
+          })
           (done state.total state.book told_mid s.stands.stands)
 
       pub line_stops : {T : Type 0} (r : Result T (AnswerEnd F)) (stand : Stand S) (position : ℕ) → StandsSo stand name kept edits told at own before
           → GivesBy makes kept' kept'' sessions sessions' now later r
           → ((total : ℕ) (book : List Series) → told' → StandsForBook mid.image total book
-            → IfErr r (LinesStop makes (unless_empty line) kept' kept'' (state_of book total sessions) new.image sessions' now later))
+          → IfErr r (LinesStop makes (unless_empty line) kept' kept'' (state_of book total sessions) new.image sessions' now later))
           → ReadsSo → new.syncs ≡ mid.syncs
           → IfErr r (λ end. StopsBy makes stand (Line position line) name'' kept'' new.image sessions' before later new.reads new.syncs end)
       line_stops r (Any named) position is gives stops reads synced =
           error_so r (GivesFirst makes kept' kept'' (λ n. is_open n sessions) now later)
           (λ end. StopsBy makes (Any named) (Line position line) name'' kept'' new.image sessions' before later new.reads new.syncs end)
           (λ end given. gives_stops makes named name name'' kept kept'' own sessions' before later is (same_later ∙ same_name) end
-              (first_behind makes kept kept' kept'' (λ n. is_open n own) (λ n. is_open n sessions) before now later end gives_mid given))
+          (first_behind makes kept kept' kept'' (λ n. is_open n own) (λ n. is_open n sessions) before now later end gives_mid given))
           (gives_err makes kept' kept'' sessions sessions' now later r gives)
       line_stops r (Over held) position is gives stops reads synced =
           let s = settles held is in
@@ -163,13 +163,13 @@ module _ {S F : Type 0} (makes : Makes S F) (name : GName) (kept : S) (edits : L
           error_so r (LinesStop makes (unless_empty line) kept' kept'' first new.image sessions' now later)
           (λ end. StopsBy makes (Over held) (Line position line) name'' kept'' new.image sessions' before later new.reads new.syncs end)
           (λ end why. other_stopped makes held s.new s.text s.settles line said idle none told' told'' mid new sessions sessions' kept' kept'' now later s.stands
-              end position why (reads state.total state.book s.stands.told_so s.stands.stands) synced)
+          end position why (reads state.total state.book s.stands.told_so s.stands.stands) synced)
           (stops state.total state.book s.stands.told_so s.stands.stands)
 
       pub line_leaves : (stand : Stand S) (position : ℕ) → StandsSo stand name kept edits told at own before → Lasting stand
           → moments.Through at mid (Leaves makes stand (Line position line) (sent_now at))
           → ((total : ℕ) (book : List Series) → told' → StandsForBook mid.image total book
-            → Through mid new (LinesMoments makes kept' (unless_empty line) (state_of book total sessions) (sent_now mid)))
+          → Through mid new (LinesMoments makes kept' (unless_empty line) (state_of book total sessions) (sent_now mid)))
           → IfSome before (λ bytes. sent_now at ≡ length bytes) → IfSome now (λ bytes. sent_now mid ≡ length bytes)
           → moments.Through at new (Leaves makes stand (Line position line) (sent_now at))
       line_leaves (Any named) position is lasting group leaves counts counts_mid = absurd lasting
@@ -182,5 +182,5 @@ module _ {S F : Type 0} (makes : Makes S F) (name : GName) (kept : S) (edits : L
           runs.through_then at mid new (LeavesSo makes held (Line position line) (sent_now at)) group
           (runs.through_so mid new Line_on (LeavesSo makes held (Line position line) (sent_now at))
           (λ image count moment. other_leaves makes held s.new s.text s.settles line said idle none told' told'' mid new sessions sessions' kept' kept'' now later s.stands
-              position (sent_now at) image count begins moment)
+          position (sent_now at) image count begins moment)
           (run_through mid new Line_on (leaves state.total state.book s.stands.told_so s.stands.stands)))

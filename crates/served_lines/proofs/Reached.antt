@@ -31,7 +31,7 @@ whole_behind (b ∷ bs) piece (inl none) = absurd (cc (none))
 whole_behind (b ∷ bs) piece (inr ([], is)) = inl (nothing_behind bs piece (cc (is)))
 whole_behind (b ∷ bs) piece (inr (x ∷ xs, is)) = whole_behind bs piece (inr (xs, cc (is)))
 
-no_lines : {line : Option (List ℕ)} {later : List (Option (List ℕ))} → [] ≡ line ∷ later → ⊥
+pub no_lines : {line : Option (List ℕ)} {later : List (Option (List ℕ))} → [] ≡ line ∷ later → ⊥
 no_lines {line} {later} none = cc
 
 -- a part of a front is a front
@@ -49,7 +49,7 @@ begins_in input front rest piece behind all part = record {
 }
 
 -- the first line stands before the others
-first_of : (bytes : List ℕ) (line : Option (List ℕ)) (later : List (Option (List ℕ))) → lines bytes ≡ line ∷ later
+pub first_of : (bytes : List ℕ) (line : Option (List ℕ)) (later : List (Option (List ℕ))) → lines bytes ≡ line ∷ later
     → lines bytes ≡ line ∷ lines (after_first is_line_feed bytes)
 first_of bytes line later is =
     let some : bytes ≢ [] = λ none. absurd (no_lines (sym (ap lines none ∙ lines_none) ∙ is)) in
@@ -129,8 +129,10 @@ module _ (input front rest : List ℕ) (begins : BeginsWith input front rest) (e
       whole_of : (bytes : List ℕ) → IsWhole front ⊎ (bytes ≡ []) → lines bytes ≡ line ∷ next.later → IsWhole front
       whole_of bytes (inl whole) is = whole
       whole_of bytes (inr none) is = absurd (no_lines (sym (ap lines none ∙ lines_none) ∙ is))
+
       lines_behind : lines rest ≡ line ∷ lines (after_first is_line_feed rest)
       lines_behind = first_of rest line next.later next.lines_are
+
       by : IsWhole front → Stretch (ahead ++ unless_empty line)
       by whole =
           let first = first_piece rest in

@@ -137,7 +137,7 @@ module _ {S F : Type 0} (makes : Makes S F) (held : Held S) (edits : List Edit) 
         × LinesMoments makes held.kept held.ahead held.state (sent_now old) image count in
         through_so old new M N
         (λ image count moment.
-            let K : S → Type 0 = λ k. LinesMoments makes k held.ahead held.state (sent_now old) image count in
-            let R : State → Type 0 = λ s. LinesMoments makes kept held.ahead s (sent_now old) image count in
-            (omega (arith, some, spelled_length held.ahead edits is.spells), subst K (sym is.kept_is) (subst R here_is moment)))
+        let K : S → Type 0 = λ k. LinesMoments makes k held.ahead held.state (sent_now old) image count in
+        let R : State → Type 0 = λ s. LinesMoments makes kept held.ahead s (sent_now old) image count in
+        (omega (arith, some, spelled_length held.ahead edits is.spells), subst K (sym is.kept_is) (subst R here_is moment)))
         (told_is held.sent before is_told is.sent_is through)

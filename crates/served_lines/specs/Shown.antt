@@ -1,5 +1,5 @@
 -- What is said of the work of a service on its lines.
-use Rattle.std.specs.Prelude.{◌≡◌, ℕ, ◌+◌, ◌*◌, ◌/◌, ◌≤◌, List, [], length, Option}
+use Rattle.std.specs.Prelude.{◌≡◌, ℕ, ◌+◌, ◌*◌, ◌/◌, ◌≤◌, List, [], length, Option, Vec}
 use Rattle.std.specs.Borrow.{GName}
 use Rattle.block_disk.specs.View.{Image, sent_now}
 use Rattle.block_disk.specs.Streams.{sent_after}
@@ -50,34 +50,34 @@ pub record Unsettled {S F : Type 0} (makes : Makes S F) (old : Held S) (kept : S
   pub reads_few : reads ≤ old.reads + 96 * length edits
   pub few : syncs ≤ old.syncs + 4 * (1 + weight old.state.total old.state.book (edits_of old.ahead) / 22)
 
-module _ {P R S : Type 0} {g : Ghosts P} where
-  abbrev pub FitIn : Turns R S → Service P g → Type 0
+module _ {P R S Z : Type 0} {g : Ghosts P} where
+  abbrev pub FitIn : Turns R S (Vec Edit Z) → Service P g → Type 0
   FitIn turns it = IsFit (shown.view it) turns.edits.items
 
-module _ {P R S : Type 0} {g : Ghosts P} (sent : P → Option (List ℕ)) where
-  abbrev pub StandsIn : Stand S → Turns R S → Service P g → Type 0
+module _ {P R S Z : Type 0} {g : Ghosts P} (sent : P → Option (List ℕ)) where
+  abbrev pub StandsIn : Stand S → Turns R S (Vec Edit Z) → Service P g → Type 0
   StandsIn stand turns it =
       StandsSo stand turns.kept.ghost_name turns.kept.now turns.edits.items (shown.IsTold it) (shown.view it) (shown.sessions it)
       (sent (shown.pages it))
 
-  abbrev pub HeldIn : Held S → Turns R S → Service P g → Type 0
+  abbrev pub HeldIn : Held S → Turns R S (Vec Edit Z) → Service P g → Type 0
   HeldIn held turns it = StandsIn (Over held) turns it
 
-module _ {P R S F : Type 0} {g : Ghosts P} (sent : P → Option (List ℕ)) (makes : Makes S F) where
-  abbrev pub DoesIn : Stand S → Given → Turns R S → Service P g → Service P g → Type 0
+module _ {P R S F Z : Type 0} {g : Ghosts P} (sent : P → Option (List ℕ)) (makes : Makes S F) where
+  abbrev pub DoesIn : Stand S → Given → Turns R S (Vec Edit Z) → Service P g → Service P g → Type 0
   DoesIn stand it turns old new =
       DoesOne (Does makes) (λ s. StandsIn sent s turns new) stand it (sent (shown.pages old)) (sent (shown.pages new))
 
-  abbrev pub StopsIn : Stand S → Given → AnswerEnd F → Turns R S → Service P g → Option (List ℕ) → Type 0
+  abbrev pub StopsIn : Stand S → Given → AnswerEnd F → Turns R S (Vec Edit Z) → Service P g → Option (List ℕ) → Type 0
   StopsIn stand it end turns new before =
       StopsBy makes stand it turns.kept.ghost_name turns.kept.now (shown.image new) (shown.sessions new) before
       (sent (shown.pages new)) (shown.view new).reads (shown.view new).syncs end
 
-  abbrev pub SettlesIn : Held S → Turns R S → Service P g → Service P g → Type 0
+  abbrev pub SettlesIn : Held S → Turns R S (Vec Edit Z) → Service P g → Service P g → Type 0
   SettlesIn held turns old new =
       SettlesTo makes held (λ h. HeldIn sent h turns new) (sent (shown.pages old)) (sent (shown.pages new))
 
-  abbrev pub UnsettledIn : Held S → List Edit → Turns R S → Service P g → AnswerEnd F → Type 0
+  abbrev pub UnsettledIn : Held S → List Edit → Turns R S (Vec Edit Z) → Service P g → AnswerEnd F → Type 0
   UnsettledIn held edits turns new end =
       Unsettled makes held turns.kept.now edits (shown.image new) (shown.sessions new) (sent (shown.pages new))
       (shown.view new).reads (shown.view new).syncs end

@@ -22,7 +22,7 @@ const MOST_EDITS: usize = 64;
 
 /// Keeps back the edit that a line spells. As soon as 64 are kept back they are done.
 pub(crate) fn keep<P: PageWorld, S, F, R: Reply<S, F>>(
-    turns: &mut Turns<'_, R, S>,
+    turns: &mut Turns<'_, R, S, Vec<Edit>>,
     service: &mut Service<P>,
     edit: Edit,
 ) -> Result<(), AnswerEnd<F>>
@@ -50,7 +50,7 @@ pub(crate) fn keep<P: PageWorld, S, F, R: Reply<S, F>>(
 
 /// Does the edits that are kept back, and then answers a line that spells no edit and isn't empty.
 pub(crate) fn answer_other<P: PageWorld, S, F, R: Reply<S, F>>(
-    turns: &mut Turns<'_, R, S>,
+    turns: &mut Turns<'_, R, S, Vec<Edit>>,
     service: &mut Service<P>,
     line: &[u8],
 ) -> Result<(), AnswerEnd<F>>
@@ -78,7 +78,7 @@ pub(crate) fn answer_other<P: PageWorld, S, F, R: Reply<S, F>>(
 
 /// Does the edits that are kept back, and then refuses a line that is too long.
 pub(crate) fn refuse_long<P: PageWorld, S, F, R: Reply<S, F>>(
-    turns: &mut Turns<'_, R, S>,
+    turns: &mut Turns<'_, R, S, Vec<Edit>>,
     service: &mut Service<P>,
 ) -> Result<(), AnswerEnd<F>>
     requires fit { FitIn turns.old service.old }

@@ -12,8 +12,10 @@ use crate::turns::Turns;
 use chart_service::{AnswerEnd, Reply, ServeEnd, Service, edit_in};
 use gate_pages::PageWorld;
 use line_runs::LineWork;
+use series_book::Edit;
 
-impl<P: PageWorld, S, F, R: Reply<S, F>> LineWork<Service<P>, AnswerEnd<F>> for Turns<'_, R, S> {
+impl<P: PageWorld, S, F, R: Reply<S, F>> LineWork<Service<P>, AnswerEnd<F>>
+    for Turns<'_, R, S, Vec<Edit>> {
     ghost State = { Stand S };
 
     ghost view = { λ service. shown.view service };

@@ -13,10 +13,11 @@ ghost use Rattle.served_lines.specs.Turning.{AreTold, Held};
 use crate::turns::Turns;
 use chart_service::{AnswerEnd, Reply, Service, answer_edits};
 use gate_pages::PageWorld;
+use series_book::Edit;
 
 /// Does the edits that are kept back, and sends their replies.
 pub(crate) fn settle<P: PageWorld, S, F, R: Reply<S, F>>(
-    turns: &mut Turns<'_, R, S>,
+    turns: &mut Turns<'_, R, S, Vec<Edit>>,
     service: &mut Service<P>,
 ) -> Result<(), AnswerEnd<F>>
     requires sound { (shown.view service.old).fit }

@@ -29,9 +29,9 @@ returns-clause-done g c = λ held is.
     let here = subst I (sym c.as_slice.ensures.value) is in
     both_ok c.answer_edits-answer.result
     (λ after behind. settled g.R.Reply.makes held edits (shown.IsTold it) (shown.view it) (shown.sessions it) kept before here
-        (shown.IsTold new) (shown.view new) (shown.sessions new) c.answer_edits-answer.new.kept (g.P.Streams.sent (shown.pages new))
-        c.clear.new.self.items c.clear.ensures.items after behind (e.serves.told is.told_so) e.rises
-        (e.reads held.state.total held.state.book is.told_so is.stands) (e.syncs held.state.total held.state.book is.told_so is.stands))
+    (shown.IsTold new) (shown.view new) (shown.sessions new) c.answer_edits-answer.new.kept (g.P.Streams.sent (shown.pages new))
+    c.clear.new.self.items c.clear.ensures.items after behind (e.serves.told is.told_so) e.rises
+    (e.reads held.state.total held.state.book is.told_so is.stands) (e.syncs held.state.total held.state.book is.told_so is.stands))
     (e.done held.ahead here.spells held.state.total held.state.book is.told_so is.stands)
     (e.behind held.state.total held.state.book is.told_so is.stands)
 
@@ -53,12 +53,12 @@ returns-clause-stops g c = λ held is.
     (LinesStop g.R.Reply.makes held.ahead kept kept' first (shown.image new) (shown.sessions new) before now)
     (Unsettled g.R.Reply.makes held kept' c.args.turns.now.edits.items (shown.image new) (shown.sessions new) now (shown.view new).reads (shown.view new).syncs)
     (λ end why.
-        let U : List Edit → Type 0 = λ l. Unsettled g.R.Reply.makes held kept' l (shown.image new) (shown.sessions new) now
-        (shown.view new).reads (shown.view new).syncs end in
-        subst U c.as_slice.ensures.value
-        (unsettled g.R.Reply.makes held edits (shown.IsTold it) (shown.view it) (shown.sessions it) kept before here
-        (shown.IsTold new) (shown.view new) (shown.sessions new) kept' now end some why
-        (e.reads held.state.total held.state.book is.told_so is.stands) (e.syncs held.state.total held.state.book is.told_so is.stands)))
+    let U : List Edit → Type 0 = λ l. Unsettled g.R.Reply.makes held kept' l (shown.image new) (shown.sessions new) now
+    (shown.view new).reads (shown.view new).syncs end in
+    subst U c.as_slice.ensures.value
+    (unsettled g.R.Reply.makes held edits (shown.IsTold it) (shown.view it) (shown.sessions it) kept before here
+    (shown.IsTold new) (shown.view new) (shown.sessions new) kept' now end some why
+    (e.reads held.state.total held.state.book is.told_so is.stands) (e.syncs held.state.total held.state.book is.told_so is.stands)))
     (e.stops held.ahead here.spells held.state.total held.state.book is.told_so is.stands)
 
 pub returns-clause-moments : goal.returns-clause-moments

@@ -2,7 +2,7 @@ use Rattle.std.proofs.Common.{◌≤◌, length, refl, arith}
 use Rattle.line_runs.specs.Given.{Pause}
 use Rattle.chart_service.specs.Shown as shown
 use Rattle.served_lines.proofs.OtherLemmas.{group_leaves, group_stops, pause_does}
-use Rattle.served_lines.proofs.line_work.TurnsLineWorkServiceAnswerEnd.pause.Goals as goal
+use Rattle.served_lines.proofs.line_work.TurnsVecEditLineWorkServiceAnswerEnd.pause.Goals as goal
 
 pub returns-clause-does : goal.returns-clause-does
 returns-clause-does g c = λ stand stands.

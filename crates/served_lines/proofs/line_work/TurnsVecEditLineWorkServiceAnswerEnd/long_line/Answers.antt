@@ -1,4 +1,4 @@
-use Rattle.served_lines.proofs.line_work.TurnsLineWorkServiceAnswerEnd.long_line.Goals as goal
+use Rattle.served_lines.proofs.line_work.TurnsVecEditLineWorkServiceAnswerEnd.long_line.Goals as goal
 
 pub returns-clause-does : goal.returns-clause-does
 returns-clause-does g c = λ stand stands. c.refuse_long.ensures.does stand c.args.at stands

@@ -5,7 +5,7 @@ use Rattle.chart_service.specs.Shown as shown
 use Rattle.served_lines.proofs.IdleLemmas.{empty_does}
 use Rattle.served_lines.proofs.KeepLemmas.{memory_stops}
 use Rattle.served_lines.proofs.Steps.{said_some}
-use Rattle.served_lines.proofs.line_work.TurnsLineWorkServiceAnswerEnd.line.Goals as goal
+use Rattle.served_lines.proofs.line_work.TurnsVecEditLineWorkServiceAnswerEnd.line.Goals as goal
 
 pub returns-then-is_empty-clause-does : goal.returns-then-is_empty-clause-does
 returns-then-is_empty-clause-does g c = λ stand stands.

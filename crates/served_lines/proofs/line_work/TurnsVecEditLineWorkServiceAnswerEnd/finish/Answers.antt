@@ -1,6 +1,6 @@
 use Rattle.chart_service.specs.Shown as shown
 use Rattle.served_lines.proofs.IdleLemmas.{end_does}
-use Rattle.served_lines.proofs.line_work.TurnsLineWorkServiceAnswerEnd.finish.Goals as goal
+use Rattle.served_lines.proofs.line_work.TurnsVecEditLineWorkServiceAnswerEnd.finish.Goals as goal
 
 pub returns-clause-does : goal.returns-clause-does
 returns-clause-does g c = λ stand stands.
