@@ -85,7 +85,7 @@ module _ (name : List ℕ) (old new : View) (left left' before now : Option (Lis
   load_unsent SendFault is whole part = absurd (part refl)
   load_unsent DiskFault is whole part = is.1
   load_unsent (BadInput at) is whole part = is.1
-  load_unsent InputTooLong is whole part = is.1
+  load_unsent InputTooLong is whole part = is.2
   load_unsent UnknownSeries is whole part = is.4
   load_unsent (Refused at number) is whole part = is.1
   load_unsent end is whole part = is.2
