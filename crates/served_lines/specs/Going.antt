@@ -52,7 +52,7 @@ IsCause (Serve ReadFault) old new = ⊥
 IsCause (Serve SendFault) old new = HasRisen old.send_faults new.send_faults
 IsCause (Serve DiskFault) old new = HasRisen old.view.faults new.view.faults
 IsCause (Serve (Damaged page)) old new = IsBadPage new.told new.view.size new.view.image page
-IsCause (Serve InputTooLong) old new = ⊤
+IsCause (Serve InputTooLong) old new = ⊥
 IsCause (Serve NoMemory) old new = ⊤
 IsCause (Reply error) old new = ⊤
 

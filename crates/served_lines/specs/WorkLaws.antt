@@ -111,6 +111,6 @@ module _ {F : Type 0} (old mid new : Side) (was : AreBeside old.view old.read_fa
       (sym are.sends_are ∙ sends_stay old.view mid.view quiet ∙ was.sends_are) is
   cause_later (Serve DiskFault) is = risen_since old.view.faults mid.view.faults new.view.faults (disk_stays old.view mid.view quiet) is
   cause_later (Serve (Damaged page)) is = is
-  cause_later (Serve InputTooLong) is = tt
+  cause_later (Serve InputTooLong) is = is
   cause_later (Serve NoMemory) is = tt
   cause_later (Reply error) is = tt

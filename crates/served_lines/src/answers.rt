@@ -1,9 +1,9 @@
 //! The lines of a service's streams are answered.
-ghost use Rattle.std.specs.Prelude.{◌≡◌, ◌≢◌, ◌≤◌, ◌^◌, ℕ, Bool, [], Err, length, IfErr, IfSome, OnOk};
+ghost use Rattle.std.specs.Prelude.{◌≡◌, ◌≢◌, ◌≤◌, ◌<◌, ◌^◌, ℕ, Bool, [], Err, length, IfErr, IfSome, OnOk};
 ghost use Rattle.block_disk.specs.Counts.{HasRisen};
 ghost use Rattle.block_disk.specs.View.{Now, Only};
 ghost use Rattle.chart_world.specs.Faults.{CountsFault, fault_in};
-ghost use Rattle.chart_world.specs.Reading.{unread_input};
+ghost use Rattle.chart_world.specs.Reading.{IsReadUp, unread_input};
 ghost use Rattle.gate_pages.specs.Pages.{GoesOn};
 ghost use Rattle.chart_service.specs.Answering.{SendsAll, EndsBy, LastsBy, ReadsByLines, SyncsByLines, EndsAtBad};
 ghost use Rattle.chart_service.specs.Knowing.{Follows, KnowsOpen, EndsKnown};
@@ -45,6 +45,8 @@ pub fn answer_lines<P: PageWorld, S, F, R: Reply<S, F>>(
     // edits whose lines stand ready are committed together
     ensures syncs { shown.ForBook service.old (λ total book. SyncsByLines P.left P.pieces total book service.old service.new) }
     // whatever the pages are
+    ensures whole { OnOk result (IsReadUp (P.left (shown.pages service.old)) (P.left (shown.pages service.new))) }
+    ensures long { result ≡ Err (AnswerEnd.Serve ServeEnd.InputTooLong) → IfSome (P.left (shown.pages service.old)) (λ input. 2 ^ 32 < length input) }
     ensures read { result ≡ Err (AnswerEnd.Serve ServeEnd.ReadFault) → HasRisen (P.read_faults (shown.pages service.old)) (P.read_faults (shown.pages service.new)) }
     ensures send { result ≡ Err (AnswerEnd.Serve ServeEnd.SendFault) → HasRisen (P.send_faults (shown.pages service.old)) (P.send_faults (shown.pages service.new)) }
     ensures disk { result ≡ Err (AnswerEnd.Serve ServeEnd.DiskFault) → HasRisen (shown.view service.old).faults (shown.view service.new).faults }
@@ -91,6 +93,8 @@ fn answer_turns<P: PageWorld, S, F, R: Reply<S, F>>(
     ensures crash { shown.ForBook service.old (λ total book. LastsBy P.left P.sent (AreMadeFrom R.makes turns.old.kept.now) total book service.old service.new) }
     ensures reads { shown.ForBook service.old (λ total book. ReadsByLines P.left total book service.old service.new) }
     ensures syncs { shown.ForBook service.old (λ total book. SyncsByLines P.left P.pieces total book service.old service.new) }
+    ensures whole { OnOk result (IsReadUp (P.left (shown.pages service.old)) (P.left (shown.pages service.new))) }
+    ensures long { result ≡ Err (AnswerEnd.Serve ServeEnd.InputTooLong) → IfSome (P.left (shown.pages service.old)) (λ input. 2 ^ 32 < length input) }
     ensures read { result ≡ Err (AnswerEnd.Serve ServeEnd.ReadFault) → HasRisen (P.read_faults (shown.pages service.old)) (P.read_faults (shown.pages service.new)) }
     ensures send { result ≡ Err (AnswerEnd.Serve ServeEnd.SendFault) → HasRisen (P.send_faults (shown.pages service.old)) (P.send_faults (shown.pages service.new)) }
     ensures disk { result ≡ Err (AnswerEnd.Serve ServeEnd.DiskFault) → HasRisen (shown.view service.old).faults (shown.view service.new).faults }
