@@ -62,6 +62,10 @@ pub fault_disk : {T F A : Type 0} (f : LineFault) → ◌≡◌ {A = Result T (A
 fault_disk fault.ReadFault is = differ is refl
 fault_disk fault.InputTooLong is = differ is refl
 
+pub fault_long : {T F : Type 0} (f : LineFault) → ◌≡◌ {A = Result T (AnswerEnd F)} (Err (Serve (end_of f))) (Err (Serve InputTooLong)) → f ≡ fault.InputTooLong
+fault_long fault.ReadFault is = differ is refl
+fault_long fault.InputTooLong is = refl
+
 pub fault_bad : (told : Type 0) (count : ℕ) (image : Image) (f : LineFault) → serving.EndsAtBad told count image (end_of f)
 fault_bad told count image fault.ReadFault = tt
 fault_bad told count image fault.InputTooLong = tt
@@ -77,6 +81,11 @@ pub step_unsent : {T F A : Type 0} (e : ServiceError) → ◌≡◌ {A = Result 
 step_unsent step.DiskFault is = differ is refl
 step_unsent (step.Damaged page) is = differ is refl
 step_unsent step.NoMemory is = differ is refl
+
+pub step_short : {T F A : Type 0} (e : ServiceError) → ◌≡◌ {A = Result T (AnswerEnd F)} (Err (Serve (end_of_step e))) (Err (Serve InputTooLong)) → A
+step_short step.DiskFault is = differ is refl
+step_short (step.Damaged page) is = differ is refl
+step_short step.NoMemory is = differ is refl
 
 pub step_fault : {T F : Type 0} (e : ServiceError) → ◌≡◌ {A = Result T (AnswerEnd F)} (Err (Serve (end_of_step e))) (Err (Serve DiskFault)) → e ≡ step.DiskFault
 step_fault step.DiskFault is = refl
@@ -110,6 +119,9 @@ not_of_disk {T} {F} r ends is = let P : Result T (AnswerEnd F) → Type 0 = λ x
 
 pub not_of_input : {T F : Type 0} (r : Result T (AnswerEnd F)) → IfErr r IsReplyEnd → r ≡ Err (Serve ReadFault) → ⊥
 not_of_input {T} {F} r ends is = let P : Result T (AnswerEnd F) → Type 0 = λ x. IfErr x IsReplyEnd in subst P is ends
+
+pub not_of_length : {T F : Type 0} (r : Result T (AnswerEnd F)) → IfErr r IsReplyEnd → r ≡ Err (Serve InputTooLong) → ⊥
+not_of_length {T} {F} r ends is = let P : Result T (AnswerEnd F) → Type 0 = λ x. IfErr x IsReplyEnd in subst P is ends
 
 -- a count that stays is no less
 pub stays : (old new : ℕ) → new ≡ old → old ≤ new

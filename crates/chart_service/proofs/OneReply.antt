@@ -212,7 +212,7 @@ session_one : (laws : Laws) (o : Option Session) (number : ℕ) (window : ViewSp
 session_one laws None number window f g old s t a b = refuses_one _ f g old s t a b
 session_one laws (Some x) number window f g old s t a b = last_one laws x.last number window f g old s t a b
 
-request_one : (laws : Laws) (r : Request) (f g : Frame) (old s t : State) → Replies r f old s → Replies r g old t → Same f g s t
+pub request_one : (laws : Laws) (r : Request) (f g : Frame) (old s t : State) → Replies r f old s → Replies r g old t → Same f g s t
 request_one laws (request.Edit e) f g old s t a b = edits_one (apply old.book old.total e) f g old s t a b
 request_one laws (request.Open number cache) f g old s t a b = opens_one (open_refusal old.sessions number (cache_of cache)) number (cache_of cache) f g old s t a b
 request_one laws (request.View number name w h t0 t1 r text) f g old s t a b = text_one laws text (is_open number old.sessions) number name w h t0 t1 r f g old s t a b

@@ -4,6 +4,7 @@ ghost use Rattle.block_disk.specs.Counts.{HasRisen};
 ghost use Rattle.block_disk.specs.View.{Now, Only};
 ghost use Rattle.chart_frames.specs.Frames.{Fits};
 ghost use Rattle.chart_world.specs.Faults.{CountsFault, fault_in};
+ghost use Rattle.chart_world.specs.Reading.{IsReadUp};
 ghost use Rattle.gate_pages.specs.Pages.{GoesOn};
 ghost use Rattle.series_book.specs.Edits.{IsEdit};
 ghost use Rattle.series_book.specs.EditLists.{after_edits};
@@ -52,6 +53,8 @@ pub fn answer_lines<P: PageWorld, S, F, R: Reply<S, F>>(
     // edits whose lines stand ready are committed together
     ensures syncs { shown.ForBook service.old (λ total book. SyncsByLines P.left P.pieces total book service.old service.new) }
     // whatever the pages are
+    ensures whole { OnOk result (IsReadUp (P.left (shown.pages service.old)) (P.left (shown.pages service.new))) }
+    ensures long { result ≡ Err (AnswerEnd.Serve ServeEnd.InputTooLong) → IfSome (P.left (shown.pages service.old)) (λ input. 2 ^ 32 < length input) }
     ensures read { result ≡ Err (AnswerEnd.Serve ServeEnd.ReadFault) → HasRisen (P.read_faults (shown.pages service.old)) (P.read_faults (shown.pages service.new)) }
     ensures send { result ≡ Err (AnswerEnd.Serve ServeEnd.SendFault) → HasRisen (P.send_faults (shown.pages service.old)) (P.send_faults (shown.pages service.new)) }
     ensures disk { result ≡ Err (AnswerEnd.Serve ServeEnd.DiskFault) → HasRisen (shown.view service.old).faults (shown.view service.new).faults }
@@ -105,6 +108,7 @@ fn answer_edits<P: PageWorld, S, F, R: Reply<S, F>>(
     ensures disk { result ≡ Err (AnswerEnd.Serve ServeEnd.DiskFault) → HasRisen (shown.view service.old).faults (shown.view service.new).faults }
     ensures faults { CountsFault (fault_in answer_fault result) (shown.view service.old) (shown.view service.new) }
     ensures read { result ≢ Err (AnswerEnd.Serve ServeEnd.ReadFault) }
+    ensures long { result ≢ Err (AnswerEnd.Serve ServeEnd.InputTooLong) }
     ensures bad { IfErr result (EndsAtBad (shown.IsTold service.new) (shown.view service.new).size (shown.image service.new)) }
     ensures serves { Serves (shown.IsTold service.old) (shown.IsTold service.new) (shown.view service.old) (shown.view service.new) }
     ensures goes_on { GoesOn (shown.under service.old) (shown.under service.new) }
@@ -175,6 +179,7 @@ fn answer_line<P: PageWorld, S, F, R: Reply<S, F>>(
     ensures disk { result ≡ Err (AnswerEnd.Serve ServeEnd.DiskFault) → HasRisen (shown.view service.old).faults (shown.view service.new).faults }
     ensures faults { CountsFault (fault_in answer_fault result) (shown.view service.old) (shown.view service.new) }
     ensures read { result ≢ Err (AnswerEnd.Serve ServeEnd.ReadFault) }
+    ensures long { result ≢ Err (AnswerEnd.Serve ServeEnd.InputTooLong) }
     ensures bad { IfErr result (EndsAtBad (shown.IsTold service.new) (shown.view service.new).size (shown.image service.new)) }
     ensures serves { Serves (shown.IsTold service.old) (shown.IsTold service.new) (shown.view service.old) (shown.view service.new) }
     ensures goes_on { GoesOn (shown.under service.old) (shown.under service.new) }

@@ -2,10 +2,11 @@
 
 ghost use Rattle.std.specs.Prelude.{◌≡◌, ℕ, false, List, Option};
 ghost use Rattle.chart_frames.specs.declared.frame.Frame.{Frame};
+ghost use Rattle.request_lines.specs.declared.requests.Request.{Request};
 ghost use Rattle.chart_service.specs.State.{State};
 ghost use Rattle.chart_service.specs.Alone.{alone};
 ghost use Rattle.chart_service.specs.Naming.{NameOpen, NameOpened};
-ghost use Rattle.chart_service.specs.Replies.{RepliesToLine};
+ghost use Rattle.chart_service.specs.Replies.{Replies, RepliesToLine};
 ghost use Rattle.chart_service.specs.Syncing.{FirstLinesSyncLess};
 ghost use Rattle.chart_service.specs.Laws.{SessionsStandAlone, OwnFramesAreTheSame, FramesAreOne};
 
@@ -24,12 +25,14 @@ pub fn sessions_stand_alone()
     a_text_is_read_in_one_way();
 }
 
-/// Each line has one reply: what is answered, and the state after it, is determined by the state
-/// before it. So are all frames of an input's lines.
+/// Each line and each request has one reply: what is answered, and the state after it, is determined
+/// by the state before it. So are all frames of an input's lines.
 pub fn replies_are_one()
     ensures line { (line : Option (List ℕ)) (frame other : Frame) (old new behind : State) →
         RepliesToLine line frame old new → RepliesToLine line other old behind → (frame ≡ other) × (new ≡ behind) }
     ensures lines { FramesAreOne }
+    ensures request { (request : Request) (frame other : Frame) (old new behind : State) →
+        Replies request frame old new → Replies request other old behind → (frame ≡ other) × (new ≡ behind) }
 {
     rows_are_one();
     a_text_is_read_in_one_way();

@@ -1,9 +1,10 @@
 //! A service answers the lines of its streams by the spellings of frames.
-ghost use Rattle.std.specs.Prelude.{◌≡◌, ◌≢◌, ◌≤◌, ◌^◌, Ok, length, IfErr, IfSome, OnOk};
+ghost use Rattle.std.specs.Prelude.{◌≡◌, ◌≢◌, ◌≤◌, ◌<◌, ◌^◌, Ok, length, IfErr, IfSome, OnOk};
 ghost use Rattle.block_disk.specs.Counts.{HasRisen};
 ghost use Rattle.block_disk.specs.View.{Now, Only};
 ghost use Rattle.chart_frames.specs.Frames.{spelling};
 ghost use Rattle.chart_world.specs.Faults.{CountsFault, fault_in};
+ghost use Rattle.chart_world.specs.Reading.{IsReadUp};
 ghost use Rattle.gate_pages.specs.Pages.{GoesOn};
 ghost use Rattle.chart_service.specs.Answering.{SendsWhole, ServeEndsBy, LastsBy, ReadsByLines, SyncsByLines};
 ghost use Rattle.chart_service.specs.Faulting.{serve_fault};
@@ -53,6 +54,8 @@ pub fn serve<P: PageWorld>(service: &mut Service<P>) -> Result<(), ServeEnd>
     // whatever the pages are
     // each frame that closes a session or answers in it names one that is open by those before it
     ensures named { SendsNamed service.old.sessions (P.sent (shown.pages service.old)) (P.sent (shown.pages service.new)) }
+    ensures whole { OnOk result (IsReadUp (P.left (shown.pages service.old)) (P.left (shown.pages service.new))) }
+    ensures long { result ≡ Err ServeEnd.InputTooLong → IfSome (P.left (shown.pages service.old)) (λ input. 2 ^ 32 < length input) }
     ensures read { result ≡ Err ServeEnd.ReadFault → HasRisen (P.read_faults (shown.pages service.old)) (P.read_faults (shown.pages service.new)) }
     ensures send { result ≡ Err ServeEnd.SendFault → HasRisen (P.send_faults (shown.pages service.old)) (P.send_faults (shown.pages service.new)) }
     ensures disk { result ≡ Err ServeEnd.DiskFault → HasRisen (shown.view service.old).faults (shown.view service.new).faults }

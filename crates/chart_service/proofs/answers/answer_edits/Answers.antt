@@ -21,7 +21,7 @@ use Rattle.chart_service.specs.Stepping.{StandsAfter, state_of}
 use Rattle.chart_service.specs.declared.failure.AnswerEnd.TheVariants.{Serve}
 use Rattle.gate_pages.specs.GateLaws.{goes_then}
 use Rattle.chart_service.proofs.DiskKept.{serves_group, serves_kept, serves_then}
-use Rattle.chart_service.proofs.Ends.{err_is, error_is, on_err, step_unread, step_unsent, step_fault, step_bad, reply_bad, not_of_disk, not_of_input, stays}
+use Rattle.chart_service.proofs.Ends.{err_is, error_is, on_err, step_short, step_unread, step_unsent, step_fault, step_bad, reply_bad, not_of_disk, not_of_input, not_of_length, stays}
 use Rattle.chart_service.proofs.Faulting.{step_goes}
 use Rattle.chart_service.proofs.Known.{known_kept}
 use Rattle.chart_service.proofs.GroupReplies.{if_told, group_done, group_stops, edits_stop, edits_moments, group_moments}
@@ -68,6 +68,7 @@ returns-in_err-frames g c =
       disk = λ fault. no.disk (ap Err (step_fault e (sym is ∙ fault)));
       faults = step_goes result e (view pages) (view pages') residual no.faults;
       read = λ fault. step_unread e (sym is ∙ fault);
+      long = λ fault. step_short e (sym is ∙ fault);
       bad = error_goes (EndsAtBad (told_in pages') (view pages').size image) result (Serve (end_of_step e)) residual (step_bad (told_in pages') (view pages').size image e no.bad);
       serves = serves_group (told_in pages) (told_in pages') (view pages) (view pages') made.moves;
       goes_on = made.goes_on;
@@ -139,6 +140,7 @@ returns g c =
       disk = λ fault. absurd (not_of_disk result rest.ends fault);
       faults = counts_then (fault_in answer_fault result) (view pages) (view mid) (view new) yes.faults rest.faults;
       read = not_of_input result rest.ends;
+      long = not_of_length result rest.ends;
       bad = error_so result IsReplyEnd (EndsAtBad (told_in new) (view new).size (view new).image) (reply_bad (told_in new) (view new).size (view new).image) rest.ends;
       serves = serves_then (told_in pages) (told_in mid) (told_in new) (view pages) (view mid) (view new) (serves_group (told_in pages) (told_in mid) (view pages) (view mid) made.moves)
           (serves_kept (told_in mid) (told_in new) (view mid) (view new) rest.keeps.disk rest.keeps.told rest.keeps.was_told);

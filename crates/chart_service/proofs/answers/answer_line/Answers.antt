@@ -18,7 +18,7 @@ use Rattle.chart_service.specs.MomentLaws.{through_none}
 use Rattle.chart_service.specs.Syncing.{edit_of}
 use Rattle.chart_service.specs.declared.failure.AnswerEnd.TheVariants.{Serve}
 use Rattle.chart_service.proofs.DiskKept.{serves_none, serves_then, serves_kept, serves_step}
-use Rattle.chart_service.proofs.Ends.{differ, error_is, on_err, step_unread, step_unsent, step_fault, step_bad, step_sound, reply_bad, not_of_disk, not_of_input, stays}
+use Rattle.chart_service.proofs.Ends.{differ, error_is, on_err, step_short, step_unread, step_unsent, step_fault, step_bad, step_sound, reply_bad, not_of_disk, not_of_input, not_of_length, stays}
 use Rattle.chart_service.proofs.Faulting.{step_goes}
 use Rattle.chart_service.proofs.Known.{known_next, named_known, ends_known, same_opens}
 use Rattle.chart_service.proofs.Naming.{gives_none, first_step, gives_error, answer_gives, names_open}
@@ -62,6 +62,7 @@ returns-in_err-frame g c =
       send = λ fault. step_unsent c.in_err-frame.field-0.0 (sym (error_is c.from_residual.result (Serve (end_of_step c.in_err-frame.field-0.0)) c.from_residual.ensures.1) ∙ fault);
       disk = λ fault. c.in_err-frame.ensures.disk (ap Err (step_fault c.in_err-frame.field-0.0 (sym (error_is c.from_residual.result (Serve (end_of_step c.in_err-frame.field-0.0)) c.from_residual.ensures.1) ∙ fault)));
       read = λ fault. step_unread c.in_err-frame.field-0.0 (sym (error_is c.from_residual.result (Serve (end_of_step c.in_err-frame.field-0.0)) c.from_residual.ensures.1) ∙ fault);
+      long = λ fault. step_short c.in_err-frame.field-0.0 (sym (error_is c.from_residual.result (Serve (end_of_step c.in_err-frame.field-0.0)) c.from_residual.ensures.1) ∙ fault);
       bad = error_goes (EndsAtBad told ((g.P.Pages.view (shown.pages it)).size) image) c.from_residual.result (Serve (end_of_step c.in_err-frame.field-0.0)) c.from_residual.ensures.1
           (step_bad told ((g.P.Pages.view (shown.pages it)).size) image c.in_err-frame.field-0.0 c.in_err-frame.ensures.bad);
       faults = step_goes c.from_residual.result c.in_err-frame.field-0.0 (g.P.Pages.view pages) (g.P.Pages.view pages') c.from_residual.ensures.1 c.in_err-frame.ensures.faults;
@@ -134,6 +135,7 @@ returns g c =
       send = λ fault. subst P same (c.send_reply.ensures.send fault);
       disk = λ fault. absurd (not_of_disk c.send_reply.result c.send_reply.ensures.ends fault);
       read = not_of_input c.send_reply.result c.send_reply.ensures.ends;
+      long = not_of_length c.send_reply.result c.send_reply.ensures.ends;
       bad = error_so c.send_reply.result IsReplyEnd (EndsAtBad told ((g.P.Pages.view (shown.pages it)).size) image) (reply_bad told ((g.P.Pages.view (shown.pages it)).size) image) c.send_reply.ensures.ends;
       faults = counts_then (fault_in answer_fault c.send_reply.result) (view pages) (view mid) (view pages') yes.faults made.faults;
       serves = serves_then (told_in pages) (told_in mid) (told_in pages') (view pages) (view mid) (view pages') (serves_step (told_in pages) (told_in mid) (view pages) (view mid) c.step_line.ensures.steps)
@@ -168,6 +170,7 @@ returns-then-is_empty g c =
       send = λ fault. differ fault refl;
       disk = λ fault. differ fault refl;
       read = λ fault. differ fault refl;
+      long = λ fault. differ fault refl;
       bad = tt;
       faults = refl;
       serves = serves_none (g.P.Pages.told at) (g.P.Pages.view at);

@@ -1,7 +1,7 @@
 use Rattle.std.proofs.Common.{◌≡◌, ℕ, ◌-◌, ◌<◌, ◌≤◌, ◌^◌, [], ◌∷◌, List, Option, None, Some, Ok, Err, IfNone, IfSome, IsTrue, Vec, Global, length, refl, ap, sym, subst, ◌∙◌, arith}
 use Rattle.block_disk.specs.View.{Image}
 use Rattle.chart_world.specs.FaultLaws.{counts_then, counts_kept, disk_stays}
-use Rattle.chart_world.specs.FrontLaws.{read_whole, same_line}
+use Rattle.chart_world.specs.FrontLaws.{longer, read_up, read_whole, same_line}
 use Rattle.chart_world.specs.Fronts.{Gives}
 use Rattle.chart_world.specs.Lines.{lines}
 use Rattle.chart_world.specs.StandsLaws.{stands_beside, stands_first}
@@ -24,7 +24,7 @@ use Rattle.chart_service.specs.declared.failure.AnswerEnd.TheVariants.{Serve}
 use Rattle.chart_service.specs.declared.failure.ServeEnd.TheVariants.{NoMemory}
 use Rattle.chart_service.proofs.Outcomes.{ok_err}
 use Rattle.chart_service.proofs.DiskKept.{serves_none, serves_then, serves_kept as serves_disk, risen_since}
-use Rattle.chart_service.proofs.Ends.{differ, end_is, err_is, error_is, on_err, fault_read, fault_unsent, fault_disk, fault_bad, reply_bad}
+use Rattle.chart_service.proofs.Ends.{differ, end_is, err_is, error_is, on_err, fault_long, fault_read, fault_unsent, fault_disk, fault_bad, reply_bad}
 use Rattle.chart_service.proofs.Faulting.{count_stays, counts_lines, fault_goes}
 use Rattle.chart_service.proofs.GatherLemmas.{group_passed, spelled_length}
 use Rattle.chart_service.proofs.GroupReplies.{if_told}
@@ -82,6 +82,7 @@ returns-in_err-lines g c =
     record {
       done = λ total book told stands. on_err c.from_residual.result _ _ c.from_residual.ensures.1;
       within = on_err c.from_residual.result _ _ c.from_residual.ensures.1;
+      whole = on_err c.from_residual.result _ _ c.from_residual.ensures.1;
       ends = λ total book told stands.
           error_goes (λ end. EndsAnswers g.R.Reply.makes c.args.kept.now c.args.kept.now o (state_of book total own) (view pages).image own o before before end) c.from_residual.result (Serve NoMemory) c.from_residual.ensures.1
           (no_memory_first g.R.Reply.makes c.args.kept.now o total book own before (view pages).image o (Serve NoMemory) stands refl);
@@ -91,6 +92,7 @@ returns-in_err-lines g c =
       reads = λ total book told stands.
           read_all o total book own (view pages).reads unread_input o (view pages).image own (view pages).reads (read_first o total book own (view pages).reads (view pages).image unread_input stands refl);
       read = λ fault. differ (sym (error_is c.from_residual.result (Serve NoMemory) c.from_residual.ensures.1) ∙ fault) refl;
+      long = λ fault. differ (sym (error_is c.from_residual.result (Serve NoMemory) c.from_residual.ensures.1) ∙ fault) refl;
       send = λ fault. differ (sym (error_is c.from_residual.result (Serve NoMemory) c.from_residual.ensures.1) ∙ fault) refl;
       disk = λ fault. differ (sym (error_is c.from_residual.result (Serve NoMemory) c.from_residual.ensures.1) ∙ fault) refl;
       syncs = λ total book told stands.
@@ -127,6 +129,7 @@ returns-in_err-next g c =
     record {
       done = λ total book told stands. on_err c.from_residual-in_err-next.result _ _ c.from_residual-in_err-next.ensures.1;
       within = on_err c.from_residual-in_err-next.result _ _ c.from_residual-in_err-next.ensures.1;
+      whole = on_err c.from_residual-in_err-next.result _ _ c.from_residual-in_err-next.ensures.1;
       ends = λ total book told stands.
           let far = far_kept g.R.Reply.makes c.args.kept.now o total book own before c.lines.kept c.lines.lines (g.P.Streams.left mid) (g.P.Streams.sent mid) (g.P.Streams.sent taken) (view mid).image (view taken).image c.lines.service.sessions c.next.new.from.sessions kept.image beside.sessions c.next.ensures.sent (inv.far total book told stands) in
           error_goes (λ end. EndsAnswers g.R.Reply.makes c.args.kept.now c.lines.kept o (state_of book total own) (view taken).image c.next.new.from.sessions (g.P.Streams.left taken) before (g.P.Streams.sent taken) end) c.from_residual-in_err-next.result (Serve (end_of f)) c.from_residual-in_err-next.ensures.1
@@ -135,6 +138,7 @@ returns-in_err-next g c =
       crash = λ total book told stands. lasts_take g.R.Reply.makes c.args.kept.now c.lines.kept o before (g.P.Streams.sent mid) total book own c.lines.service.sessions (view pages) (view mid) (view taken) c.lines.lines (g.P.Streams.left mid) (inv.far total book told stands) (g.met.P.Pages.rests mid inv.fit) (g.met.P.PageWorld.counts_sent pages) (g.met.P.PageWorld.counts_sent mid) (g.met.P.PageWorld.take_passes mid taken takes) (inv.lasts total book told stands);
       reads = λ total book told stands. read_all o total book own (view pages).reads c.lines.lines (g.P.Streams.left mid) (view taken).image c.next.new.from.sessions (view taken).reads (read_kept o total book own (view pages).reads c.lines.lines (g.P.Streams.left mid) (view mid).image (view taken).image c.lines.service.sessions c.next.new.from.sessions (view mid).reads (view taken).reads kept.image beside.sessions kept.reads (inv.reads total book told stands));
       read = λ fault. risen_since (reads pages) (reads mid) (reads taken) (count_stays view (λ counts. counts.take) reads g.met.P.PageWorld.beside_read_faults pages mid inv.faults) (c.in_err-next.ensures.read_fault (ap Err (fault_read c.in_err-next.field-0.0 (sym (error_is c.from_residual-in_err-next.result (Serve (end_of c.in_err-next.field-0.0)) c.from_residual-in_err-next.ensures.1) ∙ fault))));
+      long = λ fault. longer o (g.P.Streams.left taken) c.next.new.self.taken (2 ^ 32) (no.past (ap Err (fault_long f (sym (error_is c.from_residual-in_err-next.result (Serve (end_of f)) c.from_residual-in_err-next.ensures.1) ∙ fault)))) (no.total ∙ inv.whole);
       send = λ fault. fault_unsent c.in_err-next.field-0.0 (sym (error_is c.from_residual-in_err-next.result (Serve (end_of c.in_err-next.field-0.0)) c.from_residual-in_err-next.ensures.1) ∙ fault);
       disk = λ fault. fault_disk c.in_err-next.field-0.0 (sym (error_is c.from_residual-in_err-next.result (Serve (end_of c.in_err-next.field-0.0)) c.from_residual-in_err-next.ensures.1) ∙ fault);
       syncs = λ total book told stands. sync_all o total book (view pages).syncs (g.P.Streams.pieces pages) c.lines.lines (g.P.Streams.left mid) (view mid).image (view mid).syncs (g.P.Streams.pieces mid) (view taken).syncs (g.P.Streams.pieces taken) kept.syncs c.next.ensures.pieces (inv.syncs total book told stands);
@@ -173,10 +177,12 @@ returns-in-End g c =
           let far = far_kept g.R.Reply.makes c.args.kept.now o total book own before c.lines.kept c.lines.lines (g.P.Streams.left mid) (g.P.Streams.sent mid) (g.P.Streams.sent taken) (view mid).image (view taken).image c.lines.service.sessions c.next.new.from.sessions kept.image beside.sessions c.next.ensures.sent (inv.far total book told stands) in
           all_done g.R.Reply.makes c.args.kept.now o total book own before c.lines.kept c.lines.lines (g.P.Streams.left mid) (g.P.Streams.sent taken) (view taken).image c.next.new.from.sessions (c.in_ok-next.ensures.end (ap Ok c.in-End.is)) far;
       within = read_whole (g.P.Streams.left (shown.pages c.args.service.now)) (g.P.Streams.left mid) c.lines.lines (2 ^ 32) (c.in_ok-next.ensures.end (ap Ok c.in-End.is)) inv.counted inv.within inv.whole;
+      whole = read_up o (g.P.Streams.left mid) (g.P.Streams.left taken) c.lines.lines c.next.new.self (c.in_ok-next.ensures.end (ap Ok c.in-End.is)) c.in_ok-next.ensures.rest (c.in_ok-next.ensures.total ∙ inv.whole);
       ends = λ total book told stands. tt;
       crash = λ total book told stands. lasts_take g.R.Reply.makes c.args.kept.now c.lines.kept o before (g.P.Streams.sent mid) total book own c.lines.service.sessions (view pages) (view mid) (view taken) c.lines.lines (g.P.Streams.left mid) (inv.far total book told stands) (g.met.P.Pages.rests mid inv.fit) (g.met.P.PageWorld.counts_sent pages) (g.met.P.PageWorld.counts_sent mid) (g.met.P.PageWorld.take_passes mid taken takes) (inv.lasts total book told stands);
       reads = λ total book told stands. read_all o total book own (view pages).reads c.lines.lines (g.P.Streams.left mid) (view taken).image c.next.new.from.sessions (view taken).reads (read_kept o total book own (view pages).reads c.lines.lines (g.P.Streams.left mid) (view mid).image (view taken).image c.lines.service.sessions c.next.new.from.sessions (view mid).reads (view taken).reads kept.image beside.sessions kept.reads (inv.reads total book told stands));
       read = λ fault. differ fault refl;
+      long = λ fault. differ fault refl;
       send = λ fault. differ fault refl;
       disk = λ fault. differ fault refl;
       syncs = λ total book told stands. sync_all o total book (view pages).syncs (g.P.Streams.pieces pages) c.lines.lines (g.P.Streams.left mid) (view mid).image (view mid).syncs (g.P.Streams.pieces mid) (view taken).syncs (g.P.Streams.pieces taken) kept.syncs c.next.ensures.pieces (inv.syncs total book told stands);
@@ -281,6 +287,7 @@ returns-in_err-answer_long_line-in-TooLong g c =
     record {
       done = λ total book told stands. on_err c.from_residual-in_err-answer_long_line-in-TooLong.result _ _ c.from_residual-in_err-answer_long_line-in-TooLong.ensures.1;
       within = on_err c.from_residual-in_err-answer_long_line-in-TooLong.result _ _ c.from_residual-in_err-answer_long_line-in-TooLong.ensures.1;
+      whole = on_err c.from_residual-in_err-answer_long_line-in-TooLong.result _ _ c.from_residual-in_err-answer_long_line-in-TooLong.ensures.1;
       ends = λ total book told stands.
           let far = far_kept g.R.Reply.makes c.args.kept.now o total book own before c.lines.kept c.lines.lines (g.P.Streams.left mid) (g.P.Streams.sent mid) (g.P.Streams.sent taken) (view mid).image (view taken).image c.lines.service.sessions c.next.new.from.sessions kept.image beside.sessions c.next.ensures.sent (inv.far total book told stands) in
           let told' = g.met.P.PageWorld.take_told mid taken takes (inv.serves.told told) in
@@ -296,6 +303,7 @@ returns-in_err-answer_long_line-in-TooLong g c =
           let told' = g.met.P.PageWorld.take_told mid taken takes (inv.serves.told told) in
           read_line_stops o total book own (view pages).reads c.lines.lines c.next.new.self (g.P.Streams.left mid) (g.P.Streams.left taken) None (view taken).reads (view new).reads gives (view taken).image c.next.new.from.sessions far made.keeps.disk.reads;
       read = λ fault. absurd (subst IsReplyEnd (end_is (sym (error_is c.from_residual-in_err-answer_long_line-in-TooLong.result c.in_err-answer_long_line-in-TooLong.field-0.0 c.from_residual-in_err-answer_long_line-in-TooLong.ensures.1) ∙ fault)) c.in_err-answer_long_line-in-TooLong.ensures.ends);
+      long = λ fault. absurd (subst IsReplyEnd (end_is (sym (error_is c.from_residual-in_err-answer_long_line-in-TooLong.result c.in_err-answer_long_line-in-TooLong.field-0.0 c.from_residual-in_err-answer_long_line-in-TooLong.ensures.1) ∙ fault)) c.in_err-answer_long_line-in-TooLong.ensures.ends);
       send = λ fault. risen_since (sends pages) (sends taken) (sends new) (count_stays view (λ counts. counts.send) sends g.met.P.PageWorld.beside_send_faults pages taken quiet) (c.in_err-answer_long_line-in-TooLong.ensures.send (sym (error_is c.from_residual-in_err-answer_long_line-in-TooLong.result c.in_err-answer_long_line-in-TooLong.field-0.0 c.from_residual-in_err-answer_long_line-in-TooLong.ensures.1) ∙ fault));
       disk = λ fault. absurd (subst IsReplyEnd (end_is (sym (error_is c.from_residual-in_err-answer_long_line-in-TooLong.result c.in_err-answer_long_line-in-TooLong.field-0.0 c.from_residual-in_err-answer_long_line-in-TooLong.ensures.1) ∙ fault)) c.in_err-answer_long_line-in-TooLong.ensures.ends);
       syncs = λ total book told stands.
@@ -421,6 +429,7 @@ returns-in_err-answer_line-in-None g c =
     record {
       done = λ total book told stands. on_err c.from_residual-in_err-answer_line-in-None.result _ _ c.from_residual-in_err-answer_line-in-None.ensures.1;
       within = on_err c.from_residual-in_err-answer_line-in-None.result _ _ c.from_residual-in_err-answer_line-in-None.ensures.1;
+      whole = on_err c.from_residual-in_err-answer_line-in-None.result _ _ c.from_residual-in_err-answer_line-in-None.ensures.1;
       ends = λ total book told stands.
           let far = far_kept g.R.Reply.makes c.args.kept.now o total book own before c.lines.kept c.lines.lines (g.P.Streams.left mid) (g.P.Streams.sent mid) (g.P.Streams.sent taken) (view mid).image (view taken).image c.lines.service.sessions c.next.new.from.sessions kept.image beside.sessions c.next.ensures.sent (inv.far total book told stands) in
           let told' = g.met.P.PageWorld.take_told mid taken takes (inv.serves.told told) in
@@ -436,6 +445,7 @@ returns-in_err-answer_line-in-None g c =
           let told' = g.met.P.PageWorld.take_told mid taken takes (inv.serves.told told) in
           read_line_stops o total book own (view pages).reads c.lines.lines r (g.P.Streams.left mid) (g.P.Streams.left taken) (Some text) (view taken).reads (view new).reads gives (view taken).image c.next.new.from.sessions far (made.reads total far.book told' far.stands);
       read = λ fault. absurd (c.in_err-answer_line-in-None.ensures.read (sym (error_is c.from_residual-in_err-answer_line-in-None.result c.in_err-answer_line-in-None.field-0.0 c.from_residual-in_err-answer_line-in-None.ensures.1) ∙ fault));
+      long = λ fault. absurd (c.in_err-answer_line-in-None.ensures.long (sym (error_is c.from_residual-in_err-answer_line-in-None.result c.in_err-answer_line-in-None.field-0.0 c.from_residual-in_err-answer_line-in-None.ensures.1) ∙ fault));
       send = λ fault. risen_since (sends pages) (sends taken) (sends new) (count_stays view (λ counts. counts.send) sends g.met.P.PageWorld.beside_send_faults pages taken quiet) (c.in_err-answer_line-in-None.ensures.send (sym (error_is c.from_residual-in_err-answer_line-in-None.result c.in_err-answer_line-in-None.field-0.0 c.from_residual-in_err-answer_line-in-None.ensures.1) ∙ fault));
       disk = λ is. risen_since (view pages).faults (view taken).faults (view new).faults (disk_stays (view pages) (view taken) quiet) (c.in_err-answer_line-in-None.ensures.disk (sym (error_is c.from_residual-in_err-answer_line-in-None.result c.in_err-answer_line-in-None.field-0.0 c.from_residual-in_err-answer_line-in-None.ensures.1) ∙ is));
       syncs = λ total book told stands.
@@ -567,6 +577,7 @@ returns-in_err-answer_edits-in-Some g c =
     record {
       done = λ total book told stands. on_err c.from_residual-in_err-answer_edits-in-Some.result _ _ c.from_residual-in_err-answer_edits-in-Some.ensures.1;
       within = on_err c.from_residual-in_err-answer_edits-in-Some.result _ _ c.from_residual-in_err-answer_edits-in-Some.ensures.1;
+      whole = on_err c.from_residual-in_err-answer_edits-in-Some.result _ _ c.from_residual-in_err-answer_edits-in-Some.ensures.1;
       ends = λ total book told stands.
           let far = far_kept g.R.Reply.makes c.args.kept.now o total book own before c.lines.kept c.lines.lines (g.P.Streams.left mid) (g.P.Streams.sent mid) (g.P.Streams.sent taken) (view mid).image (view taken).image c.lines.service.sessions c.next.new.from.sessions kept.image beside.sessions c.next.ensures.sent (inv.far total book told stands) in
           let told' = g.met.P.PageWorld.take_told mid taken takes (inv.serves.told told) in
@@ -582,6 +593,7 @@ returns-in_err-answer_edits-in-Some g c =
           let told' = g.met.P.PageWorld.take_told mid taken takes (inv.serves.told told) in
           read_edits_stop o total book own (view pages).reads c.lines.lines r (g.P.Streams.left mid) (g.P.Streams.left taken) all (view taken).reads (view new).reads passed (view taken).image c.next.new.from.sessions edits far spells most (made.reads total far.book told' far.stands);
       read = λ fault. absurd (c.in_err-answer_edits-in-Some.ensures.read (sym (error_is c.from_residual-in_err-answer_edits-in-Some.result c.in_err-answer_edits-in-Some.field-0.0 c.from_residual-in_err-answer_edits-in-Some.ensures.1) ∙ fault));
+      long = λ fault. absurd (c.in_err-answer_edits-in-Some.ensures.long (sym (error_is c.from_residual-in_err-answer_edits-in-Some.result c.in_err-answer_edits-in-Some.field-0.0 c.from_residual-in_err-answer_edits-in-Some.ensures.1) ∙ fault));
       send = λ fault. risen_since (sends pages) (sends taken) (sends new) (count_stays view (λ counts. counts.send) sends g.met.P.PageWorld.beside_send_faults pages taken quiet) (c.in_err-answer_edits-in-Some.ensures.send (sym (error_is c.from_residual-in_err-answer_edits-in-Some.result c.in_err-answer_edits-in-Some.field-0.0 c.from_residual-in_err-answer_edits-in-Some.ensures.1) ∙ fault));
       disk = λ is. risen_since (view pages).faults (view taken).faults (view new).faults (disk_stays (view pages) (view taken) quiet) (c.in_err-answer_edits-in-Some.ensures.disk (sym (error_is c.from_residual-in_err-answer_edits-in-Some.result c.in_err-answer_edits-in-Some.field-0.0 c.from_residual-in_err-answer_edits-in-Some.ensures.1) ∙ is));
       syncs = λ total book told stands.
@@ -626,6 +638,7 @@ returns-in_err-edits-in-Line g c =
     record {
       done = λ total book told stands. on_err result _ _ residual;
       within = on_err result _ _ residual;
+      whole = on_err result _ _ residual;
       ends = λ total book told stands.
           let far = far_kept g.R.Reply.makes c.args.kept.now o total book own before c.lines.kept c.lines.lines (g.P.Streams.left mid) (g.P.Streams.sent mid) (g.P.Streams.sent taken) (view mid).image (view taken).image c.lines.service.sessions c.next.new.from.sessions kept.image beside.sessions c.next.ensures.sent (inv.far total book told stands) in
           let here = state_of far.book total c.next.new.from.sessions in
@@ -638,6 +651,7 @@ returns-in_err-edits-in-Line g c =
       crash = λ total book told stands. lasts_take g.R.Reply.makes c.args.kept.now c.lines.kept o before (g.P.Streams.sent mid) total book own c.lines.service.sessions (view pages) (view mid) (view taken) c.lines.lines (g.P.Streams.left mid) (inv.far total book told stands) (g.met.P.Pages.rests mid inv.fit) (g.met.P.PageWorld.counts_sent pages) (g.met.P.PageWorld.counts_sent mid) (g.met.P.PageWorld.take_passes mid taken takes) (inv.lasts total book told stands);
       reads = λ total book told stands. read_all o total book own (view pages).reads c.lines.lines (g.P.Streams.left mid) (view taken).image c.next.new.from.sessions (view taken).reads (read_kept o total book own (view pages).reads c.lines.lines (g.P.Streams.left mid) (view mid).image (view taken).image c.lines.service.sessions c.next.new.from.sessions (view mid).reads (view taken).reads kept.image beside.sessions kept.reads (inv.reads total book told stands));
       read = λ fault. differ (sym (error_is result (Serve NoMemory) residual) ∙ fault) refl;
+      long = λ fault. differ (sym (error_is result (Serve NoMemory) residual) ∙ fault) refl;
       send = λ fault. differ (sym (error_is result (Serve NoMemory) residual) ∙ fault) refl;
       disk = λ fault. differ (sym (error_is result (Serve NoMemory) residual) ∙ fault) refl;
       syncs = λ total book told stands. sync_all o total book (view pages).syncs (g.P.Streams.pieces pages) c.lines.lines (g.P.Streams.left mid) (view mid).image (view mid).syncs (g.P.Streams.pieces mid) (view taken).syncs (g.P.Streams.pieces taken) kept.syncs c.next.ensures.pieces (inv.syncs total book told stands);

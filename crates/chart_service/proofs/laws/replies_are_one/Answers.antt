@@ -1,4 +1,4 @@
-use Rattle.chart_service.proofs.OneReply.{Laws, line_one, lines_one}
+use Rattle.chart_service.proofs.OneReply.{Laws, line_one, lines_one, request_one}
 use Rattle.chart_service.proofs.laws.replies_are_one.Goals as goal
 
 -- what the laws below give
@@ -15,3 +15,6 @@ returns-clause-line c = line_one (laws c)
 
 pub returns-clause-lines : goal.returns-clause-lines
 returns-clause-lines c = lines_one (laws c)
+
+pub returns-clause-request : goal.returns-clause-request
+returns-clause-request c = request_one (laws c)

@@ -1,12 +1,13 @@
 use Rattle.std.proofs.Common.{IfErr, IfSome, OnOk, length, ap, sym, subst, ◌≤◌, ◌^◌, ◌∙◌}
 use Rattle.block_disk.specs.View.{sent_now}
 use Rattle.chart_world.specs.Faults.{CountsFault, fault_in}
+use Rattle.chart_world.specs.Reading.{IsReadUp}
 use Rattle.chart_service.specs.Answering.{SendsWhole, ServeEndsBy}
 use Rattle.chart_service.specs.Faulting.{serve_fault}
 use Rattle.chart_service.specs.Serving.{AreSpelled, EndsAtBad}
 use Rattle.chart_service.specs.Shown as shown
 use Rattle.chart_service.specs.Spelled.{serve_end}
-use Rattle.chart_service.specs.declared.failure.ServeEnd.TheVariants.{ReadFault, SendFault, DiskFault}
+use Rattle.chart_service.specs.declared.failure.ServeEnd.TheVariants.{ReadFault, SendFault, DiskFault, InputTooLong}
 use Rattle.chart_service.proofs.Faulting.{serve_goes}
 use Rattle.chart_service.proofs.Naming.{serve_named}
 use Rattle.chart_service.proofs.Sending.{ok_so}
@@ -28,6 +29,14 @@ pub returns-clause-within : goal.returns-clause-within
 returns-clause-within g c =
     let X = IfSome (g.P.Streams.left (shown.pages c.args.service.now)) (λ input. length input ≤ 2 ^ 32) in
     subst (λ r. OnOk r X) (sym c.served.ensures) (served_ok c.answer_lines-answer.result X c.answer_lines-answer.ensures.within)
+
+pub returns-clause-whole : goal.returns-clause-whole
+returns-clause-whole g c =
+    let X = IsReadUp (g.P.Streams.left (shown.pages c.args.service.now)) (g.P.Streams.left (shown.pages c.answer_lines-answer.new.service)) in
+    subst (λ r. OnOk r X) (sym c.served.ensures) (served_ok c.answer_lines-answer.result X c.answer_lines-answer.ensures.whole)
+
+pub returns-clause-long : goal.returns-clause-long
+returns-clause-long g c = λ fault. c.answer_lines-answer.ensures.long (served_fault c.answer_lines-answer.result InputTooLong (λ e. cc) (sym c.served.ensures ∙ fault))
 
 pub returns-clause-ends : goal.returns-clause-ends
 returns-clause-ends g c = λ total book told stands.
