@@ -7,8 +7,9 @@ ghost use Rattle.drawn_replies.specs.Mirrors.{Mirrors, OnlyLacksMemory};
 ghost use Rattle.chart_service.specs.Replies.{line_text};
 ghost use Rattle.live_service.specs.Following.{FollowsWell, ShowsView};
 ghost use Rattle.live_service.specs.LiveReplies.{LiveState, LiveReplied, Pushed};
-ghost use Rattle.live_service.specs.Laws.{PushesAreDrawn, LinesAreDrawn, LinesAreAccepted};
+ghost use Rattle.live_service.specs.Laws.{PushesAreDrawn, LinesAreDrawn, LinesAreAccepted, LiveRepliesAreOne, PushesAreOne};
 
+use chart_service::laws::replies_are_one;
 use drawn_replies::laws::{clients_draw_requests, clients_draw_the_book};
 use live_view::laws::followed_views_fit;
 
@@ -48,4 +49,13 @@ pub fn pushes_show_views()
     ensures { (frame : Frame) (old new : LiveState) → FollowsWell old → Pushed frame old new → ShowsView frame }
 {
     followed_views_fit();
+}
+
+/// Each line has one answer of a live service, and each push is one: the frame, and what the service holds behind it, are
+/// determined by what it holds before.
+pub fn live_replies_are_one()
+    ensures lines { LiveRepliesAreOne }
+    ensures pushes { PushesAreOne }
+{
+    replies_are_one();
 }
