@@ -267,6 +267,14 @@ module _ (every : Option ℕ) where
   read_all (Some input) left count buffer at h taken most before now given none empty counted few drawn =
       read_all_at input drawn.0 at h taken most before now (none_left count drawn.0 buffer left given drawn.1 none) empty counted few drawn.2
 
+  -- a take that gives nothing leaves none of it
+  pub nothing_left : (o left left' : Option (List ℕ)) (count : ℕ) (buffer : List ℕ) (at : Pending) (h : List Holding) (before now : Option (List ℕ))
+      → IfSome left (λ told. Given count told buffer) → left' ≡ left_after count left → count ≡ 0 → DrawnOf o left at h before now → IfSome o (λ input. left' ≡ Some [])
+  nothing_left None left left' count buffer at h before now given is none drawn = tt
+  nothing_left (Some input) left left' count buffer at h before now given is none drawn =
+      let rest : drawn.0 ≡ [] = none_left count drawn.0 buffer left given drawn.1 none in
+      is ∙ ap (λ n. left_after n left) none ∙ ap (left_after 0) (drawn.1 ∙ ap Some rest)
+
   cut_at : (input bytes : List ℕ) (at : Pending) (h : List Holding) (taken : ℕ) (before now : Option (List ℕ)) → bytes ≡ [] → 0 < length at.rest
       → IsPartial at → taken ≡ at.given + length at.rest → taken ≤ 2 ^ 32 → DrawsFirst every input (held at.given (at.rest ++ bytes)) h before now → IsCut every input taken before now
   cut_at input bytes at h taken before now none some partial counted few first =

@@ -28,6 +28,7 @@ const MOST_BYTES: u64 = 4_294_967_296;
 pub fn draw<S: World>(alloc: Global, streams: &mut S) -> Result<(), DrawEnd>
     ensures done { OnOk result (IfSome (S.left streams.old) (λ input. DrawsAll None input (S.sent streams.old) (S.sent streams.new))) }
     ensures within { OnOk result (IfSome (S.left streams.old) (λ input. length input ≤ 2 ^ 32)) }
+    ensures whole { OnOk result (IfSome (S.left streams.old) (λ input. S.left streams.new ≡ Some [])) }
     ensures ends { IfErr result (λ end. IfSome (S.left streams.old) (λ input. EndsDraw None input (S.left streams.new) (S.sent streams.old) (S.sent streams.new) end)) }
     ensures read { result ≡ Err DrawEnd.ReadFault → HasRisen (S.read_faults streams.old) (S.read_faults streams.new) }
     ensures quiet_reads { result ≢ Err DrawEnd.ReadFault → S.read_faults streams.new ≡ S.read_faults streams.old }
@@ -45,6 +46,7 @@ pub fn cover<S: World>(alloc: Global, every: u32, streams: &mut S) -> Result<(),
     requires some { 0 < every }
     ensures done { OnOk result (IfSome (S.left streams.old) (λ input. DrawsAll (Some every) input (S.sent streams.old) (S.sent streams.new))) }
     ensures within { OnOk result (IfSome (S.left streams.old) (λ input. length input ≤ 2 ^ 32)) }
+    ensures whole { OnOk result (IfSome (S.left streams.old) (λ input. S.left streams.new ≡ Some [])) }
     ensures ends { IfErr result (λ end. IfSome (S.left streams.old) (λ input. EndsDraw (Some every) input (S.left streams.new) (S.sent streams.old) (S.sent streams.new) end)) }
     ensures read { result ≡ Err DrawEnd.ReadFault → HasRisen (S.read_faults streams.old) (S.read_faults streams.new) }
     ensures quiet_reads { result ≢ Err DrawEnd.ReadFault → S.read_faults streams.new ≡ S.read_faults streams.old }
@@ -62,6 +64,7 @@ fn draw_input<S: World>(alloc: Global, every: Option<u32>, streams: &mut S) -> R
     requires some { IfSome every (λ n. 0 < n) }
     ensures done { OnOk result (IfSome (S.left streams.old) (λ input. DrawsAll every input (S.sent streams.old) (S.sent streams.new))) }
     ensures within { OnOk result (IfSome (S.left streams.old) (λ input. length input ≤ 2 ^ 32)) }
+    ensures whole { OnOk result (IfSome (S.left streams.old) (λ input. S.left streams.new ≡ Some [])) }
     ensures ends { IfErr result (λ end. IfSome (S.left streams.old) (λ input. EndsDraw every input (S.left streams.new) (S.sent streams.old) (S.sent streams.new) end)) }
     ensures read { result ≡ Err DrawEnd.ReadFault → HasRisen (S.read_faults streams.old) (S.read_faults streams.new) }
     ensures quiet_reads { result ≢ Err DrawEnd.ReadFault → S.read_faults streams.new ≡ S.read_faults streams.old }
@@ -98,6 +101,7 @@ fn draw_pieces<S: World>(
     requires sized { length buffer.old ≡ 16384 }
     ensures done { OnOk result (IfSome (S.left streams.old) (λ input. DrawsAll every input (S.sent streams.old) (S.sent streams.new))) }
     ensures within { OnOk result (IfSome (S.left streams.old) (λ input. length input ≤ 2 ^ 32)) }
+    ensures whole { OnOk result (IfSome (S.left streams.old) (λ input. S.left streams.new ≡ Some [])) }
     ensures ends { IfErr result (λ end. IfSome (S.left streams.old) (λ input. EndsDraw every input (S.left streams.new) (S.sent streams.old) (S.sent streams.new) end)) }
     ensures read { result ≡ Err DrawEnd.ReadFault → HasRisen (S.read_faults streams.old) (S.read_faults streams.new) }
     ensures quiet_reads { result ≢ Err DrawEnd.ReadFault → S.read_faults streams.new ≡ S.read_faults streams.old }

@@ -4,7 +4,7 @@ use Rattle.draw_command.specs.declared.draw_end.DrawEnd.{DrawEnd}
 use Rattle.draw_command.specs.Draws.{EndsDraw}
 use Rattle.draw_command.proofs.DiskKept.{stays_none, stays_taken, stays_then}
 use Rattle.draw_command.proofs.Errors.{done_is_no_err, error_so, if_err, on_ok}
-use Rattle.draw_command.proofs.DrawnFrames.{drawn_start, start_partial, start_counted, read_all, cut_so, stopped_so, within_so, drawn_piece, drawn_sent, counted_more}
+use Rattle.draw_command.proofs.DrawnFrames.{drawn_start, nothing_left, start_partial, start_counted, read_all, cut_so, stopped_so, within_so, drawn_piece, drawn_sent, counted_more}
 use Rattle.draw_command.proofs.drawing.draw_pieces.Goals as goal
 
 pub pieces-init : goal.pieces-init
@@ -27,6 +27,15 @@ returns-then-count-eq0-clause-within g c =
     on_ok _ _ c.ended.result c.ended.ensures.done
     (λ empty. read_all c.args.every (left c.args.streams.now) (left c.pieces.streams) c.in_ok-count.count c.take_piece.new.buffer c.pieces.decoder c.pieces.client c.pieces.taken (2 ^ 32)
     (sent c.args.streams.now) (sent c.pieces.streams) c.in_ok-count.ensures.given c.if-count-eq0.true empty inv.counted inv.within inv.drawn)
+
+pub returns-then-count-eq0-clause-whole : goal.returns-then-count-eq0-clause-whole
+returns-then-count-eq0-clause-whole g c =
+    let left = g.S.Streams.left in
+    let sent = g.S.Streams.sent in
+    let taken = c.in_ok-count.ensures in
+    on_ok _ _ c.ended.result c.ended.ensures.done
+    (λ empty. nothing_left c.args.every (left c.args.streams.now) (left c.pieces.streams) (left c.take_piece.new.streams) c.in_ok-count.count c.take_piece.new.buffer
+    c.pieces.decoder c.pieces.client (sent c.args.streams.now) (sent c.pieces.streams) taken.given taken.left c.if-count-eq0.true c.pieces.invariant.drawn)
 
 pub returns-then-count-eq0-clause-ends : goal.returns-then-count-eq0-clause-ends
 returns-then-count-eq0-clause-ends g c =
