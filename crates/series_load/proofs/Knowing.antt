@@ -16,7 +16,7 @@ use Rattle.series_load.specs.Runs.{nothing}
 use Rattle.series_load.specs.Sets.{AreFirstOf, IsAfterSome, IsNamed}
 use Rattle.series_load.specs.Steps.{IsSoundFor}
 use Rattle.run_ends.specs.declared.ending.End.{End}
-use Rattle.run_ends.specs.declared.ending.End.TheVariants.{UnknownSeries, NoMemory}
+use Rattle.run_ends.specs.declared.ending.End.TheVariants.{InputTooLong, UnknownSeries, NoMemory}
 use Rattle.series_load.proofs.Joined.{told_nothing}
 use Rattle.series_load.proofs.SetLemmas.{after_none}
 
@@ -52,6 +52,14 @@ pub no_memory_known : {T : Type 0} (result : Result T End) (e : End) → IsErrAn
     → result ≢ Err UnknownSeries
 no_memory_known (Ok v) e is none same = absurd is
 no_memory_known (Err x) e is none same = let other : x ≡ NoMemory = is ∙ none in cc
+
+pub no_memory_short : {T : Type 0} (result : Result T End) (e : End) → IsErrAnd result (λ x. x ≡ e) → e ≡ NoMemory
+    → result ≢ Err InputTooLong
+no_memory_short (Ok v) e is none same = absurd is
+no_memory_short (Err x) e is none same = let other : x ≡ NoMemory = is ∙ none in cc
+
+pub err_is : {T : Type 0} {one other : End} → ◌≡◌ {A = Result T End} (Err one) (Err other) → one ≡ other
+err_is is = cc
 
 -- before anything was read
 first_none : (series : Series) (o : Option (List ℕ)) → AreFirstOf series.scale series.step o []

@@ -4,7 +4,7 @@ ghost use Rattle.run_ends.specs.Faults.{end_fault};
 ghost use Rattle.series_load.specs.Loading.{Harms, Held, LoadDoes, LoadLeaves, LoadStops, StandsSo};
 ghost use Rattle.series_load.specs.LoadingLaws.{cause_later, fewer, now_stands, stands_taken};
 ghost use Rattle.series_load.specs.Shown as loads;
-ghost use Rattle.run_ends.specs.declared.ending.End.TheVariants.{UnknownSeries};
+ghost use Rattle.run_ends.specs.declared.ending.End.TheVariants.{InputTooLong, UnknownSeries};
 ghost use Rattle.series_load.specs.SideLaws.{goes_further, goes_nowhere, goes_take, same_count, same_total};
 ghost use Rattle.series_load.specs.Sides.{Goes};
 ghost use Rattle.series_store.specs.Shown as shown;
@@ -37,7 +37,7 @@ impl<P: PageWorld> LineWork<Store<P>, End> for Loader {
 
     ghost goes = { λ old new. Goes (loads.side_of P.Streams old) (loads.side_of P.Streams new) };
 
-    ghost cause = { λ end old new. loads.EndsFor P.Streams end old new × (end ≢ UnknownSeries) };
+    ghost cause = { λ end old new. loads.EndsFor P.Streams end old new × (end ≢ UnknownSeries) × (end ≢ InputTooLong) };
 
     ghost harms = { Harms };
 
@@ -79,7 +79,7 @@ impl<P: PageWorld> LineWork<Store<P>, End> for Loader {
 
     ghost goes_then = { λ old between new. goes_further _ _ _ };
 
-    ghost cause_later = { λ end old between new quiet goes cause. (cause_later _ _ _ _ _ _ _ _ _ (P.beside_read_faults (shown.pages old)) (P.beside_read_faults (shown.pages between)) quiet goes.total_is end cause.0, cause.1) };
+    ghost cause_later = { λ end old between new quiet goes cause. (cause_later _ _ _ _ _ _ _ _ _ (P.beside_read_faults (shown.pages old)) (P.beside_read_faults (shown.pages between)) quiet goes.total_is end cause.0, cause.1, cause.2) };
 
     ghost counts_sent = { λ at. P.counts_sent (shown.pages at) };
 

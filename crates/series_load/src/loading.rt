@@ -1,14 +1,14 @@
 //! A whole input into a series.
 ghost use Rattle.std.specs.Prelude.{◌≡◌, ◌≢◌, ◌≤◌, ◌<◌, ◌^◌, ◌↔◌, [], None, Err, true, length, IfOk, IfErr, IfSome, OnOk};
 ghost use Rattle.chart_world.specs.Faults.{CountsFault, fault_in};
-ghost use Rattle.chart_world.specs.Reading.{unread_input};
+ghost use Rattle.chart_world.specs.Reading.{IsReadUp, unread_input};
 ghost use Rattle.series_book.specs.Edits.{id_of};
 ghost use Rattle.run_ends.specs.Faults.{end_fault};
 ghost use Rattle.series_load.specs.Sides.{Goes};
 ghost use Rattle.series_load.specs.Shown as loads;
 ghost use Rattle.series_store.specs.Shown as shown;
 ghost use Rattle.series_load.specs.Steps.{IsSoundFor};
-ghost use Rattle.run_ends.specs.declared.ending.End.TheVariants.{UnknownSeries, NoMemory};
+ghost use Rattle.run_ends.specs.declared.ending.End.TheVariants.{InputTooLong, UnknownSeries, NoMemory};
 
 use crate::loader::Loader;
 use chart_world::Lines;
@@ -46,6 +46,8 @@ pub fn load<P: PageWorld>(alloc: Global, store: &mut Store<P>, name: &Name) -> R
     // what was read and stored, at the end and at each moment
     ensures outcome { loads.ForNamed store.old name.now (λ total book series. loads.LoadsSo P.Streams name.now total book series result store.old store.new) }
     ensures within { OnOk result (IfSome (P.left (shown.pages store.old)) (λ input. length input ≤ 2 ^ 32)) }
+    ensures whole { OnOk result (IsReadUp (P.left (shown.pages store.old)) (P.left (shown.pages store.new))) }
+    ensures long { result ≡ Err InputTooLong → IfSome (P.left (shown.pages store.old)) (λ input. 2 ^ 32 < length input) }
     ensures goes { Goes (loads.side_of P.Streams store.old) (loads.side_of P.Streams store.new) }
     ensures cause { IfErr result (λ e. loads.EndsFor P.Streams e store.old store.new) }
     // no count of faults rises but that of the call that the error tells
@@ -77,6 +79,8 @@ fn load_lines<P: PageWorld>(
     ensures known { result ≢ Err UnknownSeries }
     ensures outcome { loads.ForLoaded store.old loader.old (λ total book series. loads.LoadsSo P.Streams loader.old.name total book series result store.old store.new) }
     ensures within { OnOk result (IfSome (P.left (shown.pages store.old)) (λ input. length input ≤ 2 ^ 32)) }
+    ensures whole { OnOk result (IsReadUp (P.left (shown.pages store.old)) (P.left (shown.pages store.new))) }
+    ensures long { result ≡ Err InputTooLong → IfSome (P.left (shown.pages store.old)) (λ input. 2 ^ 32 < length input) }
     ensures goes { Goes (loads.side_of P.Streams store.old) (loads.side_of P.Streams store.new) }
     ensures cause { IfErr result (λ e. loads.EndsFor P.Streams e store.old store.new) }
     ensures faults { CountsFault (fault_in end_fault result) (shown.view store.old) (shown.view store.new) }

@@ -2,7 +2,7 @@ use Rattle.std.proofs.Common.{◌∙◌, ℕ, List, refl, subst}
 use Rattle.series_load.specs.Ends.{Outcome}
 use Rattle.series_load.proofs.Counting.{no_memory_on}
 use Rattle.series_load.specs.SideLaws.{goes_nowhere}
-use Rattle.series_load.proofs.Knowing.{info_of, none_so, not_named, found_so, no_memory_cause, no_memory_known, no_memory_sound, no_value, some_at_first, unstarted}
+use Rattle.series_load.proofs.Knowing.{info_of, none_so, not_named, found_so, no_memory_cause, no_memory_known, no_memory_short, no_memory_sound, no_value, some_at_first, unstarted}
 use Rattle.series_load.specs.Shown.{side_of}
 use Rattle.series_store.specs.Shown as shown
 use Rattle.series_load.proofs.loading.load.Goals as goal
@@ -36,6 +36,12 @@ returns-in_err-loader-clause-outcome g c = λ total book series told stands name
 pub returns-in_err-loader-clause-within : goal.returns-in_err-loader-clause-within
 returns-in_err-loader-clause-within g c = no_value c.from_residual.result c.in_err-loader.field-0.0 _ c.from_residual.ensures.1
 
+pub returns-in_err-loader-clause-whole : goal.returns-in_err-loader-clause-whole
+returns-in_err-loader-clause-whole g c = no_value c.from_residual.result c.in_err-loader.field-0.0 _ c.from_residual.ensures.1
+
+pub returns-in_err-loader-clause-long : goal.returns-in_err-loader-clause-long
+returns-in_err-loader-clause-long g c = λ is. absurd (no_memory_short c.from_residual.result c.in_err-loader.field-0.0 c.from_residual.ensures.1 c.in_err-loader.ensures.err is)
+
 pub returns-in_err-loader-clause-goes : goal.returns-in_err-loader-clause-goes
 returns-in_err-loader-clause-goes g c = goes_nowhere (side_of g.P.Streams c.args.store.now)
 
@@ -63,6 +69,12 @@ returns-in_err-lines-clause-outcome g c = λ total book series told stands named
 
 pub returns-in_err-lines-clause-within : goal.returns-in_err-lines-clause-within
 returns-in_err-lines-clause-within g c = no_value c.from_residual-in_err-lines.result c.in_err-lines.field-0.0 _ c.from_residual-in_err-lines.ensures.1
+
+pub returns-in_err-lines-clause-whole : goal.returns-in_err-lines-clause-whole
+returns-in_err-lines-clause-whole g c = no_value c.from_residual-in_err-lines.result c.in_err-lines.field-0.0 _ c.from_residual-in_err-lines.ensures.1
+
+pub returns-in_err-lines-clause-long : goal.returns-in_err-lines-clause-long
+returns-in_err-lines-clause-long g c = λ is. absurd (no_memory_short c.from_residual-in_err-lines.result c.in_err-lines.field-0.0 c.from_residual-in_err-lines.ensures.1 c.in_err-lines.ensures.err is)
 
 pub returns-in_err-lines-clause-goes : goal.returns-in_err-lines-clause-goes
 returns-in_err-lines-clause-goes g c = goes_nowhere (side_of g.P.Streams c.args.store.now)
@@ -114,6 +126,12 @@ returns-clause-outcome g c = λ total book series told stands named.
 
 pub returns-clause-within : goal.returns-clause-within
 returns-clause-within g c = c.load_lines.ensures.within
+
+pub returns-clause-whole : goal.returns-clause-whole
+returns-clause-whole g c = c.load_lines.ensures.whole
+
+pub returns-clause-long : goal.returns-clause-long
+returns-clause-long g c = c.load_lines.ensures.long
 
 pub returns-clause-goes : goal.returns-clause-goes
 returns-clause-goes g c = c.load_lines.ensures.goes

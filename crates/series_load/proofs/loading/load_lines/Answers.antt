@@ -1,8 +1,12 @@
-use Rattle.std.proofs.Common.{refl, subst, sym, arith}
+use Rattle.std.proofs.Common.{◌≢◌, ◌∙◌, Err, refl, subst, sym, arith}
 use Rattle.block_disk.specs.View.{sent_now}
+use Rattle.line_runs.specs.EndLaws.{input_long}
 use Rattle.series_load.specs.Ends.{Stopped}
+use Rattle.series_load.specs.Shown.{EndsFor}
 use Rattle.run_ends.specs.declared.ending.End.{End}
+use Rattle.run_ends.specs.declared.ending.End.TheVariants.{InputTooLong, UnknownSeries}
 use Rattle.series_store.specs.Shown as shown
+use Rattle.series_load.proofs.Knowing.{err_is}
 use Rattle.series_load.proofs.Reached.{finished_so, start, start_stands, stopped_so}
 use Rattle.series_load.proofs.SetLemmas.{edits_none}
 use Rattle.series_load.proofs.loading.load_lines.Goals as goal
@@ -44,3 +48,9 @@ returns-in-Err-clause-outcome g c = λ total book series told stands step scale.
     (g.P.Streams.pieces (shown.pages new)) at (shown.view new)
     c.in-Err.stop refl refl
     (c.in-Err.ensures.stops begin is) (c.run_lines.ensures.crash begin is tt))
+
+pub returns-in-Err-clause-long : goal.returns-in-Err-clause-long
+returns-in-Err-clause-long g c = λ is.
+    let stop = c.in-Err.stop in
+    input_long {T = Unit {0}} (λ end s s'. EndsFor g.P.Streams end s s' × (end ≢ UnknownSeries) × (end ≢ InputTooLong)) c.args.store.now c.run_lines.new.from
+    (Err stop) (λ never. never.2 refl) c.in-Err.ensures.long c.in-Err.ensures.cause (sym c.stop_end.ensures ∙ err_is is)
