@@ -1,11 +1,14 @@
 //! What follows from the definitions. The functions do nothing: their contracts are the laws.
-ghost use Rattle.std.specs.Prelude.{◌≡◌, ℕ, ℤ, ◌+◌, ◌-◌, ◌<◌, ◌≤◌, ◌<ℤ◌, ◌↔◌, List, None, Some, length};
+ghost use Rattle.std.specs.Prelude.{◌≡◌, ℕ, ℤ, ◌+◌, ◌-◌, ◌<◌, ◌≤◌, ◌<ℤ◌, ◌↔◌, List, [], ◌∷◌, None, Some, length};
 ghost use Rattle.series_book.specs.declared.one_series.Series.{Series};
 ghost use Rattle.series_book.specs.Books.{IsBook};
+ghost use Rattle.series_book.specs.EditLists.{book_behind};
+ghost use Rattle.series_book.specs.Edits.{apply};
+ghost use Rattle.series_book.specs.Pages.{pages_of};
 ghost use Rattle.retention.specs.declared.rule.Rule.{Rule};
 ghost use Rattle.retention.specs.declared.rule.Rule.TheVariants.{Before, Last, Free};
 ghost use Rattle.retention.specs.Drops.{AreAccepted, ForNamed, HasFree, HoldsNothing, IsOldest, LosesIn, book_swept};
-ghost use Rattle.retention.specs.Sweeps.{Found, oldest, slot_time, slots_before, sweeps};
+ghost use Rattle.retention.specs.Sweeps.{Found, clear_page, oldest, slot_time, slots_before, sweeps};
 
 /// Each clear of a rule is accepted, one after the other, and leaves a book.
 pub fn clears_are_accepted()
@@ -36,4 +39,13 @@ pub fn pages_are_freed()
 pub fn the_oldest_slot()
     ensures some { (book : List Series) (found : Found) → oldest book ≡ Some found → IsOldest book found }
     ensures none { (book : List Series) → oldest book ≡ None → HoldsNothing book }
+{}
+
+/// The clears that free pages, from the first on: none where so many are free or nothing is stored, and else that of the
+/// range of the oldest slot, with those that the book behind it makes.
+pub fn free_goes_on()
+    ensures enough { (total pages : ℕ) (book : List Series) → pages ≤ total - pages_of book → sweeps total book (Free pages) ≡ [] }
+    ensures nothing { (total pages : ℕ) (book : List Series) → oldest book ≡ None → sweeps total book (Free pages) ≡ [] }
+    ensures next { (total pages : ℕ) (book : List Series) (found : Found) → IsBook book → total - pages_of book < pages → oldest book ≡ Some found
+        → sweeps total book (Free pages) ≡ clear_page found ∷ sweeps total (book_behind book (apply book total (clear_page found))) (Free pages) }
 {}
