@@ -1,5 +1,5 @@
 -- A copy of a series holds the same.
-use Rattle.std.proofs.Common.{◌≡◌, ℕ, zero, suc, List, [], ◌∷◌, Option, None, Some, IfSome, sym, subst}
+use Rattle.std.proofs.Common.{◌≡◌, ℕ, ◌<◌, ◌^◌, zero, suc, length, List, [], ◌∷◌, Option, None, Some, IfSome, sym, subst}
 use Rattle.std.specs.Prelude.{All, slice_get}
 use Rattle.std.proofs.lemmas.List.Elements.{All-head, All-tail}
 use Rattle.block_disk.specs.Streams.{sent_after}
@@ -102,7 +102,7 @@ module _ (law : (total : ℕ) (name : List ℕ) (book : List Series) (series beg
     ends_fitting (BadInput place) came =
         let bad = of_text (λ input. LoadsToBad copy (page_count old.size) old new input place) came.0 has.total has.book has.holds has.room.new.begun has.room.new.named in
         absurd (fits.good place (pages_of (page_count old.size) new.image) bad.on.so)
-    ends_fitting InputTooLong came = (given t.left bytes (λ input. LoadsWithin copy (page_count old.size) old new input) told came.0 has.total has.book has.holds has.room.new.begun has.room.new.named).on.so.past
+    ends_fitting InputTooLong came = given t.left bytes (λ input. 2 ^ 32 < length input) told came.0
     ends_fitting (TooSmall blocks) came = absurd (small_never old has.total has.book has.holds came.0.1)
     ends_fitting UnknownSeries came = absurd (came.0 has.total has.book has.holds has.room.new.begun has.room.new.named)
     ends_fitting (Refused place number) came =

@@ -36,6 +36,7 @@ undemonstrated seed rounds old new left left' before now sends sends_now cause e
     subst P (sym same) (record {
       is = by cause (unopened_end old new left left' before now cause u);
       crash = opened_leaves (workload seed rounds) old new u.opens;
+      honest = u.opens.honest;
       goes_on = opened_goes old new u.opens;
     })
   where
@@ -65,4 +66,4 @@ pub stopped_ends : (seed rounds : ℕ) (old new : View) (before now : Option (Li
     → DemoEnds seed rounds old new before now sends sends_now end
 stopped_ends seed rounds old new before now sends sends_now why end is a same =
     let P : End → Type 0 = λ e. DemoEnds seed rounds old new before now sends sends_now e in
-    subst P (sym is) (record { is = stopped seed rounds old new before now sends sends_now why a same; crash = a.crash; goes_on = a.goes_on })
+    subst P (sym is) (record { is = stopped seed rounds old new before now sends sends_now why a same; crash = a.crash; honest = a.honest; goes_on = a.goes_on })

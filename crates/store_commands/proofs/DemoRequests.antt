@@ -68,6 +68,7 @@ answered_none requests count at = record {
   quiet = λ total book holds. refl;
   beside = refl;
   faults = omega arith;
+  honest = λ h. h;
   goes_on = goes_none at;
 }
 
@@ -161,6 +162,7 @@ module _ (requests : List Request) (count count' : ℕ) (sound sound' : Bool) (o
     quiet = quiet_by passes;
     beside = beside;
     faults = faults;
+    honest = told;
     goes_on = goes;
   }
   answered_alone (Err end) done standing passes left cause numbered closed = record {
@@ -173,6 +175,7 @@ module _ (requests : List Request) (count count' : ℕ) (sound sound' : Bool) (o
     quiet = quiet_by passes;
     beside = beside;
     faults = faults;
+    honest = told;
     goes_on = goes;
   }
 
@@ -210,6 +213,7 @@ answered_on requests old mid new (Ok summary) opens quiet a = record {
   quiet = λ total book holds. a.quiet total book (held old mid opens total book holds) ∙ opened_quiet old mid opens;
   beside = a.beside ∙ opens.beside_is;
   faults = omega (arith, opens.faults, a.faults);
+  honest = λ h. a.honest (opens.honest h);
   goes_on = goes_then old mid new (opened_goes old mid opens) a.goes_on;
 }
 answered_on requests old mid new (Err end) opens quiet a = record {
@@ -222,6 +226,7 @@ answered_on requests old mid new (Err end) opens quiet a = record {
   quiet = λ total book holds. a.quiet total book (held old mid opens total book holds) ∙ opened_quiet old mid opens;
   beside = a.beside ∙ opens.beside_is;
   faults = omega (arith, opens.faults, a.faults);
+  honest = λ h. a.honest (opens.honest h);
   goes_on = goes_then old mid new (opened_goes old mid opens) a.goes_on;
 }
 

@@ -2,7 +2,7 @@
 use Rattle.std.proofs.Common.{◌≡◌, ℕ, ◌≤◌, List, [], Option, Ok, sym, subst}
 use Rattle.std.proofs.lemmas.List.{append-nil}
 use Rattle.block_disk.specs.View.{View, Now, DiskKept, Passes, sent_now}
-use Rattle.gate_pages.specs.GateLaws.{goes_by, goes_then}
+use Rattle.gate_pages.specs.GateLaws.{goes_by, goes_then, kept_told}
 use Rattle.gate_pages.specs.Journal.{page_count}
 use Rattle.request_lines.specs.declared.requests.Request.{Request}
 use Rattle.chart_service.specs.State.{State}
@@ -73,5 +73,6 @@ sent_ends seed rounds old mid new before between now sends sends_mid sends_now e
     record {
       is = summary_sent seed rounds old mid new summary a t.kept t.time before now sends sends_now end t.is;
       crash = all_leave (workload seed rounds) (page_count old.size) old mid new summary a t.kept t.time;
+      honest = λ h. kept_told mid new t.kept (a.honest h);
       goes_on = goes_then old mid new a.goes_on (goes_by mid new (Now mid) (λ sent. (sent_now mid ≤ sent) × (sent ≤ sent_now new)) t.time);
     }

@@ -70,6 +70,7 @@ unexported name window old new left left' before now sends sends_now cause end u
       crash = opened_since old new u.opens;
       holds = held old new u.opens;
       reads = λ total book holds series named. omega (arith, u.opens.reads.high);
+      honest = u.opens.honest;
       goes_on = opened_goes old new u.opens;
     })
   where
@@ -139,6 +140,7 @@ module _ (name : List ℕ) (window : Option Window) (count count' : ℕ) (sound 
     crash = sent_since;
     holds = λ total book holds. holds_same count count' total book old new rests kept.size kept.told kept.image closed holds;
     reads = of_id (λ book series. new.reads ≤ old.reads + series_pages series.slots) reads;
+    honest = kept.told;
     goes_on = kept.goes_on;
   }
 
@@ -189,6 +191,7 @@ none_found name window count old before sends rests none =
       crash = λ total book holds. since_none old (λ image sent. RecoversTo count image total book) holds.images;
       holds = λ total book holds. holds;
       reads = λ total book holds series named. omega arith;
+      honest = λ h. h;
       goes_on = goes_none old;
     }
 
@@ -232,6 +235,7 @@ ends_opened name window count old mid new before mid_before now sends mid_sends 
       crash = since_both old mid new mid_before now mid_sends sends_now opens pages_are e.crash e.goes_on;
       holds = λ total book holds. e.holds total book (hold total book holds);
       reads = λ total book holds series named. omega (arith, opens.reads.high, e.reads total book (hold total book holds) series named);
+      honest = λ h. e.honest (opens.honest h);
       goes_on = goes_then old mid new (opened_goes old mid opens) e.goes_on;
     } in
     subst S same_sends (subst B same all)

@@ -3,7 +3,7 @@ use Rattle.std.proofs.Common.{◌≡◌, ℕ, ℤ, zero, suc, ◌+◌, ◌<◌, 
 use Rattle.std.specs.Prelude.{take, slice_get}
 use Rattle.std.proofs.lemmas.List.{append_assoc, append-nil, take_all}
 use Rattle.block_disk.specs.View.{View, Now, sent_now}
-use Rattle.gate_pages.specs.GateLaws.{goes_by, goes_then}
+use Rattle.gate_pages.specs.GateLaws.{goes_by, goes_then, kept_told}
 use Rattle.gate_pages.specs.Journal.{page_count}
 use Rattle.reading_lines.specs.Lines.{series_line}
 use Rattle.run_ends.specs.declared.ending.End.{End}
@@ -35,6 +35,7 @@ unlisted old new left left' before now sends sends_now cause end u same = record
   crash = opened_since old new u.opens;
   holds = held old new u.opens;
   reads = u.opens.reads.high;
+  honest = u.opens.honest;
   goes_on = opened_goes old new u.opens;
 }
   where
@@ -74,6 +75,7 @@ listed old mid new before mid_before now sends mid_sends sends_now end text open
       holds = λ total book holds.
           holds_sent (page_count old.size) total book mid new (λ count. (sent_now mid ≤ count) × (count ≤ sent_now new)) sent.kept sent.time (held old mid opens total book holds);
       reads = omega (arith, opens.reads.high, sent.kept.reads);
+      honest = λ h. kept_told mid new sent.kept (opens.honest h);
       goes_on = goes_then old mid new (opened_goes old mid opens) (goes_by mid new (Now mid) (λ count. (sent_now mid ≤ count) × (count ≤ sent_now new)) sent.time);
     } in
     subst S same_sends (subst B same all)

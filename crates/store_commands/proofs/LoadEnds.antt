@@ -30,7 +30,7 @@ use Rattle.run_ends.specs.declared.ending.End.TheVariants.{Done, NoMemory, ReadF
 use Rattle.store_commands.specs.Books.{OfBook, IsOn, IsOnBook, HoldsPages, SendsPartOf}
 use Rattle.store_commands.specs.Status.{opening_end}
 use Rattle.store_commands.specs.Sending.{IsSent, SendsText}
-use Rattle.store_commands.specs.Traffic.{Traffic}
+use Rattle.store_commands.specs.Traffic.{Traffic, WasRead}
 use Rattle.store_commands.specs.Unopened.{IsUnopenedEnd}
 use Rattle.store_commands.proofs.Held.{held}
 use Rattle.store_commands.proofs.LoadStored.{answered, err_same, failed}
@@ -86,6 +86,7 @@ module _ (name : List ℕ) (old mid new : View) (opens : Opens (page_count old.s
   stores_opened t (Ok readings) s = record {
     done = told_so _ _ t.left (λ input all. of_series (λ total book series. HoldsPages (page_count old.size) total (IsLoaded total name book series input readings) new) all) s.done;
     within = s.within;
+    long = s.long;
     some = λ other. of_series (λ total book series. HoldsPages (page_count old.size) total (IsAfterSome total name book series t.left) new) (s.some other);
     stops = tt;
     cause = tt;
@@ -97,11 +98,13 @@ module _ (name : List ℕ) (old mid new : View) (opens : Opens (page_count old.s
     sent_is = s.sent_is;
     sends_is = s.sends_is;
     faults = omega (arith, opens.faults, s.faults);
+    honest = λ h. s.honest (opens.honest h);
     goes_on = goes_then old mid new (opened_goes old mid opens) s.goes_on;
   }
   stores_opened t (Err end) s = record {
     done = tt;
     within = tt;
+    long = s.long;
     some = λ other. of_series (λ total book series. HoldsPages (page_count old.size) total (IsAfterSome total name book series t.left) new) (s.some other);
     stops = told_so _ _ t.left (λ input is. stops_on input t.left_now end is) s.stops;
     cause = cause_on end t.reads t.reads_now s.cause;
@@ -113,6 +116,7 @@ module _ (name : List ℕ) (old mid new : View) (opens : Opens (page_count old.s
     sent_is = s.sent_is;
     sends_is = s.sends_is;
     faults = omega (arith, opens.faults, s.faults);
+    honest = λ h. s.honest (opens.honest h);
     goes_on = goes_then old mid new (opened_goes old mid opens) s.goes_on;
   }
 
@@ -184,6 +188,7 @@ unloaded name old new t cause end u same =
       unnamed = λ total book holds none. outside_ends cause (u.outside total book holds);
       crash = opened_ahead name old new t.left u.opens;
       kept = λ total book holds none. opened_since old new u.opens total book holds;
+      honest = u.opens.honest;
       goes_on = opened_goes old new u.opens;
     })
   where
@@ -200,7 +205,7 @@ stopped name old new t ReadFault s = (s.cause, s.stops, s.sent_is)
 stopped name old new t DiskFault s = (s.cause, s.sent_is)
 stopped name old new t (DamagedPage page) s = (s.cause.1, s.cause.0, s.sent_is)
 stopped name old new t (BadInput at) s = (s.stops, s.sent_is)
-stopped name old new t InputTooLong s = (s.stops, s.sent_is)
+stopped name old new t InputTooLong s = (s.long refl, s.stops, s.sent_is)
 stopped name old new t UnknownSeries s =
     let stays = s.untouched refl in (
       (λ total book holds series named. s.named total book holds series named refl),
@@ -218,6 +223,7 @@ stopped_ends name old new t end s = record {
   unnamed = λ total book holds none. (2, omega arith, sym (err_same end UnknownSeries (s.unnamed total book holds none)));
   crash = ahead_by name (page_count old.size) old new t.left s.moments;
   kept = λ total book holds none. ((s.untouched (s.unnamed total book holds none)).0 total book holds).1;
+  honest = s.honest;
   goes_on = s.goes_on;
 }
 
@@ -280,30 +286,33 @@ module _ (name : List ℕ) (old mid new : View) (t : Traffic) (readings : ℕ) (
   still_loaded Q is = told_so _ _ t.left (λ input all total book holds series named.
       (readings, pages_kept (page_count old.size) total (IsLoaded total name book series input readings) mid new kept time (all total book holds series named), is)) s.done
 
-  text_sent : (left' now : Option (List ℕ)) (reads_now sends_now : ℕ) (end : End) → IsSent end (loaded_text readings) t.sent now t.sends sends_now → IsLoadEnd end name old new (further t left' now reads_now sends_now)
-  text_sent left' now reads_now sends_now Done is = (s.within, still_loaded (λ n. now ≡ sent_after (loaded_text n) t.sent) is)
-  text_sent left' now reads_now sends_now NoMemory is = (
+  text_sent : (left' now : Option (List ℕ)) (reads_now sends_now : ℕ) (end : End) → left' ≡ t.left_now → IsSent end (loaded_text readings) t.sent now t.sends sends_now → IsLoadEnd end name old new (further t left' now reads_now sends_now)
+  text_sent left' now reads_now sends_now Done same is =
+      let R : Option (List ℕ) → Type 0 = λ l. WasRead t.left l in
+      (subst R (sym same) s.within, still_loaded (λ n. now ≡ sent_after (loaded_text n) t.sent) is)
+  text_sent left' now reads_now sends_now NoMemory same is = (
     some_told name (page_count old.size) old new t.left (λ total book holds series named.
         pages_kept (page_count old.size) total (IsAfterSome total name book series t.left) mid new kept time (s.some (λ same. cc) total book holds series named)),
     is,
   )
-  text_sent left' now reads_now sends_now SendFault is = (is.0, still_loaded (λ n. SendsPartOf (loaded_text n) t.sent now) is.1)
-  text_sent left' now reads_now sends_now end is = absurd is
+  text_sent left' now reads_now sends_now SendFault same is = (is.0, still_loaded (λ n. SendsPartOf (loaded_text n) t.sent now) is.1)
+  text_sent left' now reads_now sends_now end same is = absurd is
 
 never_unknown : (readings : ℕ) → answered readings ≡ failed UnknownSeries → ⊥
 never_unknown readings same = cc
 
-pub sent_ends : (name : List ℕ) (old mid new : View) (t : Traffic) (left' now : Option (List ℕ)) (reads_now sends_now readings : ℕ) (end : End) → Stores name (page_count old.size) old mid t (Ok readings)
+pub sent_ends : (name : List ℕ) (old mid new : View) (t : Traffic) (left' now : Option (List ℕ)) (reads_now sends_now readings : ℕ) (end : End) → left' ≡ t.left_now → Stores name (page_count old.size) old mid t (Ok readings)
     → SendsText (loaded_text readings) mid new t.sent_now now t.sends_now sends_now end → LoadEnds name old new (further t left' now reads_now sends_now) end
-sent_ends name old mid new t left' now reads_now sends_now readings end s text =
+sent_ends name old mid new t left' now reads_now sends_now readings end same s text =
     let B : Option (List ℕ) → Type 0 = λ b. SendsText (loaded_text readings) mid new b now t.sends_now sends_now end in
     let C : ℕ → Type 0 = λ n. SendsText (loaded_text readings) mid new t.sent now n sends_now end in
     let x = subst C s.sends_is (subst B s.sent_is text) in
     record {
-      is = text_sent name old mid new t readings s x.kept x.time left' now reads_now sends_now end x.is;
+      is = text_sent name old mid new t readings s x.kept x.time left' now reads_now sends_now end same x.is;
       unnamed = λ total book holds none. absurd (never_unknown readings (s.unnamed total book holds none));
       crash = sent_ahead name (page_count old.size) old mid new t.left readings x.time s.quiet s.moments (s.some (λ same. cc)) s.done;
       kept = λ total book holds none. absurd (never_unknown readings (s.unnamed total book holds none));
+      honest = λ h. kept_told mid new x.kept (s.honest h);
       goes_on = goes_then old mid new s.goes_on (goes_by mid new (Now mid) (λ sent. (sent_now mid ≤ sent) × (sent ≤ sent_now new)) x.time);
     }
 

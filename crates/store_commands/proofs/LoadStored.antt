@@ -29,7 +29,7 @@ use Rattle.store_commands.proofs.Held.{RestsNew, stands_held, within_held, holds
 use Rattle.store_commands.proofs.Moments.{since_worked, on_book}
 use Rattle.store_commands.specs.Loaded.{OfSeries, RefusesRun, Unnamed}
 use Rattle.store_commands.specs.Storing.{StopsAt, IsEndCause, Stores}
-use Rattle.store_commands.specs.Traffic.{Traffic}
+use Rattle.store_commands.specs.Traffic.{IsLong, Traffic, WasRead}
 
 -- ---- a name is a series' or none's
 
@@ -196,11 +196,12 @@ module _ (name : List ℕ) (count count' : ℕ) (sound sound' : Bool) (old new :
         so.1,
       )
 
-  pub stores_by : (answer : Result ℕ End) (total_now : ℕ) → Comes answer → Finds answer → OnOk answer (IfSome t.left (λ input. length input ≤ 2 ^ 32)) → total_now ≤ count' → IfErr answer (λ e. IsLoadCause e (Honest new) total_now (pages_view count sound old) (pages_view count' sound' new) t.reads t.reads_now)
+  pub stores_by : (answer : Result ℕ End) (total_now : ℕ) → Comes answer → Finds answer → OnOk answer (WasRead t.left t.left_now) → (answer ≡ Err InputTooLong → IsLong t.left) → total_now ≤ count' → IfErr answer (λ e. IsLoadCause e (Honest new) total_now (pages_view count sound old) (pages_view count' sound' new) t.reads t.reads_now)
       → (answer ≢ Err DiskFault → IsClosed new) → (answer ≡ Err UnknownSeries → (new ≡ old) × (t.left_now ≡ t.left)) → t.sent_now ≡ t.sent → t.sends_now ≡ t.sends → old.faults ≤ new.faults → Stores name count old new t answer
-  stores_by (Ok readings) total_now comes finds within few cause closed stays sent_is sends_is faults = record {
+  stores_by (Ok readings) total_now comes finds within long few cause closed stays sent_is sends_is faults = record {
     done = done_by t.left readings (λ total book series honest stands named. (comes total book series honest stands named).done) (closed (λ is. cc));
     within = within;
+    long = long;
     some = λ other. some_by (Ok readings) comes other (closed other);
     stops = tt;
     cause = tt;
@@ -212,11 +213,13 @@ module _ (name : List ℕ) (count count' : ℕ) (sound sound' : Bool) (old new :
     sent_is = sent_is;
     sends_is = sends_is;
     faults = faults;
+    honest = told;
     goes_on = goes;
   }
-  stores_by (Err e) total_now comes finds within few cause closed stays sent_is sends_is faults = record {
+  stores_by (Err e) total_now comes finds within long few cause closed stays sent_is sends_is faults = record {
     done = tt;
     within = tt;
+    long = long;
     some = λ other. some_by (Err e) comes other (closed other);
     stops = stops_by t.left e (λ total book series honest stands named. (comes total book series honest stands named).ends) (λ other. closed (λ is. other (err_same e DiskFault is)));
     cause = cause_by e total_now t.reads t.reads_now few cause comes finds;
@@ -228,6 +231,7 @@ module _ (name : List ℕ) (count count' : ℕ) (sound sound' : Bool) (old new :
     sent_is = sent_is;
     sends_is = sends_is;
     faults = faults;
+    honest = told;
     goes_on = goes;
   }
 

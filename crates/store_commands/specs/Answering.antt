@@ -1,7 +1,7 @@
 -- What a demo does over an opened store: the answers to its requests. Private contracts are stated by these words.
 use Rattle.std.specs.Prelude.{ℕ, ◌≡◌, ◌≢◌, ◌^◌, ◌<◌, ◌≤◌, List, Result, IfOk, IfErr, ⊤}
 use Rattle.block_disk.specs.Counts.{HasRisen}
-use Rattle.block_disk.specs.View.{View, sent_now}
+use Rattle.block_disk.specs.View.{Honest, View, sent_now}
 use Rattle.chart_client.specs.declared.errors.ClientError.TheVariants as client
 use Rattle.chart_frames.specs.Frames.{key_number}
 use Rattle.gate_pages.specs.Pages.{GoesOn}
@@ -54,4 +54,6 @@ pub record Answered (requests : List Request) (count : ℕ) (old new : View) (an
   pub quiet : OfBook count old (λ total book. sent_now new ≡ sent_now old)
   pub beside : new.beside ≡ old.beside
   pub faults : old.faults ≤ new.faults
+  -- reads give what a crash may leave, where they did
+  pub honest : Honest old → Honest new
   pub goes_on : GoesOn old new

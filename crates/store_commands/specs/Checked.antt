@@ -67,4 +67,6 @@ pub record CheckEnds (old new : View) (before now : Option (List ℕ)) (sends se
   pub is : IsCheckEnd end old new before now sends sends_now
   pub crash : LeavesSame (page_count old.size) old new
   pub holds : OfBook (page_count old.size) old (λ total book. HoldsBook (page_count old.size) total book new)
+  -- reads give what a crash may leave, where they did
+  pub honest : Honest old → Honest new
   pub goes_on : GoesOn old new

@@ -1,7 +1,7 @@
 -- What the parts of a check do.
 use Rattle.std.specs.Prelude.{ℕ, ◌≡◌, List, Option}
 use Rattle.block_disk.specs.Counts.{HasRisen}
-use Rattle.block_disk.specs.View.{View}
+use Rattle.block_disk.specs.View.{Honest, View}
 use Rattle.gate_pages.specs.Pages.{GoesOn}
 use Rattle.run_ends.specs.Statuses.{block_of}
 use Rattle.run_ends.specs.declared.ending.End.{End}
@@ -37,6 +37,8 @@ pub record ChecksStore (count : ℕ) (old new : View) (before now : Option (List
   pub is : EndsCheck end count old new before now sends sends_now
   pub crash : LeavesSame count old new
   pub holds : OfBook count old (λ total book. HoldsBook count total book new)
+  -- reads give what a crash may leave, where they did
+  pub honest : Honest old → Honest new
   pub goes_on : GoesOn old new
 
 -- the same by what passed through the streams

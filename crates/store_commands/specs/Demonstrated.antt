@@ -2,7 +2,7 @@
 use Rattle.std.specs.Prelude.{◌≡◌, ℕ, ◌<◌, ◌≤◌, List, ◌++◌, Option}
 use Rattle.block_disk.specs.Counts.{HasRisen}
 use Rattle.block_disk.specs.Streams.{sent_after}
-use Rattle.block_disk.specs.View.{Image, View, sent_now}
+use Rattle.block_disk.specs.View.{Honest, Image, View, sent_now}
 use Rattle.chart_client.specs.declared.errors.ClientError.TheVariants as client
 use Rattle.chart_frames.specs.declared.frame.Frame.{Frame}
 use Rattle.chart_frames.specs.Frames.{key_number}
@@ -79,4 +79,6 @@ IsDemoEnd end seed rounds old new before now sends sends_now = IsUnopenedEnd end
 pub record DemoEnds (seed rounds : ℕ) (old new : View) (before now : Option (List ℕ)) (sends sends_now : ℕ) (end : End) : Type 0 where
   pub is : IsDemoEnd end seed rounds old new before now sends sends_now
   pub crash : LeavesDemo (workload seed rounds) (page_count old.size) old new
+  -- reads give what a crash may leave, where they did
+  pub honest : Honest old → Honest new
   pub goes_on : GoesOn old new

@@ -2,7 +2,7 @@
 use Rattle.std.specs.Prelude.{◌≡◌, ℕ, ◌+◌, ◌<◌, ◌≤◌, ◌⊎◌, List, Contains, Option, ⊤}
 use Rattle.block_disk.specs.Counts.{HasRisen}
 use Rattle.block_disk.specs.Streams.{sent_after}
-use Rattle.block_disk.specs.View.{Image, View}
+use Rattle.block_disk.specs.View.{Honest, Image, View}
 use Rattle.gate_pages.specs.Journal.{page_count}
 use Rattle.gate_pages.specs.Pages.{GoesOn}
 use Rattle.series_book.specs.Pages.{series_pages}
@@ -59,4 +59,6 @@ pub record ExportEnds (name : List ℕ) (window : Option Window) (old new : View
   pub crash : LeavesSame (page_count old.size) old new
   pub holds : OfBook (page_count old.size) old (λ total book. HoldsBook (page_count old.size) total book new)
   pub reads : ReadsSeries name (page_count old.size) old new
+  -- reads give what a crash may leave, where they did
+  pub honest : Honest old → Honest new
   pub goes_on : GoesOn old new

@@ -1,7 +1,7 @@
 -- What the parts of an export do.
 use Rattle.std.specs.Prelude.{ℕ, ◌≡◌, ◌+◌, ◌≤◌, List, Option, Result, Ok, Err, ⊤}
 use Rattle.block_disk.specs.Counts.{HasRisen}
-use Rattle.block_disk.specs.View.{View}
+use Rattle.block_disk.specs.View.{Honest, View}
 use Rattle.block_disk.specs.declared.disk.Disk.{Ghosts}
 use Rattle.gate_pages.specs.Pages.{GoesOn}
 use Rattle.gate_pages.specs.Shown as gate
@@ -47,6 +47,8 @@ pub record ExportsStore (name : List ℕ) (window : Option Window) (count : ℕ)
   pub crash : LeavesSame count old new
   pub holds : OfBook count old (λ total book. HoldsBook count total book new)
   pub reads : OfSeries count old name (λ total book series. new.reads ≤ old.reads + series_pages series.slots)
+  -- reads give what a crash may leave, where they did
+  pub honest : Honest old → Honest new
   pub goes_on : GoesOn old new
 
 -- the same over the pages of an open store on a world, by what passed through the streams

@@ -1,6 +1,7 @@
 pub mod Status
 pub mod Books
 pub mod Traffic
+pub mod TrafficLaws
 pub mod Away
 pub mod InputLines
 pub mod Sides

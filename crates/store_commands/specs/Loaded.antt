@@ -3,7 +3,7 @@ use Rattle.std.specs.Prelude.{◌≡◌, ℕ, ◌<◌, ◌≤◌, ◌^◌, List,
 use Rattle.std.specs.Fmt.{decimal}
 use Rattle.block_disk.specs.Counts.{HasRisen}
 use Rattle.block_disk.specs.Streams.{sent_after}
-use Rattle.block_disk.specs.View.{Image, View, sent_now}
+use Rattle.block_disk.specs.View.{Honest, Image, View, sent_now}
 use Rattle.gate_pages.specs.GatePages.{IsReadable}
 use Rattle.gate_pages.specs.Journal.{page_count}
 use Rattle.gate_pages.specs.Pages.{GoesOn}
@@ -22,7 +22,7 @@ use Rattle.run_ends.specs.Statuses.{block_of, refused_at}
 use Rattle.run_ends.specs.declared.ending.End.{End}
 use Rattle.run_ends.specs.declared.ending.End.TheVariants.{Done, NoMemory, ReadFault, SendFault, DiskFault, DamagedPage}
 use Rattle.run_ends.specs.declared.ending.End.TheVariants.{BadInput, InputTooLong, UnknownSeries, Refused}
-use Rattle.store_commands.specs.Traffic.{Traffic}
+use Rattle.store_commands.specs.Traffic.{IsLong, Traffic, WasRead}
 use Rattle.store_commands.specs.Damaged.{IsDamagedLater}
 use Rattle.store_commands.specs.Unopened.{IsUnopenedEnd}
 use Rattle.store_commands.specs.Books.{OfBook, Never, LeavesSame, SendsPartOf, HoldsPages}
@@ -111,7 +111,7 @@ LeavesUnnamed name count old new = Unnamed count old name (λ total book. Since 
 -- why a load ended, and what was done and sent
 abbrev pub IsLoadEnd : End → List ℕ → View → View → Traffic → Type 0
 IsLoadEnd Done name old new t =
-    IfSome t.left (λ input. length input ≤ 2 ^ 32) × IfSome t.left (λ input. LoadsAll name (page_count old.size) old new input t.sent t.sent_now)
+    WasRead t.left t.left_now × IfSome t.left (λ input. LoadsAll name (page_count old.size) old new input t.sent t.sent_now)
 IsLoadEnd NoMemory name old new t = IfSome t.left (λ input. LoadsSome name (page_count old.size) old new input) × (t.sent_now ≡ t.sent)
 IsLoadEnd ReadFault name old new t =
     HasRisen t.reads t.reads_now × IfSome t.left (λ input. IfSome t.left_now (LoadsTaken name (page_count old.size) old new input)) × (t.sent_now ≡ t.sent)
@@ -121,7 +121,8 @@ IsLoadEnd DiskFault name old new t = HasRisen old.faults new.faults × (t.sent_n
 IsLoadEnd (DamagedPage page) name old new t =
     IsDamagedLater IsBadForEdit (page_count old.size) new (block_of page) × Never (page_count old.size) old × (t.sent_now ≡ t.sent)
 IsLoadEnd (BadInput at) name old new t = IfSome t.left (λ input. LoadsToBad name (page_count old.size) old new input at) × (t.sent_now ≡ t.sent)
-IsLoadEnd InputTooLong name old new t = IfSome t.left (λ input. LoadsWithin name (page_count old.size) old new input) × (t.sent_now ≡ t.sent)
+IsLoadEnd InputTooLong name old new t =
+    IsLong t.left × IfSome t.left (λ input. LoadsWithin name (page_count old.size) old new input) × (t.sent_now ≡ t.sent)
 IsLoadEnd UnknownSeries name old new t =
     HasNone (page_count old.size) old name × OfBook (page_count old.size) old (λ total book. HoldsBook (page_count old.size) total book new)
     × LeavesSame (page_count old.size) old new × (t.left_now ≡ t.left) × (t.sent_now ≡ t.sent)
@@ -135,4 +136,6 @@ pub record LoadEnds (name : List ℕ) (old new : View) (t : Traffic) (end : End)
   pub unnamed : Unnamed (page_count old.size) old name (λ total book. Contains unnamed_ends end)
   pub crash : IfSome t.left (λ input. LeavesLoads name (page_count old.size) input old new)
   pub kept : LeavesUnnamed name (page_count old.size) old new
+  -- reads give what a crash may leave, where they did
+  pub honest : Honest old → Honest new
   pub goes_on : GoesOn old new

@@ -1,7 +1,7 @@
 -- What a load stores. Private contracts are stated by these words.
-use Rattle.std.specs.Prelude.{◌≡◌, ◌≢◌, ℕ, ◌≤◌, ◌^◌, List, length, Option, Result, Err, IfOk, IfErr, IfSome, ⊤}
+use Rattle.std.specs.Prelude.{◌≡◌, ◌≢◌, ℕ, ◌≤◌, List, Option, Result, Err, IfOk, IfErr, IfSome, ⊤}
 use Rattle.block_disk.specs.Counts.{HasRisen}
-use Rattle.block_disk.specs.View.{View, sent_now}
+use Rattle.block_disk.specs.View.{Honest, View, sent_now}
 use Rattle.block_disk.specs.declared.disk.Disk.{Ghosts}
 use Rattle.gate_pages.specs.Pages.{GoesOn}
 use Rattle.gate_pages.specs.Shown as gate
@@ -15,7 +15,7 @@ use Rattle.disk_store.specs.Held.{HoldsBook}
 use Rattle.chart_service.specs.Moments.{Since}
 use Rattle.series_load.specs.Sets.{IsAfterSome}
 use Rattle.series_load.specs.Ends.{IsLoaded}
-use Rattle.store_commands.specs.Traffic.{Traffic}
+use Rattle.store_commands.specs.Traffic.{IsLong, Traffic, WasRead}
 use Rattle.store_commands.specs.Damaged.{IsDamagedLater}
 use Rattle.store_commands.specs.Books.{OfBook, Never, IsOnBook, HoldsPages}
 use Rattle.store_commands.specs.Loaded.{LoadsTaken, LoadsToBad, LoadsWithin, OfSeries, RefusesRun, Unnamed}
@@ -43,7 +43,8 @@ IsEndCause end count old new reads reads_now = ⊥
 -- The input was loaded over a disk, all of it or some first sets. Nothing was sent.
 pub record Stores (name : List ℕ) (count : ℕ) (old new : View) (t : Traffic) (answer : Result ℕ End) : Type 0 where
   pub done : IfOk answer (λ readings. IfSome t.left (λ input. OfSeries count old name (λ total book series. HoldsPages count total (IsLoaded total name book series input readings) new)))
-  pub within : IfOk answer (λ readings. IfSome t.left (λ input. length input ≤ 2 ^ 32))
+  pub within : IfOk answer (λ readings. WasRead t.left t.left_now)
+  pub long : answer ≡ Err InputTooLong → IsLong t.left
   pub some : answer ≢ Err DiskFault → OfSeries count old name (λ total book series. HoldsPages count total (IsAfterSome total name book series t.left) new)
   pub stops : IfErr answer (λ end. IfSome t.left (λ input. StopsAt name count old new input t.left_now end))
   pub cause : IfErr answer (λ end. IsEndCause end count old new t.reads t.reads_now)
@@ -55,6 +56,8 @@ pub record Stores (name : List ℕ) (count : ℕ) (old new : View) (t : Traffic)
   pub sent_is : t.sent_now ≡ t.sent
   pub sends_is : t.sends_now ≡ t.sends
   pub faults : old.faults ≤ new.faults
+  -- reads give what a crash may leave, where they did
+  pub honest : Honest old → Honest new
   pub goes_on : GoesOn old new
 
 -- the same over the pages of an open store on a world, by what passed through the streams

@@ -1,5 +1,5 @@
 -- What passed through the streams of a world from one moment to another.
-use Rattle.std.specs.Prelude.{ℕ, List, Option}
+use Rattle.std.specs.Prelude.{ℕ, ◌≡◌, ◌<◌, ◌≤◌, ◌^◌, List, [], length, Option, Some, IfSome}
 
 -- the bytes left to take and those sent, where they are told, and the counts of faults, before and now
 pub record Traffic : Type 0 where
@@ -24,3 +24,11 @@ traffic left sent read_faults send_faults old new = record {
   sends = send_faults old;
   sends_now = send_faults new;
 }
+
+-- the input, where it is told, is at most 2^32 bytes, and was read to its end
+abbrev pub WasRead : Option (List ℕ) → Option (List ℕ) → Type 0
+WasRead left left' = IfSome left (λ input. (length input ≤ 2 ^ 32) × (left' ≡ Some []))
+
+-- it has more bytes than that
+abbrev pub IsLong : Option (List ℕ) → Type 0
+IsLong left = IfSome left (λ input. 2 ^ 32 < length input)

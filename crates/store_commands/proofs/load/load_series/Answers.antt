@@ -36,7 +36,7 @@ returns-in-Ok-answer-clause-ends g c =
     let e = c.in-Ok.ensures in
     let s = stores_on name opened.count (view old) (view opened.disk) (view mid) (traffic left sent reads sends old mid) (traffic left sent reads sends opened.disk mid) c.load_store-answer.result.0 (Ok readings) e.count c.in-Ok-answer.is e.opens e.quiet
     (traffic_over view left sent reads sends w.beside_left w.beside_sent w.beside_read_faults w.beside_send_faults old opened.disk mid e.opens.beside_is) c.load_store-answer.ensures.stores in
-    sent_ends name (view old) (view mid) (view new) (traffic left sent reads sends old mid) (left new) (sent new) (reads new) (sends new) readings c.send_text.result.0 s (c.send_text.ensures.sends (loaded_text readings) c.loaded_text.ensures)
+    sent_ends name (view old) (view mid) (view new) (traffic left sent reads sends old mid) (left new) (sent new) (reads new) (sends new) readings c.send_text.result.0 c.send_text.ensures.left s (c.send_text.ensures.sends (loaded_text readings) c.loaded_text.ensures)
 
 pub returns-in-Err-answer-clause-ends : goal.returns-in-Err-answer-clause-ends
 returns-in-Err-answer-clause-ends g c =
