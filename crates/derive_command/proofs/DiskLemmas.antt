@@ -32,7 +32,7 @@ use Rattle.store_commands.specs.Codes.{too_small, unopened}
 use Rattle.store_commands.specs.Damaged.{IsDamagedLater}
 use Rattle.store_commands.specs.Sides.{Side}
 use Rattle.store_commands.specs.Status.{opening_end}
-use Rattle.store_commands.specs.Traffic.{Traffic}
+use Rattle.store_commands.specs.Traffic.{IsLong, Traffic, WasRead}
 use Rattle.derive_command.specs.Derived.{DeriveEnds, IsDeriveCause}
 use Rattle.derive_command.specs.Doing.{Goes, IsCause}
 use Rattle.derive_command.specs.Lines.{EndsSo}
@@ -59,32 +59,32 @@ module _ (count count' : ℕ) (sound sound' : Bool) (first old new : View) (tota
       let on = on_at count count' total sound sound' old new goes.size (within_held count total book old holds) Q S (λ pages is. book) (λ pages is. is) passes at image low high left in
       recovers_new count image total book on.readable on.within on.so)
 
-  cause_on : (end : End) → (end ≡ Done → IfSome t.left (λ input. length input ≤ 2 ^ 32)) → (end ≢ Done → IsCause end (disk_side count sound old total t.reads t.sends) (disk_side count' sound' new total' t.reads_now t.sends_now)) → IsDeriveCause end first new t
-  cause_on Done within cause = within refl
-  cause_on NoMemory within cause = tt
-  cause_on ReadFault within cause = cause (λ is. cc)
-  cause_on SendFault within cause = cause (λ is. cc)
-  cause_on DiskFault within cause = risen_since first.faults old.faults new.faults quiet (cause (λ is. cc))
-  cause_on (DamagedPage page) within cause =
+  cause_on : (end : End) → (end ≡ Done → WasRead t.left t.left_now) → (end ≡ InputTooLong → IsLong t.left) → (end ≢ Done → IsCause end (disk_side count sound old total t.reads t.sends) (disk_side count' sound' new total' t.reads_now t.sends_now)) → IsDeriveCause end first new t
+  cause_on Done whole long cause = whole refl
+  cause_on NoMemory whole long cause = tt
+  cause_on ReadFault whole long cause = cause (λ is. cc)
+  cause_on SendFault whole long cause = cause (λ is. cc)
+  cause_on DiskFault whole long cause = risen_since first.faults old.faults new.faults quiet (cause (λ is. cc))
+  cause_on (DamagedPage page) whole long cause =
       let is = cause (λ is. cc) in
       let C : ℕ → Type 0 = λ n. IsDamagedLater IsBadForRequest n new (block_of page) in
       subst C counted (later_bad count count' new page goes.size (omega (arith, is.0, few, goes.size)) is.1)
-  cause_on (BadInput at) within cause = tt
-  cause_on InputTooLong within cause = tt
-  cause_on (RefusedLine at refusal) within cause = tt
-  cause_on end within cause = absurd (cause (λ is. cc))
+  cause_on (BadInput at) whole long cause = tt
+  cause_on InputTooLong whole long cause = long refl
+  cause_on (RefusedLine at refusal) whole long cause = tt
+  cause_on end whole long cause = absurd (cause (λ is. cc))
 
   sent_on : (left : Option (List ℕ)) (end : End) → ((total : ℕ) (book : List Series) → Honest old → StandsForBook (pages_of count old.image) total book → IfSome left (λ input. EndsSo book input t.left_now t.sent t.sent_now end))
       → IfSome left (λ input. OfBook (page_count first.size) first (λ total book. EndsSo book input t.left_now t.sent t.sent_now end))
   sent_on None end ends = tt
   sent_on (Some input) end ends = λ total book holds. let here = held_open total book holds in ends total book here.honest (stands_held count total book old rests here)
 
-  pub derived_by : (end : End) → (end ≡ Done → IfSome t.left (λ input. length input ≤ 2 ^ 32))
+  pub derived_by : (end : End) → (end ≡ Done → WasRead t.left t.left_now) → (end ≡ InputTooLong → IsLong t.left)
       → (end ≢ Done → IsCause end (disk_side count sound old total t.reads t.sends) (disk_side count' sound' new total' t.reads_now t.sends_now))
       → ((total : ℕ) (book : List Series) → Honest old → StandsForBook (pages_of count old.image) total book → IfSome t.left (λ input. EndsSo book input t.left_now t.sent t.sent_now end))
       → DeriveEnds first new t end
-  derived_by end within cause ends = record {
-    cause = cause_on end within cause;
+  derived_by end whole long cause ends = record {
+    cause = cause_on end whole long cause;
     sent = sent_on t.left end ends;
     crash = λ total book holds.
         let C : ℕ → Type 0 = λ n. Since old new (λ image sent. RecoversTo n image total book) in
@@ -92,6 +92,7 @@ module _ (count count' : ℕ) (sound sound' : Bool) (first old new : View) (tota
     holds = λ total book holds.
         let C : ℕ → Type 0 = λ n. HoldsBook n total book new in
         subst C counted (holds_same count count' total book old new rests goes.size goes.is_told goes.image closed (held_open total book holds));
+    honest = λ h. goes.is_told (opens.honest h);
     goes_on = goes_then first old new (opened_goes first old opens) goes.goes_on;
   }
 
@@ -118,5 +119,6 @@ module _ (old new : View) (t : Traffic) where
         sent = any_told t.left _ (λ input. unopened_sent input cause u);
         crash = opened_since old new u.opens;
         holds = held old new u.opens;
+        honest = u.opens.honest;
         goes_on = opened_goes old new u.opens;
       })

@@ -1,7 +1,7 @@
 -- How `derive` ends over the store of a disk.
 use Rattle.std.specs.Prelude.{◌≡◌, ℕ, ◌+◌, ◌*◌, ◌<◌, ◌≤◌, ◌^◌, List, length, Option, IfSome, ⊤}
 use Rattle.block_disk.specs.Counts.{HasRisen}
-use Rattle.block_disk.specs.View.{View}
+use Rattle.block_disk.specs.View.{Honest, View}
 use Rattle.disk_store.specs.Held.{HoldsBook}
 use Rattle.gate_pages.specs.Journal.{page_count}
 use Rattle.gate_pages.specs.Pages.{GoesOn}
@@ -13,7 +13,7 @@ use Rattle.series_book.specs.declared.one_series.Series.{Series}
 use Rattle.stored_book.specs.Damage.{IsBadForRequest}
 use Rattle.store_commands.specs.Books.{LeavesSame, OfBook}
 use Rattle.store_commands.specs.Damaged.{IsDamagedAtFirst, IsDamagedLater}
-use Rattle.store_commands.specs.Traffic.{Traffic}
+use Rattle.store_commands.specs.Traffic.{IsLong, Traffic, WasRead}
 use Rattle.derive_command.specs.Answers.{number_of}
 use Rattle.derive_command.specs.Lines.{DrawsAll, DrawsFirst, DrawsPart, DrawsTaken, DrawsToBad, DrawsToRefused, DrawsWithin, EndsSo}
 use Rattle.derive_command.specs.declared.derive_refusal.DeriveRefusal.{DeriveRefusal}
@@ -55,7 +55,7 @@ DerivesToRefused count disk input place before now = OfBook count disk (λ total
 
 -- Why `derive` ended, whatever the disk holds. Where its store wasn't opened no input was taken and nothing was sent.
 abbrev pub IsDeriveCause : End → View → View → Traffic → Type 0
-IsDeriveCause Done old new t = IfSome t.left (λ input. length input ≤ 2 ^ 32)
+IsDeriveCause Done old new t = WasRead t.left t.left_now
 IsDeriveCause NoMemory old new t = ⊤
 IsDeriveCause ReadFault old new t = HasRisen t.reads t.reads_now
 IsDeriveCause SendFault old new t = HasRisen t.sends t.sends_now
@@ -63,7 +63,7 @@ IsDeriveCause DiskFault old new t = HasRisen old.faults new.faults
 IsDeriveCause (DamagedBlock block) old new t = IsDamagedAtFirst old block × ((t.left_now ≡ t.left) × (t.sent_now ≡ t.sent))
 IsDeriveCause (DamagedPage page) old new t = IsDamagedLater IsBadForRequest (page_count old.size) new (block_of page)
 IsDeriveCause (BadInput at) old new t = ⊤
-IsDeriveCause InputTooLong old new t = ⊤
+IsDeriveCause InputTooLong old new t = IsLong t.left
 IsDeriveCause (TooSmall blocks) old new t = (blocks ≡ old.size) × (old.size < 128)
 IsDeriveCause (RefusedLine at refusal) old new t = ⊤
 IsDeriveCause end old new t = ⊥
@@ -74,4 +74,6 @@ pub record DeriveEnds (old new : View) (t : Traffic) (end : End) : Type 0 where
   pub sent : IfSome t.left (λ input. OfBook (page_count old.size) old (λ total book. EndsSo book input t.left_now t.sent t.sent_now end))
   pub crash : LeavesSame (page_count old.size) old new
   pub holds : OfBook (page_count old.size) old (λ total book. HoldsBook (page_count old.size) total book new)
+  -- reads give what a crash may leave, where they did
+  pub honest : Honest old → Honest new
   pub goes_on : GoesOn old new

@@ -1,5 +1,5 @@
 //! A line is answered.
-ghost use Rattle.std.specs.Prelude.{◌≡◌, ◌≤◌, Err, Some, length, IfErr, OnOk};
+ghost use Rattle.std.specs.Prelude.{◌≡◌, ◌≢◌, ◌≤◌, Err, Some, length, IfErr, OnOk};
 ghost use Rattle.block_disk.specs.Counts.{HasRisen};
 ghost use Rattle.block_disk.specs.Streams.{sent_after};
 ghost use Rattle.chart_world.specs.Faults.{CountsFault, fault_in};
@@ -55,6 +55,7 @@ fn send_picture<P: PageWorld>(
     ensures whole { OnOk result (P.sent (shown.pages store.new) ≡ sent_after (picture chart.now) (P.sent (shown.pages store.old))) }
     ensures stops { IfErr result (TextStops (picture chart.now) (P.sent (shown.pages store.old)) (P.sent (shown.pages store.new))) }
     ensures cause { result ≡ Err End.SendFault → HasRisen (P.send_faults (shown.pages store.old)) (P.send_faults (shown.pages store.new)) }
+    ensures long { result ≢ Err End.InputTooLong }
     ensures send_faults { P.send_faults (shown.pages store.old) ≤ P.send_faults (shown.pages store.new) }
     ensures left { P.left (shown.pages store.new) ≡ P.left (shown.pages store.old) }
     ensures pieces { P.pieces (shown.pages store.new) ≡ P.pieces (shown.pages store.old) }
@@ -84,6 +85,7 @@ fn answer_request<P: PageWorld>(
     ensures does { shown.ForBook store.old (λ total book. DoesRequest book request.now at result (P.sent (shown.pages store.old)) (P.sent (shown.pages store.new))) }
     ensures goes { Goes (side_of P.Streams store.old) (side_of P.Streams store.new) }
     ensures cause { IfErr result (λ e. IsCause e (side_of P.Streams store.old) (side_of P.Streams store.new)) }
+    ensures long { result ≢ Err End.InputTooLong }
     ensures left { P.left (shown.pages store.new) ≡ P.left (shown.pages store.old) }
     ensures pieces { P.pieces (shown.pages store.new) ≡ P.pieces (shown.pages store.old) }
     ensures faults { CountsFault (fault_in end_fault result) (shown.view store.old) (shown.view store.new) }
@@ -118,6 +120,7 @@ pub(crate) fn answer_line<P: PageWorld>(
     ensures does { shown.ForBook store.old (λ total book. DoesLine book (Some line.now) at result (P.sent (shown.pages store.old)) (P.sent (shown.pages store.new))) }
     ensures goes { Goes (side_of P.Streams store.old) (side_of P.Streams store.new) }
     ensures cause { IfErr result (λ e. IsCause e (side_of P.Streams store.old) (side_of P.Streams store.new)) }
+    ensures long { result ≢ Err End.InputTooLong }
     ensures left { P.left (shown.pages store.new) ≡ P.left (shown.pages store.old) }
     ensures pieces { P.pieces (shown.pages store.new) ≡ P.pieces (shown.pages store.old) }
     ensures faults { CountsFault (fault_in end_fault result) (shown.view store.old) (shown.view store.new) }

@@ -1,6 +1,7 @@
 //! The lines of a store's streams are answered.
-ghost use Rattle.std.specs.Prelude.{◌≡◌, ◌≢◌, ◌≤◌, ◌^◌, length, IfSome};
+ghost use Rattle.std.specs.Prelude.{◌≡◌, ◌≢◌, ◌≤◌, ◌<◌, ◌^◌, length, IfSome};
 ghost use Rattle.chart_world.specs.Faults.{CountsFault};
+ghost use Rattle.chart_world.specs.Reading.{IsReadUp};
 ghost use Rattle.run_ends.specs.Faults.{end_fault};
 ghost use Rattle.series_store.specs.Shown as shown;
 ghost use Rattle.store_commands.specs.Sides.{side_of};
@@ -22,6 +23,8 @@ pub fn draw_lines<P: PageWorld>(alloc: Global, store: &mut Store<P>) -> End
     ensures ends { shown.ForBook store.old (λ total book. EndsOn P.Streams book store.old store.new result) }
     ensures within { result ≡ End.Done → IfSome (P.left (shown.pages store.old)) (λ input. length input ≤ 2 ^ 32) }
     // whatever the pages are: a crash leaves at each moment what it might have left before
+    ensures whole { result ≡ End.Done → IsReadUp (P.left (shown.pages store.old)) (P.left (shown.pages store.new)) }
+    ensures long { result ≡ End.InputTooLong → IfSome (P.left (shown.pages store.old)) (λ input. 2 ^ 32 < length input) }
     ensures goes { Goes (side_of P.Streams store.old) (side_of P.Streams store.new) }
     ensures cause { result ≢ End.Done → IsCause result (side_of P.Streams store.old) (side_of P.Streams store.new) }
     ensures faults { CountsFault (end_fault result) (shown.view store.old) (shown.view store.new) }

@@ -29,7 +29,7 @@ use Rattle.store_commands.proofs.WorldLemmas.{IsUnopened}
 use Rattle.store_commands.specs.Books.{HoldsAgain, OfBook, OfPages, Stands, Holds}
 use Rattle.store_commands.specs.Codes.{too_small, unopened}
 use Rattle.store_commands.specs.Status.{opening_end}
-use Rattle.store_commands.specs.Traffic.{Traffic}
+use Rattle.store_commands.specs.Traffic.{IsLong, Traffic, WasRead}
 use Rattle.zoom_session.specs.declared.session.Session.{Session}
 use Rattle.live_command.specs.Doing.{Goes, IsCause, Side}
 use Rattle.live_command.specs.Ended.{IsLiveCause, LeavesLived, LiveEnds, ReadsFrom, ReadsLiving, SyncsLiving, begun_live}
@@ -87,15 +87,15 @@ disk_side count sound disk reads sends = record { told = Honest disk; view = pag
 
 -- from the state on that a service without sessions begins with
 module _ (count count' : ℕ) (sound sound' : Bool) (old new : View) (t : Traffic) (goes : Goes (disk_side count sound old t.reads t.sends) (disk_side count' sound' new t.reads_now t.sends_now)) (rests : RestsNew count old) (state : ℕ → List Series → LiveState) (begins : (total : ℕ) (book : List Series) → state total book ≡ begun_live total book) where
-  cause_on : (end : End) → (end ≡ Done → IfSome t.left (λ input. length input ≤ 2 ^ 32)) → (end ≢ Done → IsCause end (disk_side count sound old t.reads t.sends) (disk_side count' sound' new t.reads_now t.sends_now)) → IsServeCause end count old new t
-  cause_on Done within cause = within refl
-  cause_on NoMemory within cause = tt
-  cause_on ReadFault within cause = cause (λ is. cc)
-  cause_on SendFault within cause = cause (λ is. cc)
-  cause_on DiskFault within cause = cause (λ is. cc)
-  cause_on (DamagedPage page) within cause = let is = cause (λ is. cc) in later_bad count count' new page goes.size is.0 is.1
-  cause_on InputTooLong within cause = tt
-  cause_on end within cause = absurd (cause (λ is. cc))
+  cause_on : (end : End) → (end ≡ Done → WasRead t.left t.left_now) → (end ≡ InputTooLong → IsLong t.left) → (end ≢ Done → IsCause end (disk_side count sound old t.reads t.sends) (disk_side count' sound' new t.reads_now t.sends_now)) → IsServeCause end count old new t
+  cause_on Done whole long cause = whole refl
+  cause_on NoMemory whole long cause = tt
+  cause_on ReadFault whole long cause = cause (λ is. cc)
+  cause_on SendFault whole long cause = cause (λ is. cc)
+  cause_on DiskFault whole long cause = cause (λ is. cc)
+  cause_on (DamagedPage page) whole long cause = let is = cause (λ is. cc) in later_bad count count' new page goes.size is.0 is.1
+  cause_on InputTooLong whole long cause = long refl
+  cause_on end whole long cause = absurd (cause (λ is. cc))
 
   -- by the pages of the store
   abbrev ServedOn : ℕ → LiveState → List ℕ → End → Type 0
@@ -127,15 +127,16 @@ module _ (count count' : ℕ) (sound sound' : Bool) (old new : View) (t : Traffi
             ahead_on total input (begun_live total book) (sent_now old) (new.sent_by at) count (new.crash at) (within_held count total book old holds) (subst P goes.size each) image left;
       }
 
-  pub served_by : (end : End) → (end ≡ Done → IfSome t.left (λ input. length input ≤ 2 ^ 32))
+  pub served_by : (end : End) → (end ≡ Done → WasRead t.left t.left_now) → (end ≡ InputTooLong → IsLong t.left)
       → (end ≢ Done → IsCause end (disk_side count sound old t.reads t.sends) (disk_side count' sound' new t.reads_now t.sends_now))
       → OfPages count old (λ total book. IfSome t.left (λ input. ServedOn total (state total book) input end))
       → OfPages count old (λ total book. IfSome t.left (λ input. IfSome t.sent (λ bytes. Since (pages_view count sound old) (pages_view count' sound' new) (λ pages sent. IsAhead (Stands total pages) input (state total book) (sent_now (pages_view count sound old)) sent))))
       → (end ≢ DiskFault → IsClosed new) → Served count old new t end
-  served_by end within cause ends crash closed = record {
-    cause = cause_on end within cause;
+  served_by end whole long cause ends crash closed = record {
+    cause = cause_on end whole long cause;
     does = does_on t.left end ends closed;
     crash = crash_on t.left t.sent crash;
+    honest = goes.is_told;
     goes_on = goes.goes_on;
   }
 
@@ -169,7 +170,7 @@ module _ (old mid new : View) (t : Traffic) (opens : Opens (page_count old.size)
   cause_opened SendFault is = is
   cause_opened DiskFault is = risen_since old.faults mid.faults new.faults quiet is
   cause_opened (DamagedPage page) is = is
-  cause_opened InputTooLong is = tt
+  cause_opened InputTooLong is = is
   cause_opened end is = absurd is
 
   next_held : (total : ℕ) (book : List Series) (input : List ℕ) (end : End) → end ≢ DiskFault → EndsSo (Holds (page_count old.size) total new) input (begun_live total book) t.left_now t.sent t.sent_now end → (next : List Series) × HoldsBook (page_count old.size) total next new
@@ -189,6 +190,7 @@ module _ (old mid new : View) (t : Traffic) (opens : Opens (page_count old.size)
         does = does;
         holds = λ other. again_told (page_count old.size) old new t.left (λ total book input. EndsSo (Holds (page_count old.size) total new) input (begun_live total book) t.left_now t.sent t.sent_now end) (λ total book input is. next_held total book input end other is) does;
         crash = crash_opened t.left t.sent s.crash;
+        honest = λ h. s.honest (opens.honest h);
         goes_on = goes_then old mid new (opened_goes old mid opens) s.goes_on;
       }
 
@@ -217,6 +219,7 @@ served_none count disk t unsent = record {
   crash = told_each t.left (λ input. IfSome t.sent (λ bytes. LeavesLived count input disk disk)) (λ input. told_each t.sent (λ bytes. LeavesLived count input disk disk) (λ bytes total book holds.
       since_none disk (λ image sent. IsAhead (λ after. RecoversTo count image total after) input (begun_live total book) (sent_now disk) sent)
       (λ image left. none_ahead (λ after. RecoversTo count image total after) input (begun_live total book) (sent_now disk) (holds.images image left))));
+  honest = λ h. h;
   goes_on = goes_none disk;
 }
 
@@ -255,6 +258,7 @@ module _ (old new : View) (t : Traffic) where
         does = told_each t.left _ (λ input. unopened_does input cause u);
         holds = λ other. told_each t.left (λ input. HoldsAgain (page_count old.size) old new) (λ input. again_opened old new u.opens);
         crash = told_each t.left (λ input. IfSome t.sent (λ bytes. LeavesLived (page_count old.size) input old new)) (λ input. told_each t.sent (λ bytes. LeavesLived (page_count old.size) input old new) (λ bytes. unopened_crash input u.opens));
+        honest = u.opens.honest;
         goes_on = opened_goes old new u.opens;
       })
 

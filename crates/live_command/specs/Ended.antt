@@ -1,7 +1,7 @@
 -- How `live` ends over the store of a disk.
-use Rattle.std.specs.Prelude.{◌≡◌, ◌≢◌, ℕ, ◌+◌, ◌<◌, ◌≤◌, ◌^◌, List, [], length, Option, IfSome, ⊤}
+use Rattle.std.specs.Prelude.{◌≡◌, ◌≢◌, ℕ, ◌+◌, ◌<◌, ◌≤◌, List, [], Option, IfSome, ⊤}
 use Rattle.block_disk.specs.Counts.{HasRisen}
-use Rattle.block_disk.specs.View.{View, sent_now}
+use Rattle.block_disk.specs.View.{Honest, View, sent_now}
 use Rattle.chart_service.specs.Moments.{Since}
 use Rattle.gate_pages.specs.Journal.{page_count}
 use Rattle.gate_pages.specs.Pages.{GoesOn}
@@ -12,7 +12,7 @@ use Rattle.stored_book.specs.Damage.{IsBadForRequest}
 use Rattle.stored_book.specs.Standing.{RecoversTo}
 use Rattle.store_commands.specs.Books.{HoldsAgain, OfBook, begun, Holds}
 use Rattle.store_commands.specs.Damaged.{IsDamagedAtFirst, IsDamagedLater}
-use Rattle.store_commands.specs.Traffic.{Traffic}
+use Rattle.store_commands.specs.Traffic.{IsLong, Traffic, WasRead}
 use Rattle.run_ends.specs.Statuses.{block_of}
 use Rattle.run_ends.specs.declared.ending.End.{End}
 use Rattle.run_ends.specs.declared.ending.End.TheVariants.{Done, NoMemory, ReadFault, SendFault, DiskFault, DamagedBlock, DamagedPage}
@@ -69,14 +69,14 @@ SyncsLiving old new input = (opened : ℕ) × (opened ≤ old.syncs + 7) × Sync
 
 -- Why `live` ended, whatever the disk holds. Where its store wasn't opened no input was taken and nothing was sent.
 abbrev pub IsLiveCause : End → View → View → Traffic → Type 0
-IsLiveCause Done old new t = IfSome t.left (λ input. length input ≤ 2 ^ 32)
+IsLiveCause Done old new t = WasRead t.left t.left_now
 IsLiveCause NoMemory old new t = ⊤
 IsLiveCause ReadFault old new t = HasRisen t.reads t.reads_now
 IsLiveCause SendFault old new t = HasRisen t.sends t.sends_now
 IsLiveCause DiskFault old new t = HasRisen old.faults new.faults
 IsLiveCause (DamagedBlock block) old new t = IsDamagedAtFirst old block × ((t.left_now ≡ t.left) × (t.sent_now ≡ t.sent))
 IsLiveCause (DamagedPage page) old new t = IsDamagedLater IsBadForRequest (page_count old.size) new (block_of page)
-IsLiveCause InputTooLong old new t = ⊤
+IsLiveCause InputTooLong old new t = IsLong t.left
 IsLiveCause (TooSmall blocks) old new t = (blocks ≡ old.size) × (old.size < 128)
 IsLiveCause end old new t = ⊥
 
@@ -92,4 +92,6 @@ pub record LiveEnds (old new : View) (t : Traffic) (end : End) : Type 0 where
   pub does : DoesLive (page_count old.size) old new t end
   pub holds : end ≢ DiskFault → IfSome t.left (λ input. HoldsAgain (page_count old.size) old new)
   pub crash : IfSome t.left (λ input. IfSome t.sent (λ bytes. LeavesLived (page_count old.size) input old new))
+  -- reads give what a crash may leave, where they did
+  pub honest : Honest old → Honest new
   pub goes_on : GoesOn old new

@@ -1,25 +1,25 @@
 -- What is done over a store on a disk. Private contracts are stated by these words.
-use Rattle.std.specs.Prelude.{ℕ, ◌≤◌, ◌^◌, length, IfSome, ⊤}
+use Rattle.std.specs.Prelude.{ℕ, IfSome, ⊤}
 use Rattle.block_disk.specs.Counts.{HasRisen}
-use Rattle.block_disk.specs.View.{View}
+use Rattle.block_disk.specs.View.{Honest, View}
 use Rattle.gate_pages.specs.Pages.{GoesOn}
 use Rattle.run_ends.specs.Statuses.{block_of}
 use Rattle.run_ends.specs.declared.ending.End.{End}
 use Rattle.run_ends.specs.declared.ending.End.TheVariants.{Done, NoMemory, ReadFault, SendFault, DiskFault, DamagedPage, InputTooLong}
 use Rattle.stored_book.specs.Damage.{IsBadForRequest}
 use Rattle.store_commands.specs.Damaged.{IsDamagedLater}
-use Rattle.store_commands.specs.Traffic.{Traffic}
+use Rattle.store_commands.specs.Traffic.{IsLong, Traffic, WasRead}
 use Rattle.live_command.specs.Ended.{DoesLive, LeavesLived}
 
 -- why the lines were answered so far, whatever the disk holds
 abbrev pub IsServeCause : End → ℕ → View → View → Traffic → Type 0
-IsServeCause Done count old new t = IfSome t.left (λ input. length input ≤ 2 ^ 32)
+IsServeCause Done count old new t = WasRead t.left t.left_now
 IsServeCause NoMemory count old new t = ⊤
 IsServeCause ReadFault count old new t = HasRisen t.reads t.reads_now
 IsServeCause SendFault count old new t = HasRisen t.sends t.sends_now
 IsServeCause DiskFault count old new t = HasRisen old.faults new.faults
 IsServeCause (DamagedPage page) count old new t = IsDamagedLater IsBadForRequest count new (block_of page)
-IsServeCause InputTooLong count old new t = ⊤
+IsServeCause InputTooLong count old new t = IsLong t.left
 IsServeCause end count old new t = ⊥
 
 -- The lines of the input were answered over a disk, all of them or some first ones.
@@ -27,4 +27,6 @@ pub record Served (count : ℕ) (old new : View) (t : Traffic) (end : End) : Typ
   pub cause : IsServeCause end count old new t
   pub does : DoesLive count old new t end
   pub crash : IfSome t.left (λ input. IfSome t.sent (λ bytes. LeavesLived count input old new))
+  -- reads give what a crash may leave, where they did
+  pub honest : Honest old → Honest new
   pub goes_on : GoesOn old new

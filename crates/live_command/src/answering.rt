@@ -44,6 +44,7 @@ fn send_frame<P: PageWorld>(
     ensures whole { OnOk result (P.sent (pages live.new) ≡ sent_after (spelling frame.now) (P.sent (pages live.old))) }
     ensures stops { IfErr result (FrameStops frame.now (P.sent (pages live.old)) (P.sent (pages live.new))) }
     ensures cause { result ≡ Err End.SendFault → HasRisen (P.send_faults (pages live.old)) (P.send_faults (pages live.new)) }
+    ensures long { result ≢ Err End.InputTooLong }
     ensures faults { CountsFault (fault_in end_fault result) (its.view live.old) (its.view live.new) }
     ensures send_faults { P.send_faults (pages live.old) ≤ P.send_faults (pages live.new) }
     ensures left { P.left (pages live.new) ≡ P.left (pages live.old) }
@@ -69,6 +70,7 @@ pub(crate) fn refuse_line<P: PageWorld>(
     ensures does { ForSound live.old (λ total book. DoesFor P.Streams (None ∷ []) total book result live.old live.new) }
     ensures goes { Goes (side_of P.Streams live.old) (side_of P.Streams live.new) }
     ensures cause { IfErr result (λ e. IsCause e (side_of P.Streams live.old) (side_of P.Streams live.new)) }
+    ensures long { result ≢ Err End.InputTooLong }
     ensures faults { CountsFault (fault_in end_fault result) (its.view live.old) (its.view live.new) }
     ensures sound { result ≢ Err End.DiskFault → (its.view live.new).fit }
     ensures syncs { (its.view live.new).syncs ≡ (its.view live.old).syncs }
@@ -90,6 +92,7 @@ fn answer_frame<P: PageWorld>(
     ensures does { ForSound live.old (λ total book. DoesFor P.Streams (Some line.now ∷ []) total book result live.old live.new) }
     ensures goes { Goes (side_of P.Streams live.old) (side_of P.Streams live.new) }
     ensures cause { IfErr result (λ e. IsCause e (side_of P.Streams live.old) (side_of P.Streams live.new)) }
+    ensures long { result ≢ Err End.InputTooLong }
     ensures faults { CountsFault (fault_in end_fault result) (its.view live.old) (its.view live.new) }
     ensures sound { result ≢ Err End.DiskFault → (its.view live.new).fit }
     ensures syncs { (its.view live.new).syncs ≤ (its.view live.old).syncs + 4 * length (edit_of (Some line.now)) }
@@ -108,6 +111,7 @@ fn send_push<P: PageWorld>(alloc: Global, live: &mut Live<ServiceStepper<P>>) ->
     ensures does { ForSound live.old (λ total book. DoesFor P.Streams [] total book result live.old live.new) }
     ensures goes { Goes (side_of P.Streams live.old) (side_of P.Streams live.new) }
     ensures cause { IfErr result (λ e. IsCause e (side_of P.Streams live.old) (side_of P.Streams live.new)) }
+    ensures long { result ≢ Err End.InputTooLong }
     ensures faults { CountsFault (fault_in end_fault result) (its.view live.old) (its.view live.new) }
     ensures sound { result ≢ Err End.DiskFault → (its.view live.new).fit }
     ensures syncs { (its.view live.new).syncs ≡ (its.view live.old).syncs }
@@ -127,6 +131,7 @@ fn send_pushes<P: PageWorld>(alloc: Global, live: &mut Live<ServiceStepper<P>>) 
     ensures does { ForSound live.old (λ total book. DoesFor P.Streams [] total book result live.old live.new) }
     ensures goes { Goes (side_of P.Streams live.old) (side_of P.Streams live.new) }
     ensures cause { IfErr result (λ e. IsCause e (side_of P.Streams live.old) (side_of P.Streams live.new)) }
+    ensures long { result ≢ Err End.InputTooLong }
     ensures faults { CountsFault (fault_in end_fault result) (its.view live.old) (its.view live.new) }
     ensures sound { result ≢ Err End.DiskFault → (its.view live.new).fit }
     ensures syncs { (its.view live.new).syncs ≡ (its.view live.old).syncs }
@@ -154,6 +159,7 @@ pub(crate) fn answer_line<P: PageWorld>(
     ensures does { ForSound live.old (λ total book. DoesFor P.Streams (unless_empty (Some line.now)) total book result live.old live.new) }
     ensures goes { Goes (side_of P.Streams live.old) (side_of P.Streams live.new) }
     ensures cause { IfErr result (λ e. IsCause e (side_of P.Streams live.old) (side_of P.Streams live.new)) }
+    ensures long { result ≢ Err End.InputTooLong }
     ensures faults { CountsFault (fault_in end_fault result) (its.view live.old) (its.view live.new) }
     ensures sound { result ≢ Err End.DiskFault → (its.view live.new).fit }
     ensures syncs { (its.view live.new).syncs ≤ (its.view live.old).syncs + 4 * length (edits_of (unless_empty (Some line.now))) }

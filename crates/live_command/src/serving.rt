@@ -1,7 +1,7 @@
 //! The lines of a live service's streams are answered, and the pushes behind them made.
-ghost use Rattle.std.specs.Prelude.{◌≡◌, ◌≢◌, ◌≤◌, ◌^◌, Err, length, IfErr, IfSome, OnOk};
+ghost use Rattle.std.specs.Prelude.{◌≡◌, ◌≢◌, ◌≤◌, ◌<◌, ◌^◌, Err, length, IfErr, IfSome, OnOk};
 ghost use Rattle.chart_world.specs.Faults.{CountsFault, fault_in};
-ghost use Rattle.chart_world.specs.Reading.{unread_input};
+ghost use Rattle.chart_world.specs.Reading.{IsReadUp, unread_input};
 ghost use Rattle.live_service.specs.Shown as its;
 ghost use Rattle.live_view.specs.Live as follows;
 ghost use Rattle.run_ends.specs.Faults.{end_fault};
@@ -33,6 +33,8 @@ pub fn serve_live<P: PageWorld>(alloc: Global, live: &mut Live<ServiceStepper<P>
     // the disk is synced for edits alone, at most four times for each
     ensures syncs { IfSome (P.left (pages live.old)) (λ input. SyncsLines input (its.view live.old).syncs (its.view live.new).syncs) }
     // whatever the pages are
+    ensures whole { result ≡ End.Done → IsReadUp (P.left (pages live.old)) (P.left (pages live.new)) }
+    ensures long { result ≡ End.InputTooLong → IfSome (P.left (pages live.old)) (λ input. 2 ^ 32 < length input) }
     ensures goes { Goes (side_of P.Streams live.old) (side_of P.Streams live.new) }
     ensures cause { result ≢ End.Done → IsCause result (side_of P.Streams live.old) (side_of P.Streams live.new) }
     ensures faults { CountsFault (end_fault result) (its.view live.old) (its.view live.new) }
@@ -63,6 +65,8 @@ fn answer_lines<P: PageWorld>(
     ensures crash { its.ForBook live.old (λ total book. LastsFor P.Streams total book live.old live.new) }
     ensures reads { its.ForBook live.old (λ total book. ReadsFew P.Streams total book live.old live.new) }
     ensures syncs { IfSome (P.left (pages live.old)) (λ input. SyncsLines input (its.view live.old).syncs (its.view live.new).syncs) }
+    ensures whole { OnOk result (IsReadUp (P.left (pages live.old)) (P.left (pages live.new))) }
+    ensures long { result ≡ Err End.InputTooLong → IfSome (P.left (pages live.old)) (λ input. 2 ^ 32 < length input) }
     ensures goes { Goes (side_of P.Streams live.old) (side_of P.Streams live.new) }
     ensures cause { IfErr result (λ e. IsCause e (side_of P.Streams live.old) (side_of P.Streams live.new)) }
     ensures faults { CountsFault (fault_in end_fault result) (its.view live.old) (its.view live.new) }

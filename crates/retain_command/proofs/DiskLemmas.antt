@@ -32,7 +32,7 @@ use Rattle.store_commands.specs.Codes.{too_small, unopened}
 use Rattle.store_commands.specs.Damaged.{IsDamagedLater}
 use Rattle.store_commands.specs.Sides.{Side}
 use Rattle.store_commands.specs.Status.{opening_end}
-use Rattle.store_commands.specs.Traffic.{Traffic}
+use Rattle.store_commands.specs.Traffic.{IsLong, Traffic, WasRead}
 use Rattle.retain_command.specs.Answers.{book_behind}
 use Rattle.retain_command.specs.Doing.{Goes, IsCause}
 use Rattle.retain_command.specs.Retained.{IsRetainCause, LeavesSwept, RetainEnds}
@@ -104,20 +104,20 @@ module _ (count count' : ℕ) (sound sound' : Bool) (first old new : View) (tota
   held_open : (total : ℕ) (book : List Series) → HoldsBook (page_count first.size) total book first → HoldsBook count total book old
   held_open total book holds = let C : ℕ → Type 0 = λ n. HoldsBook n total book old in subst C (sym counted) (held first old opens total book holds)
 
-  cause_on : (end : End) → (end ≡ Done → IfSome t.left (λ input. length input ≤ 2 ^ 32)) → (end ≢ Done → IsCause end (disk_side count sound old total t.reads t.sends) (disk_side count' sound' new total' t.reads_now t.sends_now)) → IsRetainCause end first new t
-  cause_on Done within cause = within refl
-  cause_on NoMemory within cause = tt
-  cause_on ReadFault within cause = cause (λ is. cc)
-  cause_on SendFault within cause = cause (λ is. cc)
-  cause_on DiskFault within cause = risen_since first.faults old.faults new.faults quiet (cause (λ is. cc))
-  cause_on (DamagedPage page) within cause =
+  cause_on : (end : End) → (end ≡ Done → WasRead t.left t.left_now) → (end ≡ InputTooLong → IsLong t.left) → (end ≢ Done → IsCause end (disk_side count sound old total t.reads t.sends) (disk_side count' sound' new total' t.reads_now t.sends_now)) → IsRetainCause end first new t
+  cause_on Done whole long cause = whole refl
+  cause_on NoMemory whole long cause = tt
+  cause_on ReadFault whole long cause = cause (λ is. cc)
+  cause_on SendFault whole long cause = cause (λ is. cc)
+  cause_on DiskFault whole long cause = risen_since first.faults old.faults new.faults quiet (cause (λ is. cc))
+  cause_on (DamagedPage page) whole long cause =
       let is = cause (λ is. cc) in
       let C : ℕ → Type 0 = λ n. IsDamagedLater IsBadForRequest n new (block_of page) in
       subst C counted (later_bad count count' new page goes.size (omega (arith, is.0, few, goes.size)) is.1)
-  cause_on (BadInput at) within cause = tt
-  cause_on InputTooLong within cause = tt
-  cause_on (NoSeries at) within cause = tt
-  cause_on end within cause = absurd (cause (λ is. cc))
+  cause_on (BadInput at) whole long cause = tt
+  cause_on InputTooLong whole long cause = long refl
+  cause_on (NoSeries at) whole long cause = tt
+  cause_on end whole long cause = absurd (cause (λ is. cc))
 
   -- the pages of the store
   abbrev SweptOn : ℕ → List Series → List ℕ → End → Type 0
@@ -170,19 +170,20 @@ module _ (count count' : ℕ) (sound sound' : Bool) (first old new : View) (tota
   next_held n total book input (NoSeries at) other s = (_, s.swept.there)
   next_held n total book input end other s = absurd s
 
-  pub retained_by : (end : End) → (end ≡ Done → IfSome t.left (λ input. length input ≤ 2 ^ 32))
+  pub retained_by : (end : End) → (end ≡ Done → WasRead t.left t.left_now) → (end ≡ InputTooLong → IsLong t.left)
       → (end ≢ Done → IsCause end (disk_side count sound old total t.reads t.sends) (disk_side count' sound' new total' t.reads_now t.sends_now))
       → OfPages count old (λ total book. IfSome t.left (λ input. SweptOn total book input end))
       → OfPages count old (λ total book. IfSome t.left (λ input. IfSome t.sent (λ bytes. Since (pages_view count sound old) (pages_view count' sound' new) (λ pages sent. IsAhead (Stands total pages) total book input (sent_now (pages_view count sound old)) sent))))
       → (end ≢ DiskFault → IsClosed new) → RetainEnds first new t end
-  retained_by end within cause ends crash closed =
+  retained_by end whole long cause ends crash closed =
       let n = page_count first.size in
       let does = does_on t.left end ends closed in
       record {
-        cause = cause_on end within cause;
+        cause = cause_on end whole long cause;
         does = does;
         holds = λ other. again_told n first new t.left (λ total book input. SweptBy n total book input end) (λ total book input s. next_held n total book input end other s) does;
         crash = crash_on t.left t.sent crash;
+        honest = λ h. goes.is_told (opens.honest h);
         goes_on = goes_then first old new (opened_goes first old opens) goes.goes_on;
       }
 
@@ -215,5 +216,6 @@ module _ (old new : View) (t : Traffic) where
         does = any_told t.left _ (λ input. unopened_does input cause u);
         holds = λ other. any_told t.left (λ input. HoldsAgain (page_count old.size) old new) (λ input. again_opened old new u.opens);
         crash = any_told t.left (λ input. IfSome t.sent (λ bytes. LeavesSwept (page_count old.size) input old new)) (λ input. any_told t.sent (λ bytes. LeavesSwept (page_count old.size) input old new) (λ bytes. unopened_crash input u.opens));
+        honest = u.opens.honest;
         goes_on = opened_goes old new u.opens;
       })

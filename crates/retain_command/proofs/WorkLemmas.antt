@@ -1,14 +1,17 @@
 -- What a line of `retain` does, as a work of lines says it.
-use Rattle.std.proofs.Common.{◌∙◌, ℕ, List, [], Option, Some, Result, Ok, Err, refl, ap, inl, inr}
-use Rattle.std.specs.Prelude.{OnOk, IfErr}
+use Rattle.std.proofs.Common.{◌≡◌, ◌≢◌, ◌∙◌, ℕ, List, [], Option, Some, Result, Ok, Err, refl, ap, inl, inr}
+use Rattle.std.specs.Prelude.{OnOk, IfErr, ⊤}
 use Rattle.block_disk.specs.SentLaws.{sent_none}
 use Rattle.block_disk.specs.View.{Image, View}
 use Rattle.line_runs.specs.Carried.{DoesOne}
 use Rattle.line_runs.specs.Given.{Line}
+use Rattle.retention.specs.declared.sweep_error.SweepError.{SweepError}
+use Rattle.retention.specs.declared.sweep_error.SweepError.TheVariants as sweep
 use Rattle.run_ends.specs.declared.ending.End.{End}
+use Rattle.run_ends.specs.declared.ending.End.TheVariants.{InputTooLong}
 use Rattle.stored_book.specs.Standing.{StandsForBook}
 use Rattle.retain_command.specs.Answers.{answer}
-use Rattle.retain_command.specs.Doing.{DoesLine, LineDone}
+use Rattle.retain_command.specs.Doing.{DoesLine, LineDone, end_at}
 use Rattle.retain_command.specs.Working.{Held, LineDoes, LineStopsSo, held_swept}
 
 -- the pages of this image stand for it
@@ -43,3 +46,15 @@ module _ (held : Held) (text : List ℕ) (at : ℕ) (old new : View) (before now
       → IfErr result (λ end. LineStopsSo held (Line at (Some text)) new.image before now end)
   work_stops {T} (Ok v) does = tt
   work_stops {T} (Err e) does = does.stops
+
+-- no end of a sweep is the input's length
+pub sweep_short : (at : ℕ) (error : SweepError) (end : End) → end ≡ end_at at error → ◌≡◌ {A = Result ⊤ End} (Err end) (Err InputTooLong) → ⊥
+sweep_short at sweep.UnknownSeries end is same = cc
+sweep_short at sweep.DiskFault end is same = cc
+sweep_short at (sweep.Damaged page) end is same = cc
+sweep_short at sweep.NoMemory end is same = cc
+
+-- a cause of an end that isn't the input's length
+pub cause_short : {T : Type 0} (Causes : End → Type 0) (result : Result T End) → IfErr result Causes → (result ≡ Err InputTooLong → ⊥) → IfErr result (λ end. Causes end × (end ≢ InputTooLong))
+cause_short {T} Causes (Ok done) causes short = tt
+cause_short {T} Causes (Err end) causes short = (causes, λ is. short (ap Err is))

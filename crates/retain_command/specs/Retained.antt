@@ -1,7 +1,7 @@
 -- How `retain` ends over the store of a disk.
 use Rattle.std.specs.Prelude.{◌≡◌, ◌≢◌, ℕ, ◌<◌, ◌≤◌, ◌^◌, List, length, Option, IfSome, ⊤}
 use Rattle.block_disk.specs.Counts.{HasRisen}
-use Rattle.block_disk.specs.View.{View, sent_now}
+use Rattle.block_disk.specs.View.{Honest, View, sent_now}
 use Rattle.chart_service.specs.Moments.{Since}
 use Rattle.gate_pages.specs.Journal.{page_count}
 use Rattle.gate_pages.specs.Pages.{GoesOn}
@@ -9,7 +9,7 @@ use Rattle.stored_book.specs.Damage.{IsBadForRequest}
 use Rattle.stored_book.specs.Standing.{RecoversTo}
 use Rattle.store_commands.specs.Books.{HoldsAgain, OfBook, Holds}
 use Rattle.store_commands.specs.Damaged.{IsDamagedAtFirst, IsDamagedLater}
-use Rattle.store_commands.specs.Traffic.{Traffic}
+use Rattle.store_commands.specs.Traffic.{IsLong, Traffic, WasRead}
 use Rattle.run_ends.specs.Statuses.{block_of}
 use Rattle.run_ends.specs.declared.ending.End.{End}
 use Rattle.run_ends.specs.declared.ending.End.TheVariants.{Done, NoMemory, ReadFault, SendFault, DiskFault, DamagedBlock, DamagedPage}
@@ -56,7 +56,7 @@ LeavesSwept count input old new =
 
 -- Why `retain` ended, whatever the disk holds. Where its store wasn't opened no input was taken and nothing was sent.
 abbrev pub IsRetainCause : End → View → View → Traffic → Type 0
-IsRetainCause Done old new t = IfSome t.left (λ input. length input ≤ 2 ^ 32)
+IsRetainCause Done old new t = WasRead t.left t.left_now
 IsRetainCause NoMemory old new t = ⊤
 IsRetainCause ReadFault old new t = HasRisen t.reads t.reads_now
 IsRetainCause SendFault old new t = HasRisen t.sends t.sends_now
@@ -64,7 +64,7 @@ IsRetainCause DiskFault old new t = HasRisen old.faults new.faults
 IsRetainCause (DamagedBlock block) old new t = IsDamagedAtFirst old block × ((t.left_now ≡ t.left) × (t.sent_now ≡ t.sent))
 IsRetainCause (DamagedPage page) old new t = IsDamagedLater IsBadForRequest (page_count old.size) new (block_of page)
 IsRetainCause (BadInput at) old new t = ⊤
-IsRetainCause InputTooLong old new t = ⊤
+IsRetainCause InputTooLong old new t = IsLong t.left
 IsRetainCause (TooSmall blocks) old new t = (blocks ≡ old.size) × (old.size < 128)
 IsRetainCause (NoSeries at) old new t = ⊤
 IsRetainCause end old new t = ⊥
@@ -76,4 +76,6 @@ pub record RetainEnds (old new : View) (t : Traffic) (end : End) : Type 0 where
   pub does : IfSome t.left (λ input. OfBook (page_count old.size) old (λ total book. EndsSo (Holds (page_count old.size) total new) total book input t.left_now t.sent t.sent_now end))
   pub holds : end ≢ DiskFault → IfSome t.left (λ input. HoldsAgain (page_count old.size) old new)
   pub crash : IfSome t.left (λ input. IfSome t.sent (λ bytes. LeavesSwept (page_count old.size) input old new))
+  -- reads give what a crash may leave, where they did
+  pub honest : Honest old → Honest new
   pub goes_on : GoesOn old new

@@ -42,6 +42,7 @@ fn send_swept<P: PageWorld>(alloc: Global, store: &mut Store<P>, swept: Swept) -
     ensures whole { OnOk result (P.sent (shown.pages store.new) ≡ sent_after (swept_text swept.clears swept.used) (P.sent (shown.pages store.old))) }
     ensures stops { IfErr result (TextStops (swept_text swept.clears swept.used) (P.sent (shown.pages store.old)) (P.sent (shown.pages store.new))) }
     ensures cause { result ≡ Err End.SendFault → HasRisen (P.send_faults (shown.pages store.old)) (P.send_faults (shown.pages store.new)) }
+    ensures long { result ≢ Err End.InputTooLong }
     ensures faults { CountsFault (fault_in end_fault result) (shown.view store.old) (shown.view store.new) }
     ensures send_faults { P.send_faults (shown.pages store.old) ≤ P.send_faults (shown.pages store.new) }
     ensures left { P.left (shown.pages store.new) ≡ P.left (shown.pages store.old) }
@@ -69,6 +70,7 @@ fn answer_rule<P: PageWorld>(
     ensures does { shown.ForBook store.old (DoesRuleOn P.sent rule.now at result store.old store.new) }
     ensures goes { Goes (side_of P.Streams store.old) (side_of P.Streams store.new) }
     ensures cause { IfErr result (λ e. IsCause e (side_of P.Streams store.old) (side_of P.Streams store.new)) }
+    ensures long { result ≢ Err End.InputTooLong }
     ensures faults { CountsFault (fault_in end_fault result) (shown.view store.old) (shown.view store.new) }
     ensures sound { result ≢ Err End.DiskFault → shown.IsSound store.new }
     ensures left { P.left (shown.pages store.new) ≡ P.left (shown.pages store.old) }
@@ -91,6 +93,7 @@ pub(crate) fn answer_line<P: PageWorld>(
     ensures does { shown.ForBook store.old (DoesLineOn P.sent line.now at result store.old store.new) }
     ensures goes { Goes (side_of P.Streams store.old) (side_of P.Streams store.new) }
     ensures cause { IfErr result (λ e. IsCause e (side_of P.Streams store.old) (side_of P.Streams store.new)) }
+    ensures long { result ≢ Err End.InputTooLong }
     ensures faults { CountsFault (fault_in end_fault result) (shown.view store.old) (shown.view store.new) }
     ensures sound { result ≢ Err End.DiskFault → shown.IsSound store.new }
     ensures left { P.left (shown.pages store.new) ≡ P.left (shown.pages store.old) }

@@ -1,6 +1,7 @@
 //! The work of `retain`: each line is a rule.
-ghost use Rattle.std.specs.Prelude.{⊤};
+ghost use Rattle.std.specs.Prelude.{◌≢◌, ⊤};
 ghost use Rattle.run_ends.specs.Faults.{end_fault};
+ghost use Rattle.run_ends.specs.declared.ending.End.TheVariants.{InputTooLong};
 ghost use Rattle.series_store.specs.Shown as shown;
 ghost use Rattle.stored_book.specs.Standing.{StandsForBook};
 ghost use Rattle.store_commands.specs.Sides.{side_of};
@@ -42,7 +43,7 @@ impl<P: PageWorld> LineWork<Store<P>, End> for RuleWork {
 
     ghost goes = { λ old new. Goes (side_of P.Streams old) (side_of P.Streams new) };
 
-    ghost cause = { λ end old new. IsCause end (side_of P.Streams old) (side_of P.Streams new) };
+    ghost cause = { λ end old new. IsCause end (side_of P.Streams old) (side_of P.Streams new) × (end ≢ InputTooLong) };
 
     ghost harms = { Harms };
 
@@ -84,7 +85,7 @@ impl<P: PageWorld> LineWork<Store<P>, End> for RuleWork {
 
     ghost goes_then = { λ old between new. goes_further _ _ _ };
 
-    ghost cause_later = { λ end old between new quiet. cause_later _ _ _ (besides (P.beside_read_faults (shown.pages old)) (P.beside_send_faults (shown.pages old))) (besides (P.beside_read_faults (shown.pages between)) (P.beside_send_faults (shown.pages between))) quiet end };
+    ghost cause_later = { λ end old between new quiet goes cause. (cause_later _ _ _ (besides (P.beside_read_faults (shown.pages old)) (P.beside_send_faults (shown.pages old))) (besides (P.beside_read_faults (shown.pages between)) (P.beside_send_faults (shown.pages between))) quiet end goes cause.0, cause.1) };
 
     ghost counts_sent = { λ at. P.counts_sent (shown.pages at) };
 

@@ -1,6 +1,7 @@
 //! The lines of a store's streams are swept and answered.
-ghost use Rattle.std.specs.Prelude.{◌≡◌, ◌≢◌, ◌≤◌, ◌^◌, length, IfSome};
+ghost use Rattle.std.specs.Prelude.{◌≡◌, ◌≢◌, ◌≤◌, ◌<◌, ◌^◌, length, IfSome};
 ghost use Rattle.chart_world.specs.Faults.{CountsFault};
+ghost use Rattle.chart_world.specs.Reading.{IsReadUp};
 ghost use Rattle.run_ends.specs.Faults.{end_fault};
 ghost use Rattle.series_store.specs.Shown as shown;
 ghost use Rattle.store_commands.specs.Sides.{side_of};
@@ -24,6 +25,8 @@ pub fn sweep_lines<P: PageWorld>(alloc: Global, store: &mut Store<P>) -> End
     // at each moment a crash leaves the book with each line whose answer was sent by then, and some first clears more
     ensures crash { shown.ForBook store.old (λ total book. LastsFor P.Streams total book store.old store.new) }
     // whatever the pages are
+    ensures whole { result ≡ End.Done → IsReadUp (P.left (shown.pages store.old)) (P.left (shown.pages store.new)) }
+    ensures long { result ≡ End.InputTooLong → IfSome (P.left (shown.pages store.old)) (λ input. 2 ^ 32 < length input) }
     ensures goes { Goes (side_of P.Streams store.old) (side_of P.Streams store.new) }
     ensures cause { result ≢ End.Done → IsCause result (side_of P.Streams store.old) (side_of P.Streams store.new) }
     // no count of faults rises but that of the call that the end tells

@@ -15,6 +15,7 @@ use Rattle.derive_command.proofs.DoingLemmas.{causes_later, chart_cause, chart_f
 use Rattle.store_commands.specs.Faulting.{counts_told}
 use Rattle.store_commands.specs.Sides.{AreBeside, side_of}
 use Rattle.derive_command.specs.Doing.{end_at}
+use Rattle.derive_command.proofs.WorkLemmas.{chart_short, refused_short}
 use Rattle.derive_command.proofs.answering.answer_request.Goals as goal
 
 pub returns-in-Err-clause-does : goal.returns-in-Err-clause-does
@@ -153,3 +154,9 @@ returns-in-Err-chart-clause-faults g c =
     let error = c.in-Err-chart.error in
     let E : End → Type 0 = λ e. CountsFault (end_fault e) (shown.view first) (shown.view mid) in
     subst E (sym c.end_at.ensures) (counts_told (sum_fault error) (end_fault (end_at c.args.at error)) (shown.view first) (shown.view mid) (chart_fault c.args.at error) (subst P c.in-Err-chart.is c.chart_of_sum-chart.ensures.faults))
+
+pub returns-in-Err-clause-long : goal.returns-in-Err-clause-long
+returns-in-Err-clause-long g c = λ same. refused_short c.args.at c.in-Err.refusal c.refused_at.result c.refused_at.ensures same
+
+pub returns-in-Err-chart-clause-long : goal.returns-in-Err-chart-clause-long
+returns-in-Err-chart-clause-long g c = λ same. chart_short c.args.at c.in-Err-chart.error c.end_at.result c.end_at.ensures same

@@ -11,6 +11,7 @@ use Rattle.store_commands.proofs.TurnedAway.{away_never}
 use Rattle.store_commands.proofs.WorldLemmas.{away_over, traffic_over, unopened_over}
 use Rattle.store_commands.specs.Faulting.{counts_unopened_end}
 use Rattle.store_commands.specs.Traffic.{Traffic, traffic}
+use Rattle.store_commands.specs.TrafficLaws.{was_read}
 use Rattle.derive_command.specs.Derived.{DeriveEnds}
 use Rattle.derive_command.proofs.DiskLemmas.{derived_by, unopened_ends}
 use Rattle.derive_command.proofs.command.derive.Goals as goal
@@ -37,7 +38,7 @@ returns-in-Ok-clause-ends g c =
     let closed : IsClosed (view new) = subst P c.disk_of.ensures.disk (c.disk_of.ensures.rests (made.goes.fit opened.sound)) in
     let all = derived_by pages.count end_pages.count pages.sound end_pages.sound (view first) (view old) (view new) (shown.total before) (shown.total after) t made.goes
     (rests_new pages.count (view old) (shown.numbers before) (pages.at_rest opened.sound) (before.space.spelled opened.sound)) closed (omega (arith, before.space.rules.total_high)) opened.count opened.opens opened.quiet
-    c.draw_lines-end.result made.within made.cause made.ends in
+    c.draw_lines-end.result (λ done. was_read (left old) (left new) (made.within done) (made.whole done)) made.long made.cause made.ends in
     let same = traffic_over view left sent reads sends w.beside_left w.beside_sent w.beside_read_faults w.beside_send_faults first old new opened.opens.beside_is in
     let T : Traffic → Type 0 = λ x. DeriveEnds (view first) (view new) x c.draw_lines-end.result in
     let D : g.row.W.Denot → Type 0 = λ d. DeriveEnds (view first) (view d) (traffic left sent reads sends first d) c.draw_lines-end.result in

@@ -1,9 +1,10 @@
-use Rattle.std.proofs.Common.{◌≡◌, ◌≢◌, ◌≤◌, ◌^◌, IfSome, length, sym, subst}
+use Rattle.std.proofs.Common.{◌≡◌, ◌≢◌, ◌≤◌, ◌<◌, ◌^◌, IfSome, length, refl, sym, subst}
 use Rattle.chart_world.specs.Faults.{CountsFault}
-use Rattle.line_runs.specs.EndLaws.{came_to_end, end_cause, same_fault}
+use Rattle.chart_world.specs.Reading.{IsReadUp}
+use Rattle.line_runs.specs.EndLaws.{came_to_end, causes_so, end_cause, input_long, same_fault}
 use Rattle.run_ends.specs.Faults.{end_fault}
 use Rattle.run_ends.specs.declared.ending.End.{End}
-use Rattle.run_ends.specs.declared.ending.End.TheVariants.{Done}
+use Rattle.run_ends.specs.declared.ending.End.TheVariants.{Done, InputTooLong}
 use Rattle.series_store.specs.Shown as shown
 use Rattle.store_commands.specs.Sides.{side_of}
 use Rattle.derive_command.specs.Doing.{IsCause}
@@ -36,7 +37,28 @@ returns-clause-within g c =
     let side = side_of g.P.Streams in
     let e = c.run_lines-answer.ensures in
     let W : End → Type 0 = λ end. end ≡ Done → IfSome (g.P.Streams.left pages) (λ input. length input ≤ 2 ^ 32) in
-    subst W (sym c.run_end.ensures) (came_to_end (λ end s s'. IsCause end (side s) (side s')) c.args.store.now c.run_lines-answer.new.from c.run_lines-answer.result (λ none. none) e.within e.cause)
+    subst W (sym c.run_end.ensures) (came_to_end (λ end s s'. IsCause end (side s) (side s') × (end ≢ InputTooLong)) c.args.store.now c.run_lines-answer.new.from c.run_lines-answer.result (λ none. none.0) e.within e.cause)
+
+pub returns-clause-whole : goal.returns-clause-whole
+returns-clause-whole g c =
+    let side = side_of g.P.Streams in
+    let left = g.P.Streams.left in
+    let old = c.args.store.now in
+    let new = c.run_lines-answer.new.from in
+    let e = c.run_lines-answer.ensures in
+    let W : End → Type 0 = λ end. end ≡ Done → IsReadUp (left (shown.pages old)) (left (shown.pages new)) in
+    subst W (sym c.run_end.ensures)
+    (came_to_end (λ end s s'. IsCause end (side s) (side s') × (end ≢ InputTooLong)) old new c.run_lines-answer.result (λ none. none.0) e.whole e.cause)
+
+pub returns-clause-long : goal.returns-clause-long
+returns-clause-long g c =
+    let side = side_of g.P.Streams in
+    let old = c.args.store.now in
+    let new = c.run_lines-answer.new.from in
+    let e = c.run_lines-answer.ensures in
+    let L : End → Type 0 = λ end. end ≡ InputTooLong → IfSome (g.P.Streams.left (shown.pages old)) (λ input. 2 ^ 32 < length input) in
+    subst L (sym c.run_end.ensures)
+    (input_long (λ end s s'. IsCause end (side s) (side s') × (end ≢ InputTooLong)) old new c.run_lines-answer.result (λ never. never.1 refl) e.long e.cause)
 
 pub returns-clause-cause : goal.returns-clause-cause
 returns-clause-cause g c =
@@ -48,7 +70,9 @@ returns-clause-cause g c =
     let C : End → Type 0 = λ end. end ≢ Done → IsCause end (side old) (side new) in
     subst C (sym c.run_end.ensures)
     (end_cause (λ s. shown.view s) (λ s. g.P.Streams.read_faults (shown.pages s)) (λ s. w.beside_read_faults (shown.pages s))
-    (λ end s s'. IsCause end (side s) (side s')) old new c.run_lines-answer.result (λ risen. risen) tt e.faults e.cause)
+    (λ end s s'. IsCause end (side s) (side s')) old new c.run_lines-answer.result (λ risen. risen) tt e.faults
+    (causes_so (λ end s s'. IsCause end (side s) (side s') × (end ≢ InputTooLong)) (λ end s s'. IsCause end (side s) (side s')) old new
+    c.run_lines-answer.result (λ end is. is.0) e.cause))
 
 pub returns-clause-faults : goal.returns-clause-faults
 returns-clause-faults g c =

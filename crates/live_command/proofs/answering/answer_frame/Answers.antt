@@ -18,7 +18,7 @@ use Rattle.live_command.proofs.LineLemmas.{frame_does, line_read, made_moments, 
 use Rattle.chart_world.specs.FaultLaws.{counts_then}
 use Rattle.run_ends.specs.Faults.{end_fault}
 use Rattle.chart_world.specs.Faults.{fault_in}
-use Rattle.live_command.proofs.FaultLemmas.{unmade_counts}
+use Rattle.live_command.proofs.FaultLemmas.{step_short, unmade_counts}
 use Rattle.live_command.proofs.answering.answer_frame.Goals as goal
 
 pub returns-in-Ok-clause-does : goal.returns-in-Ok-clause-does
@@ -112,3 +112,6 @@ pub returns-in-Err-clause-faults : goal.returns-in-Err-clause-faults
 returns-in-Err-clause-faults g c =
     let view = g.P.Pages.view in
     unmade_counts c.in-Err.error c.step_end.result (view (pages c.args.live.now)) (view (pages c.step_line.new.live)) c.step_end.ensures c.in-Err.ensures.faults
+
+pub returns-in-Err-clause-long : goal.returns-in-Err-clause-long
+returns-in-Err-clause-long g c = λ same. step_short c.in-Err.error c.step_end.result c.step_end.ensures same

@@ -1,5 +1,5 @@
 use Rattle.std.proofs.Common.{◌≡◌, ◌∙◌, ℕ, List, Option, None, Some, Ok, Err, IsTrue, ◌^◌, length, refl, ap, sym, subst, arith}
-use Rattle.chart_world.specs.FrontLaws.{gives_by, read_whole, same_line}
+use Rattle.chart_world.specs.FrontLaws.{gives_by, longer, read_up, read_whole, same_line}
 use Rattle.chart_world.specs.Fronts.{Gives}
 use Rattle.chart_world.specs.StandsLaws.{stands_beside, stands_first}
 use Rattle.chart_world.specs.Reading.{Reading, input_length, unread}
@@ -19,7 +19,7 @@ use Rattle.run_ends.specs.declared.ending.End.{End}
 use Rattle.chart_world.specs.FaultLaws.{counts_then, counts_kept}
 use Rattle.chart_service.proofs.Faulting.{counts_lines}
 use Rattle.store_commands.specs.Faulting.{counts_told}
-use Rattle.live_command.proofs.FaultLemmas.{input_fault_is, same_fault}
+use Rattle.live_command.proofs.FaultLemmas.{input_fault_is, input_long_is, same_fault}
 use Rattle.live_command.proofs.serving.answer_lines.Goals as goal
 
 pub lines-init : goal.lines-init
@@ -103,6 +103,20 @@ pub returns-in-End-clause-within : goal.returns-in-End-clause-within
 returns-in-End-clause-within g c =
     let inv = c.lines.invariant in
     read_whole (g.P.Streams.left (pages c.args.live.now)) (g.P.Streams.left (pages c.lines.live)) c.lines.lines (2 ^ 32) (c.in-Ok.ensures.end (ap Ok c.in-End.is)) inv.counted inv.within inv.whole
+
+pub returns-in-End-clause-whole : goal.returns-in-End-clause-whole
+returns-in-End-clause-whole g c =
+    let left = g.P.Streams.left in
+    let inv = c.lines.invariant in
+    let e = c.in-Ok.ensures in
+    read_up (left (pages c.args.live.now)) (left (pages c.lines.live)) (left (pages c.next.new.from)) c.lines.lines c.next.new.self (e.end (ap Ok c.in-End.is)) e.rest (e.total ∙ inv.whole)
+
+pub returns-in-Err-clause-long : goal.returns-in-Err-clause-long
+returns-in-Err-clause-long g c = λ same.
+    let left = g.P.Streams.left in
+    let no = c.in-Err.ensures in
+    longer (left (pages c.args.live.now)) (left (pages c.next.new.from)) c.next.new.self.taken (2 ^ 32)
+    (no.past (ap Err (input_long_is c.in-Err.fault c.input_end.result c.input_end.ensures same))) (no.total ∙ c.lines.invariant.whole)
 
 pub returns-in-End-clause-crash : goal.returns-in-End-clause-crash
 returns-in-End-clause-crash g c = λ total book told stands.

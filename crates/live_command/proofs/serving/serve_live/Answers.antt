@@ -1,4 +1,4 @@
-use Rattle.std.proofs.Common.{subst}
+use Rattle.std.proofs.Common.{Err, ap, subst}
 use Rattle.live_service.specs.Shown as its
 use Rattle.live_command.proofs.ReadLemmas.{reads_nothing}
 use Rattle.live_command.proofs.SyncLemmas.{syncs_nothing}
@@ -34,6 +34,15 @@ returns-clause-within g c = λ is.
     let side = side_of g.P.Streams in
     let C : End → Type 0 = λ end. IsCause end (side c.args.live.now) (side c.answer_lines.new.live) in
     absurd (subst C is c.in-Err.ensures.cause)
+
+pub returns-clause-whole : goal.returns-clause-whole
+returns-clause-whole g c = λ is.
+    let side = side_of g.P.Streams in
+    let C : End → Type 0 = λ end. IsCause end (side c.args.live.now) (side c.answer_lines.new.live) in
+    absurd (subst C is c.in-Err.ensures.cause)
+
+pub returns-clause-long : goal.returns-clause-long
+returns-clause-long g c = λ is. c.in-Err.ensures.long (ap Err is)
 
 pub returns-clause-cause : goal.returns-clause-cause
 returns-clause-cause g c = λ other. c.in-Err.ensures.cause

@@ -7,6 +7,7 @@ use Rattle.chart_world.specs.FaultLaws.{counts_then}
 use Rattle.run_ends.specs.Faults.{end_fault}
 use Rattle.retain_command.proofs.Counting.{sweep_counts}
 use Rattle.retain_command.proofs.DoingLemmas.{rule_answered, rule_stopped, swept_there}
+use Rattle.retain_command.proofs.WorkLemmas.{sweep_short}
 use Rattle.retain_command.proofs.answering.answer_rule.Goals as goal
 
 pub returns-in-Ok-clause-does : goal.returns-in-Ok-clause-does
@@ -42,3 +43,6 @@ returns-in-Ok-clause-faults g c =
 
 pub returns-in-Err-clause-faults : goal.returns-in-Err-clause-faults
 returns-in-Err-clause-faults g c = sweep_counts c.args.at c.in-Err.error c.end_at.result (shown.view c.args.store.now) (shown.view c.sweep.new.store) c.end_at.ensures c.in-Err.ensures.faults
+
+pub returns-in-Err-clause-long : goal.returns-in-Err-clause-long
+returns-in-Err-clause-long g c = λ same. sweep_short c.args.at c.in-Err.error c.end_at.result c.end_at.ensures same

@@ -12,6 +12,7 @@ use Rattle.store_commands.proofs.TurnedAway.{away_never}
 use Rattle.store_commands.proofs.WorldLemmas.{away_over, traffic_over, unopened_over}
 use Rattle.store_commands.specs.Faulting.{counts_unopened_end}
 use Rattle.store_commands.specs.Traffic.{Traffic, traffic}
+use Rattle.store_commands.specs.TrafficLaws.{was_read}
 use Rattle.retain_command.specs.Retained.{RetainEnds}
 use Rattle.retain_command.proofs.DiskLemmas.{retained_by, unopened_ends}
 use Rattle.retain_command.proofs.command.retain.Goals as goal
@@ -40,7 +41,7 @@ returns-in-Ok-clause-ends g c =
     subst P c.disk_of.ensures.disk (c.disk_of.ensures.rests (made.sound other)) in
     let all = retained_by pages.count end_pages.count pages.sound end_pages.sound (view first) (view old) (view new) (shown.total before) (shown.total after) (traffic left sent reads sends old new) made.goes
     (rests_new pages.count (view old) (shown.numbers before) (pages.at_rest opened.sound) (before.space.spelled opened.sound)) (omega (arith, before.space.rules.total_high)) opened.count opened.opens opened.quiet
-    end made.within made.cause made.ends made.crash closed in
+    end (λ done. was_read (left old) (left new) (made.within done) (made.whole done)) made.long made.cause made.ends made.crash closed in
     let same = traffic_over view left sent reads sends w.beside_left w.beside_sent w.beside_read_faults w.beside_send_faults first old new opened.opens.beside_is in
     let T : Traffic → Type 0 = λ t. RetainEnds (view first) (view new) t end in
     let D : g.row.W.Denot → Type 0 = λ d. RetainEnds (view first) (view d) (traffic left sent reads sends first d) end in

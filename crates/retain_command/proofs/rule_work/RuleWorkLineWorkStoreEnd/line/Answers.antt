@@ -1,5 +1,7 @@
 use Rattle.series_store.specs.Shown as shown
-use Rattle.retain_command.proofs.WorkLemmas.{work_done, work_stops}
+use Rattle.store_commands.specs.Sides.{side_of}
+use Rattle.retain_command.specs.Doing.{IsCause}
+use Rattle.retain_command.proofs.WorkLemmas.{cause_short, work_done, work_stops}
 use Rattle.retain_command.proofs.rule_work.RuleWorkLineWorkStoreEnd.line.Goals as goal
 
 pub returns-clause-does : goal.returns-clause-does
@@ -22,3 +24,8 @@ returns-clause-stops g c = λ held stands.
 
 pub returns-clause-leaves : goal.returns-clause-leaves
 returns-clause-leaves g c = λ held stands lasting. (c.answer_line.ensures.does held.total held.book stands.0 stands.1).moments
+
+pub returns-clause-cause : goal.returns-clause-cause
+returns-clause-cause g c =
+    let side = side_of g.P.Streams in
+    cause_short (λ end. IsCause end (side c.args.from.now) (side c.answer_line.new.store)) c.answer_line.result c.answer_line.ensures.cause c.answer_line.ensures.long
