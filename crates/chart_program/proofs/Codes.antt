@@ -1,5 +1,5 @@
 -- The codes of a run, and when they can't come.
-use Rattle.std.proofs.Common.{◌≡◌, ℕ, ℤ, ◌⊎◌, List, [], ◌∷◌, ◌++◌, length, map, Option, Some, None, ap, inl, inr, sym, ◌∙◌, arith, length-append}
+use Rattle.std.proofs.Common.{◌≡◌, ℕ, ℤ, ◌<◌, ◌^◌, refl, ◌⊎◌, List, [], ◌∷◌, ◌++◌, length, map, Option, Some, None, ap, inl, inr, sym, ◌∙◌, arith, length-append}
 use Rattle.std.specs.Prelude.{All, true, IfSome, if◌then◌else◌}
 use Rattle.std.specs.List.{filter}
 use Rattle.std.proofs.lemmas.List.{length-map}
@@ -8,6 +8,7 @@ use Rattle.chart_world.specs.Lines.{lines}
 use Rattle.chart_world.specs.LineLaws.{lines_none, lines_joined}
 use Rattle.chart_world.specs.Fronts.{says, IsWhole}
 use Rattle.plain_chart.specs.Samples.{IsSlot}
+use Rattle.store_commands.specs.Traffic.{IsLong}
 use Rattle.chart_program.specs.Slots.{spelling, SpellsSlot, Behind, FirstBad, HasTooMany}
 use Rattle.chart_program.specs.Ran.{HasTooMuch, IsSlots}
 use Rattle.chart_program.proofs.Ending.{says_true}
@@ -81,3 +82,8 @@ told_all (Some input) P holds = holds
 pub told_both : (o : Option (List ℕ)) (P : Type 0) (Q : List ℕ → Type 0) → P → IfSome o Q → IfSome o (λ input. P × Q input)
 told_both None P Q first second = tt
 told_both (Some input) P Q first second = (first, second)
+
+-- an input that is longer than 2^32 bytes, which is told by that number
+pub told_long : (o : Option (List ℕ)) (Q : List ℕ → Type 0) → IsLong o → IfSome o Q → IfSome o (λ input. (2 ^ 32 ≡ 2 ^ 32) × (2 ^ 32 < length input) × Q input)
+told_long None Q long so = tt
+told_long (Some input) Q long so = (refl, long, so)

@@ -16,7 +16,7 @@ use Rattle.program_words.specs.declared.words.Command.TheVariants.{Derive}
 use Rattle.chart_program.specs.CommandStatuses.{codes_of}
 use Rattle.chart_program.specs.Served.{Faults}
 use Rattle.chart_program.specs.Ran.{AreDerived, CommandEnds}
-use Rattle.chart_program.proofs.Codes.{told_all, told_both}
+use Rattle.chart_program.proofs.Codes.{told_all, told_long}
 use Rattle.chart_program.proofs.CommandsEnd.{all_told}
 use Rattle.chart_program.proofs.Counts.{told_any}
 use Rattle.chart_program.proofs.EndsByCode.{Came, by_code, completes}
@@ -48,7 +48,7 @@ module _ (old new : View) (left left' before now : Option (List ℕ)) (faults : 
   derive_came (DamagedBlock block) cause sent = (inl cause.0, sent, inl (cause.0.0, cause.1))
   derive_came (DamagedPage page) cause sent = (inr cause, sent, inr cause)
   derive_came (BadInput at) cause sent = sent
-  derive_came InputTooLong cause sent = told_both left _ _ refl sent
+  derive_came InputTooLong cause sent = told_long left _ cause sent
   derive_came (TooSmall blocks) cause sent = cause
   derive_came (RefusedLine at number) cause sent = refused old left before now at number sent
   derive_came end cause sent = absurd cause
@@ -82,6 +82,7 @@ module _ (old new : View) (left left' before now : Option (List ℕ)) (faults : 
     holds = λ other. told_all left _ (λ total book held. (book, e.holds total book held));
     crash = all_told left before _ e.crash;
     disk = e.goes_on;
+    honest = e.honest;
     complete = completes left (λ input. AreDerived old new input) end (of_derive old new passed end e away).good;
     drawn = λ command. cc;
     ready = λ command. cc;

@@ -39,7 +39,7 @@ module _ (old new : View) (t : Traffic) where
   derive_does (DamagedBlock block) cause sent = (record { at_first = cause.0; took_nothing = cause.1.0; sent_nothing = cause.1.1 }, sent)
   derive_does (DamagedPage page) cause sent = (cause, sent)
   derive_does (BadInput offset) cause sent = sent
-  derive_does InputTooLong cause sent = sent
+  derive_does InputTooLong cause sent = (cause, sent)
   derive_does (TooSmall blocks) cause sent = cause
   derive_does (RefusedLine offset number) cause sent =
       told_so (Sends (RefusedLine offset number)) (λ input. DerivesToRefused (page_count old.size) old input (refused_at offset number) t.sent t.sent_now) t.left (refused offset number) sent

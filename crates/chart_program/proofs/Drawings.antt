@@ -3,6 +3,7 @@ use Rattle.std.proofs.Common.{◌≡◌, ◌≢◌, ◌≤◌, ◌^◌, inl, inr
 use Rattle.std.specs.Prelude.{Contains}
 use Rattle.block_disk.specs.Counts.{HasRisen}
 use Rattle.block_disk.specs.View.{View}
+use Rattle.gate_pages.specs.GateLaws.{kept_told}
 use Rattle.draw_command.specs.Alone.{StaysAlone}
 use Rattle.chart_world.specs.LineLaws.{told_so}
 use Rattle.om3_coeff.specs.declared.key.Key.{Key}
@@ -12,6 +13,7 @@ use Rattle.draw_command.specs.declared.draw_end.DrawEnd.{DrawEnd}
 use Rattle.draw_command.specs.declared.draw_end.DrawEnd.TheVariants as draw_end
 use Rattle.draw_command.specs.declared.draw_end.DrawEnd.TheVariants.{NoMemory, ReadFault, InputTooLong, BadFrame, Missing, BadCoefficient, UnknownSession}
 use Rattle.run_ends.specs.Statuses.{code_of, place_of}
+use Rattle.store_commands.specs.Traffic.{WasRead}
 use Rattle.chart_program.specs.declared.input.InputEnd.TheVariants as input
 use Rattle.chart_program.specs.declared.plot.PlotEnd.{PlotEnd}
 use Rattle.chart_program.specs.declared.plot.PlotEnd.TheVariants.{Input, SendFault}
@@ -44,7 +46,7 @@ module _ {T : Type 0} (old new : View) (left left' before now : Option (List ℕ
   -- ---- a plot
 
   module _ (w h : ℕ) where
-    plot_came : (r : Result T PlotEnd) → OnOk r (IfSome left (λ input. SendsPlot w h input before now)) → OnOk r (IfSome left (λ input. length input ≤ 2 ^ 32)) → IfErr r (λ end. IfSome left (λ input. EndsPlot w h input left' before now end))
+    plot_came : (r : Result T PlotEnd) → OnOk r (IfSome left (λ input. SendsPlot w h input before now)) → OnOk r (WasRead left left') → IfErr r (λ end. IfSome left (λ input. EndsPlot w h input left' before now end))
         → IfErr r (λ end. end ≢ SendFault → now ≡ before) → (r ≡ Err (Input input.ReadFault) → HasRisen faults.reads faults.reads_now) → (r ≡ Err SendFault → HasRisen faults.sends faults.sends_now) → Came (Plot w h) old new left left' before now faults (plotting_end r)
     plot_came (Ok all) done within ends unsent read send = (within, done, tt)
     plot_came (Err SendFault) done within ends unsent read send = (send refl, ends)
@@ -81,7 +83,7 @@ module _ {T : Type 0} (old new : View) (left left' before now : Option (List ℕ
     plot_good (Err (Input input.TooManySlots)) ends =
         told_so HasTooMany (λ input. IsSlots input → Contains of_done 9) left (λ input many good. absurd (no_much input most_slots good (inl (refl, many)))) ends
 
-    pub plotted : (r : Result T PlotEnd) → OnOk r (IfSome left (λ input. SendsPlot w h input before now)) → OnOk r (IfSome left (λ input. length input ≤ 2 ^ 32)) → IfErr r (λ end. IfSome left (λ input. EndsPlot w h input left' before now end))
+    pub plotted : (r : Result T PlotEnd) → OnOk r (IfSome left (λ input. SendsPlot w h input before now)) → OnOk r (WasRead left left') → IfErr r (λ end. IfSome left (λ input. EndsPlot w h input left' before now end))
         → IfErr r (λ end. end ≢ SendFault → now ≡ before) → (r ≡ Err (Input input.ReadFault) → HasRisen faults.reads faults.reads_now) → (r ≡ Err SendFault → HasRisen faults.sends faults.sends_now) → StaysAlone old new
         → CommandEnds (Plot w h) old new left left' before now faults (code_of (plotting_end r)) (place_of (plotting_end r))
     plotted r done within ends unsent read send disk = by_code (Plot w h) old new left left' before now faults (plotting_end r) (record {
@@ -98,6 +100,7 @@ module _ {T : Type 0} (old new : View) (left left' before now : Option (List ℕ
       holds = λ other. told_all left _ (alone_holds old new disk);
       crash = all_told left before _ (alone_leaves old new disk);
       disk = disk.kept;
+      honest = kept_told old new disk.kept;
       complete = plot_good r ends;
       drawn = λ command. cc;
       ready = λ command. cc;
@@ -133,7 +136,7 @@ module _ {T : Type 0} (old new : View) (left left' before now : Option (List ℕ
   drawing_good every known stay (Err (BadCoefficient key)) ends = misfit_never every known _ left left' before now key ends
   drawing_good every known stay (Err (UnknownSession n)) ends = unopened_never every known _ left left' before now n ends
 
-  draw_came : (r : Result T DrawEnd) → OnOk r (IfSome left (λ input. DrawsAll None input before now)) → OnOk r (IfSome left (λ input. length input ≤ 2 ^ 32)) → IfErr r (λ end. IfSome left (λ input. EndsDraw None input left' before now end))
+  draw_came : (r : Result T DrawEnd) → OnOk r (IfSome left (λ input. DrawsAll None input before now)) → OnOk r (WasRead left left') → IfErr r (λ end. IfSome left (λ input. EndsDraw None input left' before now end))
       → (r ≡ Err ReadFault → HasRisen faults.reads faults.reads_now) → (r ≡ Err draw_end.SendFault → HasRisen faults.sends faults.sends_now) → Came Draw old new left left' before now faults (drawing_end r)
   draw_came (Ok all) done within ends read send = (within, done, tt)
   draw_came (Err NoMemory) done within ends read send = ends
@@ -145,7 +148,7 @@ module _ {T : Type 0} (old new : View) (left left' before now : Option (List ℕ
   draw_came (Err (BadCoefficient key)) done within ends read send = keyed left before now None BadCoefficient key ends
   draw_came (Err (UnknownSession n)) done within ends read send = ends
 
-  pub drawn : Known → Stay → AllDraw → OwnDraw → AllAccepted → OwnAccepted → (r : Result T DrawEnd) → OnOk r (IfSome left (λ input. DrawsAll None input before now)) → OnOk r (IfSome left (λ input. length input ≤ 2 ^ 32))
+  pub drawn : Known → Stay → AllDraw → OwnDraw → AllAccepted → OwnAccepted → (r : Result T DrawEnd) → OnOk r (IfSome left (λ input. DrawsAll None input before now)) → OnOk r (WasRead left left')
       → IfErr r (λ end. IfSome left (λ input. EndsDraw None input left' before now end)) → (r ≡ Err ReadFault → HasRisen faults.reads faults.reads_now) → (r ≡ Err draw_end.SendFault → HasRisen faults.sends faults.sends_now) → StaysAlone old new
       → CommandEnds Draw old new left left' before now faults (code_of (drawing_end r)) (place_of (drawing_end r))
   drawn known stay draws own accepts own_accepts r done within ends read send disk = by_code Draw old new left left' before now faults (drawing_end r) (record {
@@ -162,6 +165,7 @@ module _ {T : Type 0} (old new : View) (left left' before now : Option (List ℕ
     holds = λ other. told_all left _ (alone_holds old new disk);
     crash = all_told left before _ (alone_leaves old new disk);
     disk = disk.kept;
+    honest = kept_told old new disk.kept;
     complete = drawing_good None known stay r ends;
     drawn = λ command. replies_end accepts own_accepts left _ (drawing_good None known stay r ends);
     ready = λ command. cc;
@@ -169,7 +173,7 @@ module _ {T : Type 0} (old new : View) (left left' before now : Option (List ℕ
 
   -- and one with covers
   module _ (every : ℕ) where
-    cover_came : (r : Result T DrawEnd) → OnOk r (IfSome left (λ input. DrawsAll (Some every) input before now)) → OnOk r (IfSome left (λ input. length input ≤ 2 ^ 32)) → IfErr r (λ end. IfSome left (λ input. EndsDraw (Some every) input left' before now end))
+    cover_came : (r : Result T DrawEnd) → OnOk r (IfSome left (λ input. DrawsAll (Some every) input before now)) → OnOk r (WasRead left left') → IfErr r (λ end. IfSome left (λ input. EndsDraw (Some every) input left' before now end))
         → (r ≡ Err ReadFault → HasRisen faults.reads faults.reads_now) → (r ≡ Err draw_end.SendFault → HasRisen faults.sends faults.sends_now) → Came (Cover every) old new left left' before now faults (drawing_end r)
     cover_came (Ok all) done within ends read send = (within, done, tt)
     cover_came (Err NoMemory) done within ends read send = ends
@@ -181,7 +185,7 @@ module _ {T : Type 0} (old new : View) (left left' before now : Option (List ℕ
     cover_came (Err (BadCoefficient key)) done within ends read send = keyed left before now (Some every) BadCoefficient key ends
     cover_came (Err (UnknownSession n)) done within ends read send = ends
 
-    pub covered : Known → Stay → (r : Result T DrawEnd) → OnOk r (IfSome left (λ input. DrawsAll (Some every) input before now)) → OnOk r (IfSome left (λ input. length input ≤ 2 ^ 32))
+    pub covered : Known → Stay → (r : Result T DrawEnd) → OnOk r (IfSome left (λ input. DrawsAll (Some every) input before now)) → OnOk r (WasRead left left')
         → IfErr r (λ end. IfSome left (λ input. EndsDraw (Some every) input left' before now end)) → (r ≡ Err ReadFault → HasRisen faults.reads faults.reads_now) → (r ≡ Err draw_end.SendFault → HasRisen faults.sends faults.sends_now) → StaysAlone old new
         → CommandEnds (Cover every) old new left left' before now faults (code_of (drawing_end r)) (place_of (drawing_end r))
     covered known stay r done within ends read send disk = by_code (Cover every) old new left left' before now faults (drawing_end r) (record {
@@ -198,6 +202,7 @@ module _ {T : Type 0} (old new : View) (left left' before now : Option (List ℕ
       holds = λ other. told_all left _ (alone_holds old new disk);
       crash = all_told left before _ (alone_leaves old new disk);
       disk = disk.kept;
+      honest = kept_told old new disk.kept;
       complete = drawing_good (Some every) known stay r ends;
       drawn = λ command. cc;
       ready = λ command. cc;

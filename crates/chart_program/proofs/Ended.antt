@@ -12,7 +12,7 @@ use Rattle.store_commands.specs.Codes.{low_code}
 use Rattle.run_ends.specs.declared.status.Status.{Status}
 use Rattle.chart_program.specs.Ended.{EndsBy, HasNumberedKey, status_by}
 use Rattle.chart_program.specs.Served.{Says, Faults, IsWorldCause, ServesWorld}
-use Rattle.chart_program.proofs.Codes.{told_both}
+use Rattle.chart_program.proofs.Codes.{told_long}
 use Rattle.chart_program.proofs.Apart.{apart}
 
 -- the first of two facts, where the input is told
@@ -51,6 +51,7 @@ ends_by IsText CanShow old new left left' before now faults (Ok u) s = record {
   crash = s.crash;
   reads = s.reads;
   syncs = s.syncs;
+  honest = s.honest;
   goes_on = s.goes_on;
 }
 ends_by IsText CanShow old new left left' before now faults (Err (lines_end.Opening (opening.TooSmall size))) s = record {
@@ -76,6 +77,7 @@ ends_by IsText CanShow old new left left' before now faults (Err (lines_end.Open
   crash = s.crash;
   reads = s.reads;
   syncs = s.syncs;
+  honest = s.honest;
   goes_on = s.goes_on;
 }
 ends_by IsText CanShow old new left left' before now faults (Err (lines_end.Opening (opening.Damaged block))) s = record {
@@ -101,6 +103,7 @@ ends_by IsText CanShow old new left left' before now faults (Err (lines_end.Open
   crash = s.crash;
   reads = s.reads;
   syncs = s.syncs;
+  honest = s.honest;
   goes_on = s.goes_on;
 }
 ends_by IsText CanShow old new left left' before now faults (Err (lines_end.Opening opening.DiskFault)) s = record {
@@ -126,6 +129,7 @@ ends_by IsText CanShow old new left left' before now faults (Err (lines_end.Open
   crash = s.crash;
   reads = s.reads;
   syncs = s.syncs;
+  honest = s.honest;
   goes_on = s.goes_on;
 }
 ends_by IsText CanShow old new left left' before now faults (Err (lines_end.Opening opening.NoMemory)) s = record {
@@ -151,6 +155,7 @@ ends_by IsText CanShow old new left left' before now faults (Err (lines_end.Open
   crash = s.crash;
   reads = s.reads;
   syncs = s.syncs;
+  honest = s.honest;
   goes_on = s.goes_on;
 }
 ends_by IsText CanShow old new left left' before now faults (Err (lines_end.Answering (run_end.Serve serve_end.ReadFault))) s = record {
@@ -176,6 +181,7 @@ ends_by IsText CanShow old new left left' before now faults (Err (lines_end.Answ
   crash = s.crash;
   reads = s.reads;
   syncs = s.syncs;
+  honest = s.honest;
   goes_on = s.goes_on;
 }
 ends_by IsText CanShow old new left left' before now faults (Err (lines_end.Answering (run_end.Serve serve_end.SendFault))) s = record {
@@ -201,6 +207,7 @@ ends_by IsText CanShow old new left left' before now faults (Err (lines_end.Answ
   crash = s.crash;
   reads = s.reads;
   syncs = s.syncs;
+  honest = s.honest;
   goes_on = s.goes_on;
 }
 ends_by IsText CanShow old new left left' before now faults (Err (lines_end.Answering (run_end.Serve serve_end.DiskFault))) s = record {
@@ -226,6 +233,7 @@ ends_by IsText CanShow old new left left' before now faults (Err (lines_end.Answ
   crash = s.crash;
   reads = s.reads;
   syncs = s.syncs;
+  honest = s.honest;
   goes_on = s.goes_on;
 }
 ends_by IsText CanShow old new left left' before now faults (Err (lines_end.Answering (run_end.Serve (serve_end.Damaged page)))) s = record {
@@ -251,6 +259,7 @@ ends_by IsText CanShow old new left left' before now faults (Err (lines_end.Answ
   crash = s.crash;
   reads = s.reads;
   syncs = s.syncs;
+  honest = s.honest;
   goes_on = s.goes_on;
 }
 ends_by IsText CanShow old new left left' before now faults (Err (lines_end.Answering (run_end.Serve serve_end.InputTooLong))) s = record {
@@ -266,7 +275,7 @@ ends_by IsText CanShow old new left left' before now faults (Err (lines_end.Answ
   faulted = λ is. apart is refl;
   damaged = λ is. apart is refl;
   undamaged = λ is. apart is refl;
-  much = λ is. told_both left (2 ^ 32 ≡ 2 ^ 32) _ refl s.ends;
+  much = λ is. told_long left _ (s.long refl) s.ends;
   missing = λ is. apart is refl;
   misfit = λ is. apart is refl;
   small = λ is. apart is refl;
@@ -276,6 +285,7 @@ ends_by IsText CanShow old new left left' before now faults (Err (lines_end.Answ
   crash = s.crash;
   reads = s.reads;
   syncs = s.syncs;
+  honest = s.honest;
   goes_on = s.goes_on;
 }
 ends_by IsText CanShow old new left left' before now faults (Err (lines_end.Answering (run_end.Serve serve_end.NoMemory))) s = record {
@@ -301,6 +311,7 @@ ends_by IsText CanShow old new left left' before now faults (Err (lines_end.Answ
   crash = s.crash;
   reads = s.reads;
   syncs = s.syncs;
+  honest = s.honest;
   goes_on = s.goes_on;
 }
 ends_by IsText CanShow old new left left' before now faults (Err (lines_end.Answering (run_end.Show (client.Missing key)))) s = record {
@@ -326,6 +337,7 @@ ends_by IsText CanShow old new left left' before now faults (Err (lines_end.Answ
   crash = s.crash;
   reads = s.reads;
   syncs = s.syncs;
+  honest = s.honest;
   goes_on = s.goes_on;
 }
 ends_by IsText CanShow old new left left' before now faults (Err (lines_end.Answering (run_end.Show (client.BadCoefficient key)))) s = record {
@@ -351,6 +363,7 @@ ends_by IsText CanShow old new left left' before now faults (Err (lines_end.Answ
   crash = s.crash;
   reads = s.reads;
   syncs = s.syncs;
+  honest = s.honest;
   goes_on = s.goes_on;
 }
 ends_by IsText CanShow old new left left' before now faults (Err (lines_end.Answering (run_end.Show (client.UnknownSession number)))) s = absurd s.cause
@@ -377,18 +390,19 @@ ends_by IsText CanShow old new left left' before now faults (Err (lines_end.Answ
   crash = s.crash;
   reads = s.reads;
   syncs = s.syncs;
+  honest = s.honest;
   goes_on = s.goes_on;
 }
 
 -- the keys of the ends have numbers
-pub numbered_by : {T : Type 0} (CanShow : Type 0) (old new : View) (faults : Faults) (answer : Result T LinesEnd) → IfErr answer (λ end. IsWorldCause CanShow old new faults end) → IfErr answer HasNumberedKey
-numbered_by CanShow old new faults (Ok u) is = tt
-numbered_by CanShow old new faults (Err (lines_end.Opening cause)) is = tt
-numbered_by CanShow old new faults (Err (lines_end.Answering (run_end.Serve end))) is = tt
-numbered_by CanShow old new faults (Err (lines_end.Answering (run_end.Show (client.Missing key)))) is = is.1
-numbered_by CanShow old new faults (Err (lines_end.Answering (run_end.Show (client.BadCoefficient key)))) is = is.1
-numbered_by CanShow old new faults (Err (lines_end.Answering (run_end.Show (client.UnknownSession number)))) is = tt
-numbered_by CanShow old new faults (Err (lines_end.Answering (run_end.Show client.NoMemory))) is = tt
+pub numbered_by : {T : Type 0} (CanShow : Type 0) (old new : View) (before now : Option (List ℕ)) (faults : Faults) (answer : Result T LinesEnd) → IfErr answer (λ end. IsWorldCause CanShow old new before now faults end) → IfErr answer HasNumberedKey
+numbered_by CanShow old new before now faults (Ok u) is = tt
+numbered_by CanShow old new before now faults (Err (lines_end.Opening cause)) is = tt
+numbered_by CanShow old new before now faults (Err (lines_end.Answering (run_end.Serve end))) is = tt
+numbered_by CanShow old new before now faults (Err (lines_end.Answering (run_end.Show (client.Missing key)))) is = is.1
+numbered_by CanShow old new before now faults (Err (lines_end.Answering (run_end.Show (client.BadCoefficient key)))) is = is.1
+numbered_by CanShow old new before now faults (Err (lines_end.Answering (run_end.Show (client.UnknownSession number)))) is = tt
+numbered_by CanShow old new before now faults (Err (lines_end.Answering (run_end.Show client.NoMemory))) is = tt
 
 pub ends_so : {T : Type 0} (IsText : Says) (CanShow : Type 0) (old new : View) (left left' before now : Option (List ℕ)) (faults : Faults) (answer : Result T LinesEnd) (status : Status) → status ≡ status_by answer → ServesWorld IsText CanShow old new left left' before now faults answer
     → EndsBy IsText CanShow old new left left' before now faults status.code status.place

@@ -2,7 +2,7 @@
 use Rattle.std.proofs.Common.{◌≡◌, ℕ, zero, suc, ◌-◌, ◌<◌, ◌⊎◌, List, [], ◌∷◌, Option, Some, None, IfSome, refl, ap, arith}
 use Rattle.std.specs.Prelude.{Contains, ◌≢◌, ◌+◌, ◌*◌, ◌^◌}
 use Rattle.block_disk.specs.Counts.{HasRisen}
-use Rattle.block_disk.specs.View.{View}
+use Rattle.block_disk.specs.View.{Honest, View}
 use Rattle.gate_pages.specs.Journal.{page_count}
 use Rattle.program_words.specs.declared.words.Command.{Command}
 use Rattle.program_words.specs.declared.words.Command.TheVariants.{Init, Draw}
@@ -53,7 +53,7 @@ module _ (command : Command) (old new : View) (left left' before now : Option (L
 
   -- what it did, by how it ended
   abbrev pub Came : End → Type 0
-  Came Done = IfSome left (IsWithin command) × IfSome left (λ input. SendsAll command old new input before now) × IsMade command old new
+  Came Done = IfSome left (IsWithin command left') × IfSome left (λ input. SendsAll command old new input before now) × IsMade command old new
   Came (WrongWords word) = ⊥
   Came NoMemory = IfSome left (λ input. IsCutShort command old new input before now)
   Came ReadFault = HasRisen faults.reads faults.reads_now × IfSome left (λ input. IfSome left' (StopsBefore command old new input before now))
@@ -171,6 +171,7 @@ module _ (command : Command) (old new : View) (left left' before now : Option (L
     pub holds : code_of end ≢ 6 → IfSome left (λ input. HoldsAgain (page_count old.size) old new)
     pub crash : IfSome left (λ input. LeavesTold command old new input before now)
     pub disk : LeavesDisk command old new
+    pub honest : Honest old → Honest new
     pub complete : IfSome left (λ input. IsInput command old new input → Contains of_done (code_of end))
     pub drawn : command ≡ Draw → IfSome left (λ input. IsOfReplies input → Contains of_done (code_of end))
     pub ready : command ≡ Init → IsFree old → (HasRisen old.faults new.faults → ⊥) → (code_of end ≡ 0) ⊎ (code_of end ≡ 3)
@@ -214,6 +215,7 @@ module _ (command : Command) (old new : View) (left left' before now : Option (L
     holds = e.holds;
     crash = e.crash;
     disk = e.disk;
+    honest = e.honest;
     made = λ is. (on_done end e.came is).2;
     complete = e.complete;
     drawn = e.drawn;

@@ -2,7 +2,7 @@
 use Rattle.std.proofs.Common.{◌≡◌, ℕ, ◌<◌, ◌⊎◌, List, Option, Some, None, IfSome, refl, ap, arith, inl, inr}
 use Rattle.std.specs.Prelude.{Contains}
 use Rattle.block_disk.specs.Counts.{HasRisen}
-use Rattle.block_disk.specs.View.{View}
+use Rattle.block_disk.specs.View.{Honest, View}
 use Rattle.chart_world.specs.FaultLaws.{counts_disk, counts_no_disk}
 use Rattle.chart_world.specs.Faults.{CountsFault}
 use Rattle.empty_store.specs.Causes.{Prevents}
@@ -76,9 +76,9 @@ module _ (old new : View) (left left' before now : Option (List ℕ)) (faults : 
   ready_code end (inl is) = inl (ap (λ (x : End). code_of x) is)
   ready_code end (inr is) = inr (ap (λ (x : End). code_of x) is)
 
-  pub init_ends : (end : End) → IsInitEnd end old new → (old.size < 128 → IsTurnedAway left left' before now (code_of end)) → left' ≡ left → now ≡ before → LeavesDisk Init old new
+  pub init_ends : (end : End) → IsInitEnd end old new → (old.size < 128 → IsTurnedAway left left' before now (code_of end)) → left' ≡ left → now ≡ before → LeavesDisk Init old new → (Honest old → Honest new)
       → (IsFree old → (HasRisen old.faults new.faults → ⊥) → (end ≡ Done) ⊎ (end ≡ NoMemory)) → CommandEnds Init old new left left' before now faults (code_of end) (place_of end)
-  init_ends end is away untaken sent disk ready = by_code Init old new left left' before now faults end (record {
+  init_ends end is away untaken sent disk honest ready = by_code Init old new left left' before now faults end (record {
     came = init_came sent end is;
     own = init_own end is;
     away = λ over. away;
@@ -92,6 +92,7 @@ module _ (old new : View) (left left' before now : Option (List ℕ)) (faults : 
     holds = λ other. told_all left _ (init_holds old new disk);
     crash = all_told left before _ (init_leaves old new disk);
     disk = disk;
+    honest = honest;
     complete = never_input left _;
     drawn = λ command. cc;
     ready = λ command free whole. ready_code end (ready free whole);

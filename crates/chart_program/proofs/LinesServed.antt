@@ -1,6 +1,8 @@
 -- What a service did over a disk is what a serving command does.
-use Rattle.std.proofs.Common.{◌≡◌, ℕ, ◌≤◌, ◌^◌, Bool, List, [], length, Option, Some, None, Result, Ok, Err, IfSome, refl, sym, ap, subst, arith}
+use Rattle.std.proofs.Common.{◌≡◌, ℕ, ◌≤◌, ◌^◌, Bool, List, [], length, Option, Some, None, Result, Ok, Err, IfSome, refl, sym, ap, subst, arith, take, ◌∙◌}
+use Rattle.std.proofs.lemmas.List.{take_all}
 use Rattle.std.specs.Prelude.{OnOk, IfErr}
+use Rattle.block_disk.specs.Streams.{sent_after}
 use Rattle.block_disk.specs.View.{View, Honest, sent_now}
 use Rattle.chart_world.specs.LineLaws.{told_so}
 use Rattle.chart_client.specs.Showing.{RejectsBytes, ScreenGives}
@@ -27,7 +29,8 @@ use Rattle.chart_service.specs.MomentLaws.{since_none}
 use Rattle.chart_program.specs.declared.run_end.RunEnd.{RunEnd}
 use Rattle.chart_program.specs.declared.run_end.RunEnd.TheVariants as run_end
 use Rattle.chart_program.specs.Runs.{AreShown, AreShownFrom, EndsRun, EndsAtBad}
-use Rattle.chart_program.specs.Served.{Says, Spelled, AreTexts, Faults, AnswersAll, EndsServing, EndsLines, LeavesBooks, IsAheadOn, IsLinesCause, IsRejected, ReadsFrom, SyncsFrom, ServesLines, served}
+use Rattle.chart_program.specs.Served.{Says, Spelled, AreTexts, Faults, AnswersAll, EndsServing, EndsLines, LeavesBooks, IsAheadOn, IsLinesCause, RejectsNext, ReadsFrom, SyncsFrom, ServesLines, served}
+use Rattle.store_commands.specs.Traffic.{IsLong, WasRead}
 use Rattle.store_commands.specs.Books.{OfBook, HoldsAgain, begun}
 use Rattle.store_commands.proofs.HoldsAgain.{again_from}
 use Rattle.chart_program.proofs.Counts.{reads_none, syncs_none}
@@ -59,22 +62,22 @@ of_told : (o : Option (List ℕ)) (input : List ℕ) (P : List ℕ → Type 0) �
 of_told o input P is all = let Q : Option (List ℕ) → Type 0 = λ x. IfSome x P in subst Q is all
 
 -- the causes of a serving
-pub serve_cause : (count count' : ℕ) (old new : View) (faults : Faults) (CanShow : Type 0) (end : ServeEnd) → count' ≡ count
-    → (end ≡ serve_end.ReadFault → IsLinesCause CanShow count old new faults (run_end.Serve serve_end.ReadFault)) → (end ≡ serve_end.SendFault → IsLinesCause CanShow count old new faults (run_end.Serve serve_end.SendFault)) → (end ≡ serve_end.DiskFault → IsLinesCause CanShow count old new faults (run_end.Serve serve_end.DiskFault))
-    → serving.EndsAtBad (Honest new) count' (pages_of count' new.image) end → IsLinesCause CanShow count old new faults (run_end.Serve end)
-serve_cause count count' old new faults CanShow serve_end.ReadFault same read send disk bad = read refl
-serve_cause count count' old new faults CanShow serve_end.SendFault same read send disk bad = send refl
-serve_cause count count' old new faults CanShow serve_end.DiskFault same read send disk bad = disk refl
-serve_cause count count' old new faults CanShow (serve_end.Damaged page) same read send disk bad = later_bad count count' new page same bad.0 bad.1
-serve_cause count count' old new faults CanShow serve_end.InputTooLong same read send disk bad = tt
-serve_cause count count' old new faults CanShow serve_end.NoMemory same read send disk bad = tt
+pub serve_cause : (count count' : ℕ) (old new : View) (before now : Option (List ℕ)) (faults : Faults) (CanShow : Type 0) (end : ServeEnd) → count' ≡ count
+    → (end ≡ serve_end.ReadFault → IsLinesCause CanShow count old new before now faults (run_end.Serve serve_end.ReadFault)) → (end ≡ serve_end.SendFault → IsLinesCause CanShow count old new before now faults (run_end.Serve serve_end.SendFault)) → (end ≡ serve_end.DiskFault → IsLinesCause CanShow count old new before now faults (run_end.Serve serve_end.DiskFault))
+    → serving.EndsAtBad (Honest new) count' (pages_of count' new.image) end → IsLinesCause CanShow count old new before now faults (run_end.Serve end)
+serve_cause count count' old new before now faults CanShow serve_end.ReadFault same read send disk bad = read refl
+serve_cause count count' old new before now faults CanShow serve_end.SendFault same read send disk bad = send refl
+serve_cause count count' old new before now faults CanShow serve_end.DiskFault same read send disk bad = disk refl
+serve_cause count count' old new before now faults CanShow (serve_end.Damaged page) same read send disk bad = later_bad count count' new page same bad.0 bad.1
+serve_cause count count' old new before now faults CanShow serve_end.InputTooLong same read send disk bad = tt
+serve_cause count count' old new before now faults CanShow serve_end.NoMemory same read send disk bad = tt
 
-pub serve_causes : {T : Type 0} (count count' : ℕ) (old new : View) (faults : Faults) (CanShow : Type 0) (answer : Result T ServeEnd) → count' ≡ count
-    → (answer ≡ Err serve_end.ReadFault → IsLinesCause CanShow count old new faults (run_end.Serve serve_end.ReadFault)) → (answer ≡ Err serve_end.SendFault → IsLinesCause CanShow count old new faults (run_end.Serve serve_end.SendFault)) → (answer ≡ Err serve_end.DiskFault → IsLinesCause CanShow count old new faults (run_end.Serve serve_end.DiskFault))
-    → IfErr answer (serving.EndsAtBad (Honest new) count' (pages_of count' new.image)) → IfErr answer (λ end. IsLinesCause CanShow count old new faults (run_end.Serve end))
-serve_causes count count' old new faults CanShow (Ok v) same read send disk bad = tt
-serve_causes count count' old new faults CanShow (Err end) same read send disk bad =
-    serve_cause count count' old new faults CanShow end same (λ is. read (ap Err is)) (λ is. send (ap Err is)) (λ is. disk (ap Err is)) bad
+pub serve_causes : {T : Type 0} (count count' : ℕ) (old new : View) (before now : Option (List ℕ)) (faults : Faults) (CanShow : Type 0) (answer : Result T ServeEnd) → count' ≡ count
+    → (answer ≡ Err serve_end.ReadFault → IsLinesCause CanShow count old new before now faults (run_end.Serve serve_end.ReadFault)) → (answer ≡ Err serve_end.SendFault → IsLinesCause CanShow count old new before now faults (run_end.Serve serve_end.SendFault)) → (answer ≡ Err serve_end.DiskFault → IsLinesCause CanShow count old new before now faults (run_end.Serve serve_end.DiskFault))
+    → IfErr answer (serving.EndsAtBad (Honest new) count' (pages_of count' new.image)) → IfErr answer (λ end. IsLinesCause CanShow count old new before now faults (run_end.Serve end))
+serve_causes count count' old new before now faults CanShow (Ok v) same read send disk bad = tt
+serve_causes count count' old new before now faults CanShow (Err end) same read send disk bad =
+    serve_cause count count' old new before now faults CanShow end same (λ is. read (ap Err is)) (λ is. send (ap Err is)) (λ is. disk (ap Err is)) bad
 
 -- what is known of a service over the pages of a disk
 module _ (count count' : ℕ) (sound sound' : Bool) (old new : View) (left left' before now : Option (List ℕ)) (faults : Faults) (sessions : List Session)
@@ -100,15 +103,16 @@ module _ (count count' : ℕ) (sound sound' : Bool) (old new : View) (left left'
       (λ input all. leaves_lowered Spelled count count' sound sound' old new input same goes all)
       (crash_for left before (λ total book. HoldsBook count total book old) X (λ total book holds. lasts total book holds.honest (stands_held count total book old rests holds)))
 
-  serve_alone : {T : Type 0} (answer : Result T ServeEnd) → AllDone answer [] → OnOk answer (IfSome left (λ input. length input ≤ 2 ^ 32)) → AllEnds answer [] → AllLasts [] → ((answer ≡ Err serve_end.DiskFault → ⊥) → IsClosed new)
-      → IfErr answer (λ end. IsLinesCause ⊥ count old new faults (run_end.Serve end)) → IfSome left (λ input. ReadsFrom count old new input old.reads) → IfSome left (λ input. SyncsFrom count old new input old.syncs) → ServesLines Spelled ⊥ count old new left left' before now faults (served answer)
-  serve_alone {T} (Ok v) done within ends lasts closed cause reads syncs =
+  serve_alone : {T : Type 0} (answer : Result T ServeEnd) → AllDone answer [] → OnOk answer (WasRead left left') → (answer ≡ Err serve_end.InputTooLong → IsLong left) → AllEnds answer [] → AllLasts [] → ((answer ≡ Err serve_end.DiskFault → ⊥) → IsClosed new)
+      → IfErr answer (λ end. IsLinesCause ⊥ count old new before now faults (run_end.Serve end)) → IfSome left (λ input. ReadsFrom count old new input old.reads) → IfSome left (λ input. SyncsFrom count old new input old.syncs) → ServesLines Spelled ⊥ count old new left left' before now faults (served answer)
+  serve_alone {T} (Ok v) done within long ends lasts closed cause reads syncs =
       let X : ℕ → List Series → List ℕ → Type 0 = λ total book input. StandsAfter total (pages_of count' new.image) sessions (λ state. SendsText AreSpelled input (begun total book) state before now) in
       record {
         done = told_so (λ input. OfBook count old (λ total book. X total book input)) (λ input. AnswersAll Spelled count old new input before now) left
             (λ input all. from_book count count' old new same told sessions (λ start state. SendsText AreSpelled input start state before now) (closed (λ e. cc)) all)
             (told_for left (λ total book. HoldsBook count total book old) X (λ total book holds. done total book holds.honest (stands_held count total book old rests holds)));
         within = within;
+        long = λ is. cc;
         ends = tt;
         crash = serve_crash lasts;
         cause = tt;
@@ -117,14 +121,16 @@ module _ (count count' : ℕ) (sound sound' : Bool) (old new : View) (left left'
             (told_for left (λ total book. HoldsBook count total book old) X (λ total book holds. done total book holds.honest (stands_held count total book old rests holds)));
         reads = reads;
         syncs = syncs;
+        honest = told;
         goes_on = goes;
         risen = risen;
       }
-  serve_alone {T} (Err end) done within ends lasts closed cause reads syncs =
+  serve_alone {T} (Err end) done within long ends lasts closed cause reads syncs =
       let X : ℕ → List Series → List ℕ → Type 0 = λ total book input. EndsServe input (begun total book) (pages_of count' new.image) sessions left' before now end in
       record {
         done = tt;
         within = tt;
+        long = λ is. long (let same : end ≡ serve_end.InputTooLong = cc in ap Err same);
         ends = told_so (λ input. OfBook count old (λ total book. X total book input)) (λ input. EndsServing Spelled count old new input left' before now end) left
             (λ input all. serve_ends count count' old new same told sessions input left' before now end (λ other. closed (λ e. other (cc))) all)
             (told_for left (λ total book. HoldsBook count total book old) X (λ total book holds. ends total book holds.honest (stands_held count total book old rests holds)));
@@ -135,17 +141,18 @@ module _ (count count' : ℕ) (sound sound' : Bool) (old new : View) (left left'
             (told_for left (λ total book. HoldsBook count total book old) X (λ total book holds. ends total book holds.honest (stands_held count total book old rests holds)));
         reads = reads;
         syncs = syncs;
+        honest = told;
         goes_on = goes;
         risen = risen;
       }
 
-  pub serve_made : {T : Type 0} (answer : Result T ServeEnd) (own : List Session) → own ≡ [] → AllDone answer own → OnOk answer (IfSome left (λ input. length input ≤ 2 ^ 32)) → AllEnds answer own → AllLasts own → ((answer ≡ Err serve_end.DiskFault → ⊥) → IsClosed new)
-      → IfErr answer (λ end. IsLinesCause ⊥ count old new faults (run_end.Serve end)) → IfSome left (λ input. ReadsFrom count old new input old.reads) → IfSome left (λ input. SyncsFrom count old new input old.syncs) → ServesLines Spelled ⊥ count old new left left' before now faults (served answer)
-  serve_made {T} answer own alone done within ends lasts closed cause reads syncs =
+  pub serve_made : {T : Type 0} (answer : Result T ServeEnd) (own : List Session) → own ≡ [] → AllDone answer own → OnOk answer (WasRead left left') → (answer ≡ Err serve_end.InputTooLong → IsLong left) → AllEnds answer own → AllLasts own → ((answer ≡ Err serve_end.DiskFault → ⊥) → IsClosed new)
+      → IfErr answer (λ end. IsLinesCause ⊥ count old new before now faults (run_end.Serve end)) → IfSome left (λ input. ReadsFrom count old new input old.reads) → IfSome left (λ input. SyncsFrom count old new input old.syncs) → ServesLines Spelled ⊥ count old new left left' before now faults (served answer)
+  serve_made {T} answer own alone done within long ends lasts closed cause reads syncs =
       let D : List Session → Type 0 = λ s. AllDone answer s in
       let E : List Session → Type 0 = λ s. AllEnds answer s in
       let L : List Session → Type 0 = λ s. AllLasts s in
-      serve_alone answer (subst D alone done) within (subst E alone ends) (subst L alone lasts) closed cause reads syncs
+      serve_alone answer (subst D alone done) within long (subst E alone ends) (subst L alone lasts) closed cause reads syncs
 
   -- ---- a run over a screen that holds nothing yet
 
@@ -181,15 +188,16 @@ module _ (count count' : ℕ) (sound sound' : Bool) (old new : View) (left left'
         }))
         (crash_for left before (λ total book. HoldsBook count total book old) X (λ total book holds. lasts total book holds.honest (stands_held count total book old rests holds)))
 
-    run_alone : {T : Type 0} (answer : Result T RunEnd) (h : List Holding) → AreSoundStarts [] → RunDone answer [] h [] → OnOk answer (IfSome left (λ input. length input ≤ 2 ^ 32)) → RunEnds answer [] h [] → RunLasts [] [] → ((answer ≡ Err (run_end.Serve serve_end.DiskFault) → ⊥) → IsClosed new)
-        → IfErr answer (IsLinesCause (Unit {0}) count old new faults) → IfSome left (λ input. ReadsFrom count old new input old.reads) → IfSome left (λ input. SyncsFrom count old new input old.syncs) → ServesLines AreTexts (Unit {0}) count old new left left' before now faults answer
-    run_alone {T} (Ok v) h starts done within ends lasts closed cause reads syncs = record {
+    run_alone : {T : Type 0} (answer : Result T RunEnd) (h : List Holding) → AreSoundStarts [] → RunDone answer [] h [] → OnOk answer (WasRead left left') → (answer ≡ Err (run_end.Serve serve_end.InputTooLong) → IsLong left) → RunEnds answer [] h [] → RunLasts [] [] → ((answer ≡ Err (run_end.Serve serve_end.DiskFault) → ⊥) → IsClosed new)
+        → IfErr answer (IsLinesCause (Unit {0}) count old new before now faults) → IfSome left (λ input. ReadsFrom count old new input old.reads) → IfSome left (λ input. SyncsFrom count old new input old.syncs) → ServesLines AreTexts (Unit {0}) count old new left left' before now faults answer
+    run_alone {T} (Ok v) h starts done within long ends lasts closed cause reads syncs = record {
       done = for_told left (λ input. AnswersAll AreTexts count old new input before now) (λ input is.
           from_book count count' old new same told sessions (λ start state. SendsText (AreTexts start) input start state before now) (closed (λ e. cc)) (λ total book holds.
           stands_on total (pages_of count' new.image) (pages_of count' new.image) sessions sessions (λ state. IfSome left (λ given. SendsText (AreShown ScreenGives [] h) given (begun total book) state before now)) (λ state. SendsText (AreTexts (begun total book)) input (begun total book) state before now) refl refl
           (λ state sends. texts_all one draws (begun total book) refl (started starts total book holds) input state h before now (of_told left input (λ given. SendsText (AreShown ScreenGives [] h) given (begun total book) state before now) is sends))
           (done total book holds.honest (stands_held count total book old rests holds))));
       within = within;
+      long = λ is. cc;
       ends = tt;
       crash = run_crash starts lasts;
       cause = tt;
@@ -199,12 +207,14 @@ module _ (count count' : ℕ) (sound sound' : Bool) (old new : View) (left left'
           (λ state sends. tt) (done total book holds.honest (stands_held count total book old rests holds)))));
       reads = reads;
       syncs = syncs;
+      honest = told;
       goes_on = goes;
       risen = risen;
     }
-    run_alone {T} (Err end) h starts done within ends lasts closed cause reads syncs = record {
+    run_alone {T} (Err end) h starts done within long ends lasts closed cause reads syncs = record {
       done = tt;
       within = tt;
+      long = long;
       ends = for_told left (λ input. EndsLines AreTexts count old new input left' before now end) (λ input is.
           text_ends count count' old new same told one draws lacks (started starts) h sessions input left' before now end (λ other. closed (λ e. other (cc))) (λ total book holds.
           let O : Option (List ℕ) → Type 0 = λ o. EndsRun ScreenGives [] h o (begun total book) (pages_of count' new.image) sessions left' before now end in
@@ -216,13 +226,14 @@ module _ (count count' : ℕ) (sound sound' : Bool) (old new : View) (left left'
           ends total book holds.honest (stands_held count total book old rests holds)));
       reads = reads;
       syncs = syncs;
+      honest = told;
       goes_on = goes;
       risen = risen;
     }
 
-    pub run_made : {T : Type 0} (answer : Result T RunEnd) (v h : List Holding) (own : List Session) → v ≡ [] → own ≡ [] → AreSoundStarts own → RunDone answer v h own → OnOk answer (IfSome left (λ input. length input ≤ 2 ^ 32)) → RunEnds answer v h own → RunLasts v own
-        → ((answer ≡ Err (run_end.Serve serve_end.DiskFault) → ⊥) → IsClosed new) → IfErr answer (IsLinesCause (Unit {0}) count old new faults) → IfSome left (λ input. ReadsFrom count old new input old.reads) → IfSome left (λ input. SyncsFrom count old new input old.syncs) → ServesLines AreTexts (Unit {0}) count old new left left' before now faults answer
-    run_made {T} answer v h own none alone starts done within ends lasts closed cause reads syncs =
+    pub run_made : {T : Type 0} (answer : Result T RunEnd) (v h : List Holding) (own : List Session) → v ≡ [] → own ≡ [] → AreSoundStarts own → RunDone answer v h own → OnOk answer (WasRead left left') → (answer ≡ Err (run_end.Serve serve_end.InputTooLong) → IsLong left) → RunEnds answer v h own → RunLasts v own
+        → ((answer ≡ Err (run_end.Serve serve_end.DiskFault) → ⊥) → IsClosed new) → IfErr answer (IsLinesCause (Unit {0}) count old new before now faults) → IfSome left (λ input. ReadsFrom count old new input old.reads) → IfSome left (λ input. SyncsFrom count old new input old.syncs) → ServesLines AreTexts (Unit {0}) count old new left left' before now faults answer
+    run_made {T} answer v h own none alone starts done within long ends lasts closed cause reads syncs =
         let D : List Session → Type 0 = λ s. RunDone answer [] h s in
         let E : List Session → Type 0 = λ s. RunEnds answer [] h s in
         let L : List Session → Type 0 = λ s. RunLasts [] s in
@@ -230,21 +241,33 @@ module _ (count count' : ℕ) (sound sound' : Bool) (old new : View) (left left'
         let DV : List Holding → Type 0 = λ w. RunDone answer w h own in
         let EV : List Holding → Type 0 = λ w. RunEnds answer w h own in
         let LV : List Holding → Type 0 = λ w. RunLasts w own in
-        run_alone answer h (subst S alone starts) (subst D alone (subst DV none done)) within (subst E alone (subst EV none ends)) (subst L alone (subst LV none lasts)) closed cause reads syncs
+        run_alone answer h (subst S alone starts) (subst D alone (subst DV none done)) within long (subst E alone (subst EV none ends)) (subst L alone (subst LV none lasts)) closed cause reads syncs
 
--- a screen that held nothing was given frames, and rejects the next one
-rejected : OneFrame → (e : ClientError) (v w : List Holding) (own : List Session) (before now : Option (List ℕ)) → v ≡ [] → (stops : ShowStops ScreenGives v w own before now e) → RejectsBytes (spelling stops.frame) e stops.last → IsRejected e
+-- a screen that held nothing was given frames, whose texts were sent, and rejects the next one
+rejected : OneFrame → (e : ClientError) (v w : List Holding) (own : List Session) (before now : Option (List ℕ)) → v ≡ [] → (stops : ShowStops ScreenGives v w own before now e) → RejectsBytes (spelling stops.frame) e stops.last → RejectsNext e before now
 rejected one e v w own before now none stops bytes =
-    let S : List Holding → Type 0 = λ h. AreShown ScreenGives h stops.last [] stops.given.frames stops.given.text in
-    let all = screen_accepts one [] stops.given.frames stops.given.text [] stops.last stops.given.fits (subst S none stops.given.shown) in
-    record { frames = stops.given.frames; drawings = all.0; held = stops.last; accepted = all.1; frame = bytes.frame; rejects = bytes.rejects }
+    let given = stops.given in
+    let S : List Holding → Type 0 = λ h. AreShown ScreenGives h stops.last [] given.frames given.text in
+    let all = screen_accepts one [] given.frames given.text [] stops.last given.fits (subst S none given.shown) in
+    let whole : take given.count given.text ≡ given.text = take_all given.count given.text (omega (arith, stops.whole)) in
+    record {
+      frames = given.frames;
+      fits = given.fits;
+      drawings = all.0;
+      held = stops.last;
+      accepted = all.1;
+      sent = given.sent ∙ ap (λ t. sent_after t before) (whole ∙ all.2);
+      frame = bytes.frame;
+      fits_too = bytes.spelled.fits;
+      rejects = bytes.rejects;
+    }
 
 -- the causes of a run over a screen
 pub run_cause : OneFrame → Numbered → (count count' : ℕ) (old new : View) (faults : Faults) (v w : List Holding) (own : List Session) (before now : Option (List ℕ)) (end : RunEnd) → v ≡ [] → count' ≡ count
-    → (end ≡ run_end.Serve serve_end.ReadFault → IsLinesCause (Unit {0}) count old new faults (run_end.Serve serve_end.ReadFault)) → (end ≡ run_end.Serve serve_end.SendFault → IsLinesCause (Unit {0}) count old new faults (run_end.Serve serve_end.SendFault)) → (end ≡ run_end.Serve serve_end.DiskFault → IsLinesCause (Unit {0}) count old new faults (run_end.Serve serve_end.DiskFault))
-    → EndsAtBad (Honest new) count' (pages_of count' new.image) end → ShowsBy {T = Unit {0}} ScreenGives v w own before now (Err end) → EndsKnown ScreenGives holds_of end → IsLinesCause (Unit {0}) count old new faults end
+    → (end ≡ run_end.Serve serve_end.ReadFault → IsLinesCause (Unit {0}) count old new before now faults (run_end.Serve serve_end.ReadFault)) → (end ≡ run_end.Serve serve_end.SendFault → IsLinesCause (Unit {0}) count old new before now faults (run_end.Serve serve_end.SendFault)) → (end ≡ run_end.Serve serve_end.DiskFault → IsLinesCause (Unit {0}) count old new before now faults (run_end.Serve serve_end.DiskFault))
+    → EndsAtBad (Honest new) count' (pages_of count' new.image) end → ShowsBy {T = Unit {0}} ScreenGives v w own before now (Err end) → EndsKnown ScreenGives holds_of end → IsLinesCause (Unit {0}) count old new before now faults end
 run_cause one law count count' old new faults v w own before now (run_end.Serve end) none same read send disk bad shown known =
-    serve_cause count count' old new faults (Unit {0}) end same (λ e. read (ap run_end.Serve e)) (λ e. send (ap run_end.Serve e)) (λ e. disk (ap run_end.Serve e)) bad
+    serve_cause count count' old new before now faults (Unit {0}) end same (λ e. read (ap run_end.Serve e)) (λ e. send (ap run_end.Serve e)) (λ e. disk (ap run_end.Serve e)) bad
 run_cause one law count count' old new faults v w own before now (run_end.Show (client.Missing key)) none same read send disk bad shown known =
     let bytes = shown.fails.0 in
     (tt, law bytes.frame shown.last (client.Missing key) bytes.rejects, rejected one (client.Missing key) v w own before now none shown bytes)
@@ -255,8 +278,8 @@ run_cause one law count count' old new faults v w own before now (run_end.Show (
 run_cause one law count count' old new faults v w own before now (run_end.Show client.NoMemory) none same read send disk bad shown known = tt
 
 pub run_causes : {T : Type 0} → OneFrame → Numbered → (count count' : ℕ) (old new : View) (faults : Faults) (v w : List Holding) (own : List Session) (before now : Option (List ℕ)) (answer : Result T RunEnd) → v ≡ [] → count' ≡ count
-    → (answer ≡ Err (run_end.Serve serve_end.ReadFault) → IsLinesCause (Unit {0}) count old new faults (run_end.Serve serve_end.ReadFault)) → (answer ≡ Err (run_end.Serve serve_end.SendFault) → IsLinesCause (Unit {0}) count old new faults (run_end.Serve serve_end.SendFault)) → (answer ≡ Err (run_end.Serve serve_end.DiskFault) → IsLinesCause (Unit {0}) count old new faults (run_end.Serve serve_end.DiskFault))
-    → IfErr answer (EndsAtBad (Honest new) count' (pages_of count' new.image)) → IfErr answer (λ end. ShowsBy {T = Unit {0}} ScreenGives v w own before now (Err end)) → IfErr answer (EndsKnown ScreenGives holds_of) → IfErr answer (IsLinesCause (Unit {0}) count old new faults)
+    → (answer ≡ Err (run_end.Serve serve_end.ReadFault) → IsLinesCause (Unit {0}) count old new before now faults (run_end.Serve serve_end.ReadFault)) → (answer ≡ Err (run_end.Serve serve_end.SendFault) → IsLinesCause (Unit {0}) count old new before now faults (run_end.Serve serve_end.SendFault)) → (answer ≡ Err (run_end.Serve serve_end.DiskFault) → IsLinesCause (Unit {0}) count old new before now faults (run_end.Serve serve_end.DiskFault))
+    → IfErr answer (EndsAtBad (Honest new) count' (pages_of count' new.image)) → IfErr answer (λ end. ShowsBy {T = Unit {0}} ScreenGives v w own before now (Err end)) → IfErr answer (EndsKnown ScreenGives holds_of) → IfErr answer (IsLinesCause (Unit {0}) count old new before now faults)
 run_causes one law count count' old new faults v w own before now (Ok done) none same read send disk bad shown known = tt
 run_causes one law count count' old new faults v w own before now (Err end) none same read send disk bad shown known =
     run_cause one law count count' old new faults v w own before now end none same (λ is. read (ap Err is)) (λ is. send (ap Err is)) (λ is. disk (ap Err is)) bad shown known
@@ -266,6 +289,7 @@ pub made_none : {T : Type 0} (IsText : Says) (CanShow : Type 0) (count : ℕ) (a
 made_none {T} IsText CanShow count at left before faults none = record {
   done = tt;
   within = tt;
+  long = λ is. cc;
   ends = for_told left (λ input. EndsLines IsText count at at input left before before (run_end.Serve serve_end.NoMemory)) (λ input is. some_none IsText count at at input before none (λ total book holds. holds));
   crash = for_told left (λ input. IfSome before (λ bytes. LeavesBooks IsText count input at at)) (λ input is.
       for_told before (λ bytes. LeavesBooks IsText count input at at) (λ bytes is_told total book holds.
@@ -275,6 +299,7 @@ made_none {T} IsText CanShow count at left before faults none = record {
   holds = λ other. for_told left (λ input. HoldsAgain count at at) (λ input is total book holds. (book, holds));
   reads = reads_none left count at;
   syncs = syncs_none left count at;
+  honest = λ h. h;
   goes_on = goes_none at;
   risen = omega arith;
 }

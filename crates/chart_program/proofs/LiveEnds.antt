@@ -14,7 +14,7 @@ use Rattle.program_words.specs.declared.words.Command.TheVariants.{Live}
 use Rattle.chart_program.specs.CommandStatuses.{codes_of}
 use Rattle.chart_program.specs.Served.{Faults}
 use Rattle.chart_program.specs.Ran.{AreLines, CommandEnds}
-use Rattle.chart_program.proofs.Codes.{told_both}
+use Rattle.chart_program.proofs.Codes.{told_long}
 use Rattle.chart_program.proofs.EndsByCode.{Came, by_code, completes}
 use Rattle.chart_program.proofs.LivePage.{of_live}
 
@@ -35,7 +35,7 @@ module _ (old new : View) (left left' before now : Option (List ℕ)) (faults : 
   live_came DiskFault cause does = (cause, does)
   live_came (DamagedBlock block) cause does = (inl cause.0, does, inl (cause.0.0, cause.1))
   live_came (DamagedPage page) cause does = (inr cause, does, inr cause)
-  live_came InputTooLong cause does = told_both left _ _ refl does
+  live_came InputTooLong cause does = told_long left _ cause does
   live_came (TooSmall blocks) cause does = cause
   live_came end cause does = absurd cause
 
@@ -66,6 +66,7 @@ module _ (old new : View) (left left' before now : Option (List ℕ)) (faults : 
     holds = λ other. e.holds (λ is. other (ap (λ (end : End). code_of end) is));
     crash = e.crash;
     disk = e.goes_on;
+    honest = e.honest;
     complete = completes left (λ input. AreLines old new input) end (of_live old new (passed left left' before now faults) end e away reads syncs).good;
     drawn = λ command. cc;
     ready = λ command. cc;

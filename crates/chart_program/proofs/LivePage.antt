@@ -32,7 +32,7 @@ module _ (old new : View) (t : Traffic) where
   live_does DiskFault cause does = does
   live_does (DamagedBlock block) cause does = (record { at_first = cause.0; took_nothing = cause.1.0; sent_nothing = cause.1.1 }, does)
   live_does (DamagedPage page) cause does = (cause, does)
-  live_does InputTooLong cause does = does
+  live_does InputTooLong cause does = (cause, does)
   live_does (TooSmall blocks) cause does = cause
   live_does end cause does = absurd cause
 

@@ -16,7 +16,7 @@ use Rattle.program_words.specs.declared.words.Command.TheVariants.{Load}
 use Rattle.chart_program.specs.CommandStatuses.{codes_of}
 use Rattle.chart_program.specs.Served.{Faults}
 use Rattle.chart_program.specs.Ran.{AreReadings, CommandEnds, IsRefused}
-use Rattle.chart_program.proofs.Codes.{told_all, told_both}
+use Rattle.chart_program.proofs.Codes.{told_all, told_long}
 use Rattle.chart_program.proofs.CommandsEnd.{both_told}
 use Rattle.chart_program.proofs.Counts.{told_any}
 use Rattle.chart_program.proofs.EndsByCode.{Came, by_code, completes, unnamed_codes}
@@ -57,7 +57,7 @@ module _ (name : List ℕ) (old new : View) (left left' before now : Option (Lis
   load_came (DamagedBlock block) is unnamed = (inl is.0.0, told_all left _ is.0.1, is.2)
   load_came (DamagedPage page) is unnamed = (inr is.0, told_all left _ is.1, is.2)
   load_came (BadInput at) is unnamed = is.0
-  load_came InputTooLong is unnamed = told_both left _ _ refl is.0
+  load_came InputTooLong is unnamed = told_long left _ is.0 is.1
   load_came (TooSmall blocks) is unnamed = is.0
   load_came UnknownSeries is unnamed = (is.4, unknown_told left is.3 is.0 is.1)
   load_came (Refused at number) is unnamed = (is.1, refused_told at number left is.0 unnamed)
@@ -85,7 +85,7 @@ module _ (name : List ℕ) (old new : View) (left left' before now : Option (Lis
   load_unsent SendFault is whole part = absurd (part refl)
   load_unsent DiskFault is whole part = is.1
   load_unsent (BadInput at) is whole part = is.1
-  load_unsent InputTooLong is whole part = is.1
+  load_unsent InputTooLong is whole part = is.2
   load_unsent UnknownSeries is whole part = is.4
   load_unsent (Refused at number) is whole part = is.1
   load_unsent end is whole part = is.2
@@ -105,6 +105,7 @@ module _ (name : List ℕ) (old new : View) (left left' before now : Option (Lis
     holds = λ other. told_all left _ (holds (λ is. other (ap (λ (x : End). code_of x) is)));
     crash = both_told left before _ _ e.crash e.kept;
     disk = e.goes_on;
+    honest = e.honest;
     complete = completes left (λ input. AreReadings name old new input) end (of_load name old new passed end e away).good;
     drawn = λ command. cc;
     ready = λ command. cc;

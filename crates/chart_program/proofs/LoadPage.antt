@@ -49,7 +49,7 @@ module _ (name : List ℕ) (old new : View) (t : Traffic) where
       let bad = of_input t.left input (λ bytes. LoadsToBad name (page_count old.size) old new bytes offset) told is.0 r.total r.book r.holds r.series r.named in
       absurd (r.none_bad offset _ bad.on.so)
   load_good input told r InputTooLong is =
-      let much = of_input t.left input (λ bytes. LoadsWithin name (page_count old.size) old new bytes) told is.0 r.total r.book r.holds r.series r.named in
+      let much = of_input t.left input (λ bytes. LoadsWithin name (page_count old.size) old new bytes) told is.1 r.total r.book r.holds r.series r.named in
       absurd (omega (arith, r.short, much.on.so.past))
   load_good input told r UnknownSeries is = absurd (is.0 r.total r.book r.holds r.series r.named)
   load_good input told r (Refused offset number) is =

@@ -16,7 +16,7 @@ use Rattle.program_words.specs.declared.words.Command.TheVariants.{Retain}
 use Rattle.chart_program.specs.CommandStatuses.{codes_of}
 use Rattle.chart_program.specs.Served.{Faults}
 use Rattle.chart_program.specs.Ran.{AreRetained, CommandEnds}
-use Rattle.chart_program.proofs.Codes.{told_both}
+use Rattle.chart_program.proofs.Codes.{told_long}
 use Rattle.chart_program.proofs.Counts.{told_any}
 use Rattle.chart_program.proofs.EndsByCode.{Came, by_code, completes}
 use Rattle.chart_program.proofs.RetainPage.{of_retain}
@@ -42,7 +42,7 @@ module _ (old new : View) (left left' before now : Option (List ℕ)) (faults : 
   retain_came (DamagedBlock block) cause does = (inl cause.0, does, inl (cause.0.0, cause.1))
   retain_came (DamagedPage page) cause does = (inr cause, does, inr cause)
   retain_came (BadInput at) cause does = does
-  retain_came InputTooLong cause does = told_both left _ _ refl does
+  retain_came InputTooLong cause does = told_long left _ cause does
   retain_came (TooSmall blocks) cause does = cause
   retain_came (NoSeries at) cause does = does
   retain_came end cause does = absurd cause
@@ -76,6 +76,7 @@ module _ (old new : View) (left left' before now : Option (List ℕ)) (faults : 
     holds = λ other. e.holds (λ is. other (ap (λ (end : End). code_of end) is));
     crash = e.crash;
     disk = e.goes_on;
+    honest = e.honest;
     complete = completes left (λ input. AreRetained old new input) end (of_retain old new passed end e away).good;
     drawn = λ command. cc;
     ready = λ command. cc;

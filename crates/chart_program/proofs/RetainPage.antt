@@ -33,7 +33,7 @@ module _ (old new : View) (t : Traffic) where
   retain_does (DamagedBlock block) cause does = (record { at_first = cause.0; took_nothing = cause.1.0; sent_nothing = cause.1.1 }, does)
   retain_does (DamagedPage page) cause does = (cause, does)
   retain_does (BadInput offset) cause does = does
-  retain_does InputTooLong cause does = does
+  retain_does InputTooLong cause does = (cause, does)
   retain_does (TooSmall blocks) cause does = cause
   retain_does (NoSeries offset) cause does = does
   retain_does end cause does = absurd cause

@@ -69,6 +69,7 @@ module _ (old new : View) (left left' before now : Option (List ℕ)) (faults : 
     holds = λ other. told_all left _ (λ total book held. (book, e.holds total book held));
     crash = all_told left before _ e.crash;
     disk = e.goes_on;
+    honest = e.honest;
     complete = told_all left _ (λ good. done_codes end (list_good at faults.sends faults.sends_now good end e.is));
     drawn = λ command. cc;
     ready = λ command. cc;
@@ -117,6 +118,7 @@ module _ (old new : View) (left left' before now : Option (List ℕ)) (faults : 
     holds = λ other. told_all left _ (λ total book held. (book, e.holds total book held));
     crash = all_told left before _ e.crash;
     disk = e.goes_on;
+    honest = e.honest;
     complete = told_all left _ (λ good. done_codes end (check_good at faults.sends faults.sends_now good end e.is));
     drawn = λ command. cc;
     ready = λ command. cc;
@@ -172,6 +174,7 @@ module _ (old new : View) (left left' before now : Option (List ℕ)) (faults : 
       holds = λ other. told_all left _ (holds (λ is. other (ap (λ (x : End). code_of x) is)));
       crash = all_told left before _ e.crash;
       disk = e.goes_on;
+      honest = e.honest;
       complete = told_all left _ (λ good. done_codes end (demo_good at faults.sends faults.sends_now seed rounds good end e.is));
       drawn = λ command. cc;
       ready = λ command. cc;
@@ -217,6 +220,7 @@ module _ (old new : View) (left left' before now : Option (List ℕ)) (faults : 
       holds = λ other. told_all left _ (λ total book held. (book, e.holds total book held));
       crash = all_told left before _ e.crash;
       disk = e.goes_on;
+      honest = e.honest;
       complete = told_all left _ (λ good. done_codes end (export_good at faults.sends faults.sends_now name window good end e.is));
       drawn = λ command. cc;
       ready = λ command. cc;

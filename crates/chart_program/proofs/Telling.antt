@@ -51,13 +51,17 @@ screen_draws one all (l ∷ ls) (f ∷ fs) text old new h h' replied shown =
     )
 
 -- and so of any frames whose fields meet their rules
-pub screen_accepts : OneFrame → (all : List (Option (List ℕ))) (frames : List Frame) (text : List ℕ) (h h' : List Holding) → All Fits frames → AreShown ScreenGives h h' all frames text → (drawings : List (Option Canvas)) × AcceptsAll h frames drawings h'
-screen_accepts one all [] text h h' fits shown = ([], shown.1)
+pub screen_accepts : OneFrame → (all : List (Option (List ℕ))) (frames : List Frame) (text : List ℕ) (h h' : List Holding) → All Fits frames → AreShown ScreenGives h h' all frames text
+    → (drawings : List (Option Canvas)) × AcceptsAll h frames drawings h' × (text ≡ texts_of frames drawings)
+screen_accepts one all [] text h h' fits shown = ([], shown.1, shown.0)
 screen_accepts one all (f ∷ fs) text h h' fits shown =
     let later = screen_accepts one all fs shown.2 shown.1 h' (All-tail Fits f fs fits) shown.5 in
     let same : f ≡ shown.0.frame = shown_frame one f shown.0.frame (fits 0 f (omega arith)) shown.3.0 in
-    let A : Frame → Type 0 = λ g. Accepts g shown.0.bitmap h shown.1 in
-    (shown.0.bitmap ∷ later.0, (shown.1, subst A (sym same) shown.3.1, later.1))
+    let A : Frame → Type 0 = λ g. Accepts g shown.0.bitmap h shown.1 in (
+      shown.0.bitmap ∷ later.0,
+      (shown.1, subst A (sym same) shown.3.1, later.1),
+      shown.4 ∙ ap (λ g. text_of g shown.0.bitmap (length (spelling f)) ++ shown.2) (sym same) ∙ ap (λ t. text_of f shown.0.bitmap (length (spelling f)) ++ t) later.2,
+    )
 
 -- a client that holds no lists mirrors a service without sessions
 mirrors_none : (start : State) → start.sessions ≡ [] → Mirrors start.sessions []

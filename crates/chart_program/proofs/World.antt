@@ -120,17 +120,17 @@ ends_on IsText old mid new input left before now (run_end.Show (client.Missing k
 ends_on IsText old mid new input left before now (run_end.Show (client.BadCoefficient key)) opens ends = λ total book holds. ends total book (held old mid opens total book holds)
 ends_on IsText old mid new input left before now (run_end.Show (client.UnknownSession number)) opens ends = λ total book holds. ends total book (held old mid opens total book holds)
 
-cause_on : (CanShow : Type 0) (count : ℕ) (old mid new : View) (faults : Faults) (end : RunEnd) → mid.faults ≡ old.faults → IsLinesCause CanShow count mid new faults end → IsLinesCause CanShow count old new faults end
-cause_on CanShow count old mid new faults (run_end.Serve serve_end.ReadFault) same is = is
-cause_on CanShow count old mid new faults (run_end.Serve serve_end.SendFault) same is = is
-cause_on CanShow count old mid new faults (run_end.Serve serve_end.DiskFault) same is = risen_since old.faults mid.faults new.faults same is
-cause_on CanShow count old mid new faults (run_end.Serve (serve_end.Damaged page)) same is = is
-cause_on CanShow count old mid new faults (run_end.Serve serve_end.InputTooLong) same is = is
-cause_on CanShow count old mid new faults (run_end.Serve serve_end.NoMemory) same is = is
-cause_on CanShow count old mid new faults (run_end.Show (client.Missing key)) same is = is
-cause_on CanShow count old mid new faults (run_end.Show (client.BadCoefficient key)) same is = is
-cause_on CanShow count old mid new faults (run_end.Show (client.UnknownSession number)) same is = is
-cause_on CanShow count old mid new faults (run_end.Show client.NoMemory) same is = is
+cause_on : (CanShow : Type 0) (count : ℕ) (old mid new : View) (before now : Option (List ℕ)) (faults : Faults) (end : RunEnd) → mid.faults ≡ old.faults → IsLinesCause CanShow count mid new before now faults end → IsLinesCause CanShow count old new before now faults end
+cause_on CanShow count old mid new before now faults (run_end.Serve serve_end.ReadFault) same is = is
+cause_on CanShow count old mid new before now faults (run_end.Serve serve_end.SendFault) same is = is
+cause_on CanShow count old mid new before now faults (run_end.Serve serve_end.DiskFault) same is = risen_since old.faults mid.faults new.faults same is
+cause_on CanShow count old mid new before now faults (run_end.Serve (serve_end.Damaged page)) same is = is
+cause_on CanShow count old mid new before now faults (run_end.Serve serve_end.InputTooLong) same is = is
+cause_on CanShow count old mid new before now faults (run_end.Serve serve_end.NoMemory) same is = is
+cause_on CanShow count old mid new before now faults (run_end.Show (client.Missing key)) same is = is
+cause_on CanShow count old mid new before now faults (run_end.Show (client.BadCoefficient key)) same is = is
+cause_on CanShow count old mid new before now faults (run_end.Show (client.UnknownSession number)) same is = is
+cause_on CanShow count old mid new before now faults (run_end.Show client.NoMemory) same is = is
 
 crash_on : (IsText : Says) (left before : Option (List ℕ)) (old mid new : View) → SaysNothing IsText → Opens (page_count old.size) old mid
     → IfSome left (λ input. IfSome before (λ bytes. LeavesBooks IsText (page_count old.size) input mid new)) → IfSome left (λ input. IfSome before (λ bytes. LeavesBooks IsText (page_count old.size) input old new))
@@ -149,24 +149,28 @@ serves_on {T} IsText CanShow old mid new left left' before now faults (Ok done) 
   done = told_so (λ input. AnswersAll IsText (page_count old.size) mid new input before now) (λ input. AnswersAll IsText (page_count old.size) old new input before now) left
       (λ input all total book holds. all total book (held old mid opens total book holds)) s.done;
   within = s.within;
+  long = λ is. cc;
   ends = tt;
   crash = crash_on IsText left before old mid new none opens s.crash;
   cause = tt;
   holds = λ other. again_on left old mid new opens (s.holds (λ e. cc));
   reads = reads_opened left old mid new opens s.reads;
   syncs = syncs_opened left old mid new opens s.syncs;
+  honest = λ h. s.honest (opens.honest h);
   goes_on = goes_then old mid new (opens_goes (page_count old.size) old mid opens) s.goes_on;
 }
 serves_on {T} IsText CanShow old mid new left left' before now faults (Err end) none opens quiet s = record {
   done = tt;
   within = tt;
+  long = λ is. s.long (let same : end ≡ run_end.Serve serve_end.InputTooLong = cc in ap Err same);
   ends = told_so (λ input. EndsLines IsText (page_count old.size) mid new input left' before now end) (λ input. EndsLines IsText (page_count old.size) old new input left' before now end) left
       (λ input ends. ends_on IsText old mid new input left' before now end opens ends) s.ends;
   crash = crash_on IsText left before old mid new none opens s.crash;
-  cause = cause_on CanShow (page_count old.size) old mid new faults end quiet s.cause;
+  cause = cause_on CanShow (page_count old.size) old mid new before now faults end quiet s.cause;
   holds = λ other. again_on left old mid new opens (s.holds (λ e. other (ap (λ (r : Result T RunEnd). in_world r) e)));
   reads = reads_opened left old mid new opens s.reads;
   syncs = syncs_opened left old mid new opens s.syncs;
+  honest = λ h. s.honest (opens.honest h);
   goes_on = goes_then old mid new (opens_goes (page_count old.size) old mid opens) s.goes_on;
 }
 
@@ -200,6 +204,7 @@ opening_at : {T : Type 0} (IsText : Says) (CanShow : Type 0) (old new : View) (l
 opening_at IsText CanShow old new left left' before faults cause none opens prevents a_store = record {
   done = tt;
   within = tt;
+  long = λ is. cc;
   ends = elim left as (λ o. IfSome o (λ input. EndsOpening IsText old new input before before cause)) [
     | None ↦ tt
     | Some input ↦ ends_opening IsText old new input before cause none opens a_store
@@ -215,6 +220,7 @@ opening_at IsText CanShow old new left left' before faults cause none opens prev
   ];
   reads = reads_unopened left old new opens;
   syncs = syncs_unopened left old new opens;
+  honest = opens.honest;
   goes_on = opens_goes (page_count old.size) old new opens;
 }
 

@@ -1,5 +1,5 @@
 -- What a run of a command began with and what it left, of which the command's page speaks, and what pages have in common.
-use Rattle.std.specs.Prelude.{ℕ, ◌≡◌, ◌+◌, ◌<◌, ◌≤◌, ◌^◌, List, length, Option, IfSome, ⊤}
+use Rattle.std.specs.Prelude.{ℕ, ◌≡◌, ◌+◌, ◌<◌, List, Option, IfSome, ⊤}
 use Rattle.block_disk.specs.Counts.{HasRisen}
 use Rattle.block_disk.specs.View.{Image, View}
 use Rattle.disk_store.specs.Held.{HoldsBook}
@@ -12,6 +12,7 @@ use Rattle.series_book.specs.declared.one_series.Series.{Series}
 use Rattle.store_commands.specs.Away.{IsTurnedAway}
 use Rattle.store_commands.specs.Books.{LeavesSame, Never, OfBook}
 use Rattle.store_commands.specs.Damaged.{IsDamagedAtFirst, IsDamagedLater}
+use Rattle.store_commands.specs.Traffic.{IsLong, WasRead}
 
 -- the disk before and now; and the bytes left to take and those sent, where they are told, before and now
 pub record Course : Type 1 where
@@ -62,9 +63,13 @@ abbrev pub ToldLeft : Course → (ℕ → View → View → List ℕ → List �
 ToldLeft c IsSo =
     IfSome c.left (λ input. IfSome c.left_now (λ bytes. IsSo (count c) c.old c.new input bytes c.sent c.sent_now))
 
--- the whole input was taken, and it is at most 2^32 bytes
+-- the input is at most 2^32 bytes, and was read to its end: nothing of it is left
 abbrev pub IsShort : Course → Type 0
-IsShort c = OfInput c (λ input. length input ≤ 2 ^ 32)
+IsShort c = WasRead c.left c.left_now
+
+-- it has more bytes than that
+abbrev pub IsLonger : Course → Type 0
+IsLonger c = IsLong c.left
 
 -- ---- the disk
 

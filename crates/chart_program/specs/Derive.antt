@@ -13,7 +13,7 @@ use Rattle.run_ends.specs.declared.ending.End.TheVariants.{Done, NoMemory, ReadF
 use Rattle.run_ends.specs.declared.ending.End.TheVariants.{BadInput, InputTooLong, TooSmall, RefusedLine}
 use Rattle.series_book.specs.declared.one_series.Series.{Series}
 use Rattle.stored_book.specs.Damage.{IsBadForRequest}
-use Rattle.chart_program.specs.Course.{Course, FoundDamaged, FoundPage, HasFewBlocks, HeldNoBook, IsDoneOrCut, IsShort, KeptBook, OfInput}
+use Rattle.chart_program.specs.Course.{Course, FoundDamaged, FoundPage, HasFewBlocks, HeldNoBook, IsDoneOrCut, IsLonger, IsShort, KeptBook, OfInput}
 use Rattle.chart_program.specs.Course.{OverStore, Told}
 
 -- what it sent, by how it ended
@@ -26,7 +26,7 @@ DeriveDoes c DiskFault = Told c (λ count old new. DerivesFirst count old)
 DeriveDoes c (DamagedBlock block) = FoundDamaged c block × OfInput c (λ input. HeldNoBook c)
 DeriveDoes c (DamagedPage page) = FoundPage IsBadForRequest c c.new page × OfInput c (λ input. HeldNoBook c)
 DeriveDoes c (BadInput at) = Told c (λ count old new input. DerivesToBad count old input at)
-DeriveDoes c InputTooLong = Told c (λ count old new. DerivesWithin count old)
+DeriveDoes c InputTooLong = IsLonger c × Told c (λ count old new. DerivesWithin count old)
 DeriveDoes c (TooSmall blocks) = HasFewBlocks c blocks
 DeriveDoes c (RefusedLine at refusal) = Told c (λ count old new input. DerivesToRefused count old input (refused_at at refusal))
 DeriveDoes c end = ⊥

@@ -1,7 +1,7 @@
 -- How a serving command ends, by its status.
 use Rattle.std.specs.Prelude.{◌≡◌, ◌≢◌, ℕ, ◌+◌, ◌<◌, ◌≤◌, ◌^◌, List, [], ◌∷◌, length, Contains, Option, IfSome, Result, Ok, Err, ⊤}
 use Rattle.block_disk.specs.Counts.{HasRisen}
-use Rattle.block_disk.specs.View.{View}
+use Rattle.block_disk.specs.View.{Honest, View}
 use Rattle.chart_client.specs.Accepting.{HasNumber}
 use Rattle.chart_client.specs.declared.errors.ClientError.{ClientError}
 use Rattle.chart_client.specs.declared.errors.ClientError.TheVariants as client
@@ -17,10 +17,11 @@ use Rattle.chart_program.specs.declared.run_end.RunEnd.TheVariants as run_end
 use Rattle.run_ends.specs.declared.status.Status.{Status}
 use Rattle.run_ends.specs.Statuses.{block_of, status}
 use Rattle.store_commands.specs.Status.{opening_status}
-use Rattle.chart_program.specs.Served.{Says, Faults, AnswersAll, AnswersFront, AnswersTaken, AnswersWithin, AnswersSome, AnswersLines, LeavesBooks, IsRejected, ReadsServing, SyncsServing}
+use Rattle.chart_program.specs.Served.{Says, Faults, AnswersAll, AnswersFront, AnswersTaken, AnswersWithin, AnswersSome, AnswersLines, LeavesBooks, RejectsNext, ReadsServing, SyncsServing}
 use Rattle.stored_book.specs.Damage.{IsBadForRequest}
 use Rattle.store_commands.specs.Damaged.{IsDamagedPlace}
 use Rattle.store_commands.specs.Books.{HoldsAgain, Never}
+use Rattle.store_commands.specs.Traffic.{WasRead}
 
 -- the status of why a serving ended
 abbrev pub serve_end_status : ServeEnd → Status
@@ -55,7 +56,7 @@ HasNumberedKey (lines_end.Answering (run_end.Show e)) = HasNumber e
 pub record EndsBy (IsText : Says) (CanShow : Type 0) (old new : View) (left left' before now : Option (List ℕ)) (faults : Faults) (code place : ℕ) : Type 0 where
   pub codes : Contains (0 ∷ 3 ∷ 4 ∷ 5 ∷ 6 ∷ 7 ∷ 9 ∷ 10 ∷ 11 ∷ 12 ∷ 15 ∷ []) code
   pub done : code ≡ 0 → IfSome left (λ input. AnswersAll IsText (page_count old.size) old new input before now)
-  pub within : code ≡ 0 → IfSome left (λ input. length input ≤ 2 ^ 32)
+  pub within : code ≡ 0 → WasRead left left'
   pub memory : code ≡ 3 → IfSome left (λ input. AnswersSome IsText (page_count old.size) old new input before now)
   pub read : code ≡ 4 → HasRisen faults.reads faults.reads_now
   pub stopped : code ≡ 4 → IfSome left (λ input. IfSome left' (λ bytes. AnswersTaken IsText (page_count old.size) old new input bytes before now))
@@ -65,9 +66,9 @@ pub record EndsBy (IsText : Says) (CanShow : Type 0) (old new : View) (left left
   pub faulted : code ≡ 6 → IfSome left (λ input. AnswersLines IsText (page_count old.size) old input before now)
   pub damaged : code ≡ 7 → IsDamagedPlace IsBadForRequest old new place
   pub undamaged : code ≡ 7 → IfSome left (λ input. Never (page_count old.size) old)
-  pub much : code ≡ 9 → IfSome left (λ input. (place ≡ 2 ^ 32) × AnswersWithin IsText (page_count old.size) old new input before now)
-  pub missing : code ≡ 10 → CanShow × IfSome left (λ input. Never (page_count old.size) old × ((key : Key) × (place ≡ key_number key) × IsRejected (client.Missing key)))
-  pub misfit : code ≡ 11 → CanShow × IfSome left (λ input. Never (page_count old.size) old × ((key : Key) × (place ≡ key_number key) × IsRejected (client.BadCoefficient key)))
+  pub much : code ≡ 9 → IfSome left (λ input. (place ≡ 2 ^ 32) × (2 ^ 32 < length input) × AnswersWithin IsText (page_count old.size) old new input before now)
+  pub missing : code ≡ 10 → CanShow × IfSome left (λ input. Never (page_count old.size) old × ((key : Key) × (place ≡ key_number key) × RejectsNext (client.Missing key) before now))
+  pub misfit : code ≡ 11 → CanShow × IfSome left (λ input. Never (page_count old.size) old × ((key : Key) × (place ≡ key_number key) × RejectsNext (client.BadCoefficient key) before now))
   pub small : code ≡ 12 → (place ≡ old.size) × (old.size < 128)
   pub opened : code ≡ 15 → ⊥
   pub zero_place : Contains (0 ∷ 3 ∷ 4 ∷ 5 ∷ 6 ∷ []) code → place ≡ 0
@@ -75,4 +76,5 @@ pub record EndsBy (IsText : Says) (CanShow : Type 0) (old new : View) (left left
   pub reads : IfSome left (λ input. ReadsServing old new input)
   pub syncs : IfSome left (λ input. SyncsServing old new input)
   pub crash : IfSome left (λ input. IfSome before (λ bytes. LeavesBooks IsText (page_count old.size) input old new))
+  pub honest : Honest old → Honest new
   pub goes_on : GoesOn old new

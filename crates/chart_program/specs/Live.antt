@@ -5,7 +5,7 @@ use Rattle.run_ends.specs.declared.ending.End.{End}
 use Rattle.run_ends.specs.declared.ending.End.TheVariants.{Done, NoMemory, ReadFault, SendFault, DiskFault, DamagedBlock, DamagedPage}
 use Rattle.run_ends.specs.declared.ending.End.TheVariants.{InputTooLong, TooSmall}
 use Rattle.stored_book.specs.Damage.{IsBadForRequest}
-use Rattle.chart_program.specs.Course.{AtEachMoment, Course, FoundDamaged, FoundPage, HasFewBlocks, HeldNoBook, IsDoneOrCut, IsShort}
+use Rattle.chart_program.specs.Course.{AtEachMoment, Course, FoundDamaged, FoundPage, HasFewBlocks, HeldNoBook, IsDoneOrCut, IsLonger, IsShort}
 use Rattle.chart_program.specs.Course.{OfInput, OverStore, Told}
 use Rattle.chart_program.specs.Serve.{AreLines}
 
@@ -18,7 +18,7 @@ LiveDoes c SendFault = Told c LivesPart
 LiveDoes c DiskFault = Told c (λ count old new. LivesLines count old)
 LiveDoes c (DamagedBlock block) = FoundDamaged c block × OfInput c (λ input. HeldNoBook c)
 LiveDoes c (DamagedPage page) = FoundPage IsBadForRequest c c.new page × OfInput c (λ input. HeldNoBook c)
-LiveDoes c InputTooLong = Told c LivesWithin
+LiveDoes c InputTooLong = IsLonger c × Told c LivesWithin
 LiveDoes c (TooSmall blocks) = HasFewBlocks c blocks
 LiveDoes c end = ⊥
 

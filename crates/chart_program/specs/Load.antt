@@ -14,7 +14,7 @@ use Rattle.series_load.specs.Sets.{IsNamed}
 use Rattle.stored_book.specs.Damage.{IsBadForEdit}
 use Rattle.store_commands.specs.Loaded.{HasNone, LeavesLoads, LeavesUnnamed, LoadsAll, LoadsAndSendsPart, LoadsSome, LoadsTaken, LoadsToBad}
 use Rattle.store_commands.specs.Loaded.{LoadsWithin, RefusesRun, Unnamed, unnamed_ends}
-use Rattle.chart_program.specs.Course.{AtEachMoment, Course, FoundDamaged, FoundPage, HasFewBlocks, HeldNoBook, IsDoneOrCut, IsShort}
+use Rattle.chart_program.specs.Course.{AtEachMoment, Course, FoundDamaged, FoundPage, HasFewBlocks, HeldNoBook, IsDoneOrCut, IsLonger, IsShort}
 use Rattle.chart_program.specs.Course.{KeptBook, OfInput, OfLeft, OverStore, SentNothing, Told, TookNothing, count}
 
 -- what it did and sent, by how it ended; at a fault of the disk what that holds is said by the moments
@@ -27,7 +27,7 @@ LoadDoes name c DiskFault = SentNothing c
 LoadDoes name c (DamagedBlock block) = FoundDamaged c block × HeldNoBook c
 LoadDoes name c (DamagedPage page) = FoundPage IsBadForEdit c c.new page × HeldNoBook c × SentNothing c
 LoadDoes name c (BadInput at) = OfInput c (λ input. LoadsToBad name (count c) c.old c.new input at) × SentNothing c
-LoadDoes name c InputTooLong = OfInput c (LoadsWithin name (count c) c.old c.new) × SentNothing c
+LoadDoes name c InputTooLong = IsLonger c × OfInput c (LoadsWithin name (count c) c.old c.new) × SentNothing c
 LoadDoes name c (TooSmall blocks) = HasFewBlocks c blocks
 LoadDoes name c UnknownSeries = HasNone (count c) c.old name × KeptBook c × TookNothing c × SentNothing c
 LoadDoes name c (Refused at refusal) = OfInput c (λ input. RefusesRun name (count c) c.old c.new input at refusal) × SentNothing c

@@ -23,7 +23,7 @@ use Rattle.store_commands.specs.Traffic.{Traffic}
 use Rattle.store_commands.specs.Away.{IsTurnedAway}
 use Rattle.chart_program.specs.Slots.{FirstBad, HasTooMany, IsTooLong, StoppedBefore, most_slots}
 use Rattle.chart_program.specs.Plotted.{SendsPlot, SendsFront}
-use Rattle.chart_program.specs.Served.{Faults, faults_of, AreTexts, Spelled, AnswersAll, AnswersFront, AnswersTaken, AnswersWithin, AnswersSome, AnswersLines, LeavesBooks, ReadsServing, SyncsServing, IsRejected}
+use Rattle.chart_program.specs.Served.{Faults, faults_of, AreTexts, Spelled, AnswersAll, AnswersFront, AnswersTaken, AnswersWithin, AnswersSome, AnswersLines, LeavesBooks, ReadsServing, SyncsServing, RejectsNext}
 use Rattle.store_commands.specs.Books.{FromBook, HoldsAgain, Never, LeavesSame}
 use Rattle.store_commands.specs.Loaded.{Unnamed, LoadsAll, LoadsAndSendsPart, LoadsSome, LoadsToBad, LoadsTaken, LoadsWithin, RefusesSet, LeavesLoads, LeavesUnnamed}
 use Rattle.store_commands.specs.Checked.{SendsCounts, SendsCountsPart, IsBadForCheck}
@@ -191,7 +191,7 @@ IsBadInput Derive old new input place before now = DerivesToBad (page_count old.
 abbrev pub Lacks : Command → View → List ℕ → ℕ → Option (List ℕ) → Option (List ℕ) → Type 0
 Lacks Draw old input place before now = (key : Key) × (place ≡ key_number key) × StopsAtFrame None input before now (draw_end.Missing key)
 Lacks (Cover every) old input place before now = (key : Key) × (place ≡ key_number key) × StopsAtFrame (Some every) input before now (draw_end.Missing key)
-Lacks Run old input place before now = Never (page_count old.size) old × ((key : Key) × (place ≡ key_number key) × IsRejected (client.Missing key))
+Lacks Run old input place before now = Never (page_count old.size) old × ((key : Key) × (place ≡ key_number key) × RejectsNext (client.Missing key) before now)
 Lacks (Demo seed rounds) old input place before now = Never (page_count old.size) old × ((key : Key) × (place ≡ key_number key) × MeetsError (client.Missing key))
 Lacks command old input place before now = ⊥
 
@@ -199,7 +199,7 @@ Lacks command old input place before now = ⊥
 abbrev pub Misfits : Command → View → List ℕ → ℕ → Option (List ℕ) → Option (List ℕ) → Type 0
 Misfits Draw old input place before now = (key : Key) × (place ≡ key_number key) × StopsAtFrame None input before now (draw_end.BadCoefficient key)
 Misfits (Cover every) old input place before now = (key : Key) × (place ≡ key_number key) × StopsAtFrame (Some every) input before now (draw_end.BadCoefficient key)
-Misfits Run old input place before now = Never (page_count old.size) old × ((key : Key) × (place ≡ key_number key) × IsRejected (client.BadCoefficient key))
+Misfits Run old input place before now = Never (page_count old.size) old × ((key : Key) × (place ≡ key_number key) × RejectsNext (client.BadCoefficient key) before now)
 Misfits (Demo seed rounds) old input place before now = Never (page_count old.size) old × ((key : Key) × (place ≡ key_number key) × MeetsError (client.BadCoefficient key))
 Misfits command old input place before now = ⊥
 
@@ -328,19 +328,19 @@ HasTooMuch input place = ((place ≡ most_slots) × HasTooMany input) ⊎ ((plac
 -- there is more input than the command takes
 abbrev pub IsTooMuch : Command → View → View → List ℕ → ℕ → Option (List ℕ) → Option (List ℕ) → Type 0
 IsTooMuch (Plot w h) old new input place before now = HasTooMuch input place
-IsTooMuch Run old new input place before now = (place ≡ 2 ^ 32) × AnswersWithin AreTexts (page_count old.size) old new input before now
-IsTooMuch Serve old new input place before now = (place ≡ 2 ^ 32) × AnswersWithin Spelled (page_count old.size) old new input before now
+IsTooMuch Run old new input place before now = (place ≡ 2 ^ 32) × (2 ^ 32 < length input) × AnswersWithin AreTexts (page_count old.size) old new input before now
+IsTooMuch Serve old new input place before now = (place ≡ 2 ^ 32) × (2 ^ 32 < length input) × AnswersWithin Spelled (page_count old.size) old new input before now
 IsTooMuch Draw old new input place before now = (place ≡ 2 ^ 32) × DrawsWithin None input before now
 IsTooMuch Init old new input place before now = ⊥
-IsTooMuch (Load name) old new input place before now = (place ≡ 2 ^ 32) × LoadsWithin name (page_count old.size) old new input
+IsTooMuch (Load name) old new input place before now = (place ≡ 2 ^ 32) × (2 ^ 32 < length input) × LoadsWithin name (page_count old.size) old new input
 IsTooMuch (Demo seed rounds) old new input place before now = ⊥
 IsTooMuch Check old new input place before now = ⊥
 IsTooMuch ListSeries old new input place before now = ⊥
 IsTooMuch (Export name window) old new input place before now = ⊥
-IsTooMuch Retain old new input place before now = (place ≡ 2 ^ 32) × RetainsWithin (page_count old.size) old new input before now
+IsTooMuch Retain old new input place before now = (place ≡ 2 ^ 32) × (2 ^ 32 < length input) × RetainsWithin (page_count old.size) old new input before now
 IsTooMuch (Cover every) old new input place before now = (place ≡ 2 ^ 32) × DrawsWithin (Some every) input before now
-IsTooMuch Live old new input place before now = (place ≡ 2 ^ 32) × LivesWithin (page_count old.size) old new input before now
-IsTooMuch Derive old new input place before now = (place ≡ 2 ^ 32) × DerivesWithin (page_count old.size) old input before now
+IsTooMuch Live old new input place before now = (place ≡ 2 ^ 32) × (2 ^ 32 < length input) × LivesWithin (page_count old.size) old new input before now
+IsTooMuch Derive old new input place before now = (place ≡ 2 ^ 32) × (2 ^ 32 < length input) × DerivesWithin (page_count old.size) old input before now
 
 -- A line, which begins at this place, names a series that isn't there. The lines before it were swept and answered.
 abbrev pub IsUnknown : Command → View → View → List ℕ → ℕ → Option (List ℕ) → Option (List ℕ) → Type 0
@@ -390,22 +390,23 @@ SyncsByInput Serve old new input before now = SyncsServing old new input
 SyncsByInput Live old new input before now = SyncsLiving old new input
 SyncsByInput command old new input before now = ⊤
 
--- the input is no more than the command takes; `init`, `demo`, `check`, `list` and `export` take none
-abbrev pub IsWithin : Command → List ℕ → Type 0
-IsWithin (Plot w h) input = length input ≤ 2 ^ 32
-IsWithin Run input = length input ≤ 2 ^ 32
-IsWithin Serve input = length input ≤ 2 ^ 32
-IsWithin Draw input = length input ≤ 2 ^ 32
-IsWithin Init input = ⊤
-IsWithin (Load name) input = length input ≤ 2 ^ 32
-IsWithin (Demo seed rounds) input = ⊤
-IsWithin Check input = ⊤
-IsWithin ListSeries input = ⊤
-IsWithin (Export name window) input = ⊤
-IsWithin Retain input = length input ≤ 2 ^ 32
-IsWithin (Cover every) input = length input ≤ 2 ^ 32
-IsWithin Live input = length input ≤ 2 ^ 32
-IsWithin Derive input = length input ≤ 2 ^ 32
+-- The input is no more than the command takes, and was read to its end, where this is left; `init`, `demo`, `check`, `list` and
+-- `export` take none.
+abbrev pub IsWithin : Command → Option (List ℕ) → List ℕ → Type 0
+IsWithin (Plot w h) left input = (length input ≤ 2 ^ 32) × (left ≡ Some [])
+IsWithin Run left input = (length input ≤ 2 ^ 32) × (left ≡ Some [])
+IsWithin Serve left input = (length input ≤ 2 ^ 32) × (left ≡ Some [])
+IsWithin Draw left input = (length input ≤ 2 ^ 32) × (left ≡ Some [])
+IsWithin Init left input = ⊤
+IsWithin (Load name) left input = (length input ≤ 2 ^ 32) × (left ≡ Some [])
+IsWithin (Demo seed rounds) left input = ⊤
+IsWithin Check left input = ⊤
+IsWithin ListSeries left input = ⊤
+IsWithin (Export name window) left input = ⊤
+IsWithin Retain left input = (length input ≤ 2 ^ 32) × (left ≡ Some [])
+IsWithin (Cover every) left input = (length input ≤ 2 ^ 32) × (left ≡ Some [])
+IsWithin Live left input = (length input ≤ 2 ^ 32) × (left ≡ Some [])
+IsWithin Derive left input = (length input ≤ 2 ^ 32) × (left ≡ Some [])
 
 -- the input is in the grammar of a command that takes one, and no more than it takes
 abbrev pub IsInput : Command → View → View → List ℕ → Type 0
@@ -479,7 +480,7 @@ pub record CommandEnds (command : Command) (old new : View) (left left' before n
   pub misfit : code ≡ 11 → IfSome left (λ input. Misfits command old input place before now)
   pub unopened : code ≡ 15 → IfSome left (λ input. NamesUnopened command old input place before now)
   pub memory : code ≡ 3 → IfSome left (λ input. IsCutShort command old new input before now)
-  pub within : code ≡ 0 → IfSome left (IsWithin command)
+  pub within : code ≡ 0 → IfSome left (IsWithin command left')
   pub fault : code ≡ 6 → HasRisen old.faults new.faults
   pub faulted : code ≡ 6 → IfSome left (λ input. StopsAtDisk command old input before now)
   pub damaged : code ≡ 7 → IsDamaged command old new place
@@ -498,6 +499,7 @@ pub record CommandEnds (command : Command) (old new : View) (left left' before n
   pub holds : code ≢ 6 → IfSome left (λ input. HoldsAgain (page_count old.size) old new)
   pub crash : IfSome left (λ input. LeavesTold command old new input before now)
   pub disk : LeavesDisk command old new
+  pub honest : Honest old → Honest new
   pub made : code ≡ 0 → IsMade command old new
   pub complete : IfSome left (λ input. IsInput command old new input → Contains of_done code)
   pub drawn : command ≡ Draw → IfSome left (λ input. IsOfReplies input → Contains of_done code)

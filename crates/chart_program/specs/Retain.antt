@@ -14,7 +14,7 @@ use Rattle.run_ends.specs.declared.ending.End.TheVariants.{Done, NoMemory, ReadF
 use Rattle.run_ends.specs.declared.ending.End.TheVariants.{BadInput, InputTooLong, TooSmall, NoSeries}
 use Rattle.series_book.specs.declared.one_series.Series.{Series}
 use Rattle.stored_book.specs.Damage.{IsBadForRequest}
-use Rattle.chart_program.specs.Course.{AtEachMoment, Course, FoundDamaged, FoundPage, HasFewBlocks, HeldNoBook, IsDoneOrCut, IsShort}
+use Rattle.chart_program.specs.Course.{AtEachMoment, Course, FoundDamaged, FoundPage, HasFewBlocks, HeldNoBook, IsDoneOrCut, IsLonger, IsShort}
 use Rattle.chart_program.specs.Course.{OfInput, OverStore, Told}
 
 -- what it did and sent, by how it ended; at a fault of the disk what that holds is said by the moments
@@ -27,7 +27,7 @@ RetainDoes c DiskFault = Told c (λ count old new. RetainsLines count old)
 RetainDoes c (DamagedBlock block) = FoundDamaged c block × OfInput c (λ input. HeldNoBook c)
 RetainDoes c (DamagedPage page) = FoundPage IsBadForRequest c c.new page × OfInput c (λ input. HeldNoBook c)
 RetainDoes c (BadInput at) = Told c (λ count old new input. RetainsToBad count old new input at)
-RetainDoes c InputTooLong = Told c RetainsWithin
+RetainDoes c InputTooLong = IsLonger c × Told c RetainsWithin
 RetainDoes c (TooSmall blocks) = HasFewBlocks c blocks
 RetainDoes c (NoSeries at) = Told c (λ count old new input. RetainsToUnknown count old new input at)
 RetainDoes c end = ⊥

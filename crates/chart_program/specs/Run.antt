@@ -8,17 +8,17 @@ use Rattle.run_ends.specs.declared.ending.End.{End}
 use Rattle.run_ends.specs.declared.ending.End.TheVariants.{Missing, BadCoefficient}
 use Rattle.chart_program.specs.Course.{Course, HeldNoBook, OfInput}
 use Rattle.chart_program.specs.Serve.{ServeDoes, ServesLines}
-use Rattle.chart_program.specs.Served.{AreTexts, IsRejected}
+use Rattle.chart_program.specs.Served.{AreTexts, RejectsNext}
 
--- a client rejects a frame for the key of this number
-abbrev pub RejectsKey : (Key → ClientError) → ℕ → Type 0
-RejectsKey why number = (key : Key) × (number ≡ key_number key) × IsRejected (why key)
+-- The texts of some first frames were sent, and a client rejects the next one for the key of this number.
+abbrev pub RejectsKey : Course → (Key → ClientError) → ℕ → Type 0
+RejectsKey c why number = (key : Key) × (number ≡ key_number key) × RejectsNext (why key) c.sent c.sent_now
 
 -- What it did and sent, by how it ended: as `serve`, but that each frame is shown. A client that rejects one never comes where the
 -- disk holds a book.
 abbrev pub RunDoes : Course → End → Type 0
-RunDoes c (Missing number) = OfInput c (λ input. HeldNoBook c × RejectsKey client.Missing number)
-RunDoes c (BadCoefficient number) = OfInput c (λ input. HeldNoBook c × RejectsKey client.BadCoefficient number)
+RunDoes c (Missing number) = OfInput c (λ input. HeldNoBook c × RejectsKey c client.Missing number)
+RunDoes c (BadCoefficient number) = OfInput c (λ input. HeldNoBook c × RejectsKey c client.BadCoefficient number)
 RunDoes c end = ServeDoes AreTexts c end
 
 -- the texts of the frames are sent

@@ -9,7 +9,7 @@ use Rattle.run_ends.specs.declared.ending.End.TheVariants.{Done, NoMemory, ReadF
 use Rattle.run_ends.specs.declared.ending.End.TheVariants.{InputTooLong, TooSmall}
 use Rattle.series_book.specs.declared.one_series.Series.{Series}
 use Rattle.stored_book.specs.Damage.{IsBadForRequest}
-use Rattle.chart_program.specs.Course.{AtEachMoment, Course, FoundDamaged, FoundPage, HasFewBlocks, HeldNoBook, IsDoneOrCut, IsShort}
+use Rattle.chart_program.specs.Course.{AtEachMoment, Course, FoundDamaged, FoundPage, HasFewBlocks, HeldNoBook, IsDoneOrCut, IsLonger, IsShort}
 use Rattle.chart_program.specs.Course.{OfInput, OverStore, Told, ToldLeft}
 use Rattle.chart_program.specs.Served.{AnswersAll, AnswersFront, AnswersLines, AnswersSome, AnswersTaken, AnswersWithin, LeavesBooks}
 use Rattle.chart_program.specs.Served.{ReadsServing, Says, Spelled, SyncsServing}
@@ -24,7 +24,7 @@ ServeDoes IsText c SendFault = Told c (AnswersFront IsText)
 ServeDoes IsText c DiskFault = Told c (λ count old new. AnswersLines IsText count old)
 ServeDoes IsText c (DamagedBlock block) = FoundDamaged c block × OfInput c (λ input. HeldNoBook c)
 ServeDoes IsText c (DamagedPage page) = FoundPage IsBadForRequest c c.new page × OfInput c (λ input. HeldNoBook c)
-ServeDoes IsText c InputTooLong = Told c (AnswersWithin IsText)
+ServeDoes IsText c InputTooLong = IsLonger c × Told c (AnswersWithin IsText)
 ServeDoes IsText c (TooSmall blocks) = HasFewBlocks c blocks
 ServeDoes IsText c end = ⊥
 

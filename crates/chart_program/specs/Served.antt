@@ -1,12 +1,14 @@
 -- What a serving command says to the lines of its input, over the book that its disk holds, and what it leaves.
-use Rattle.std.specs.Prelude.{◌≡◌, ◌≢◌, ℕ, ◌+◌, ◌-◌, ◌^◌, ◌<◌, ◌≤◌, List, [], length, Option, IfSome, Result, Ok, Err, OnOk, IfErr, ⊤}
+use Rattle.std.specs.Prelude.{◌≡◌, ◌≢◌, ℕ, ◌+◌, ◌-◌, ◌^◌, ◌<◌, ◌≤◌, List, [], length, Option, IfSome, Result, Ok, Err, OnOk, IfErr, ⊤, All}
 use Rattle.block_disk.specs.Counts.{HasRisen}
-use Rattle.block_disk.specs.View.{Image, View, sent_now}
+use Rattle.block_disk.specs.Streams.{sent_after}
+use Rattle.block_disk.specs.View.{Honest, Image, View, sent_now}
 use Rattle.chart_client.specs.Accepting.{Rejects}
 use Rattle.chart_client.specs.declared.errors.ClientError.{ClientError}
 use Rattle.chart_client.specs.declared.errors.ClientError.TheVariants as client
 use Rattle.chart_client.specs.declared.holding.Holding.{Holding}
 use Rattle.chart_frames.specs.declared.frame.Frame.{Frame}
+use Rattle.chart_frames.specs.Frames.{Fits}
 use Rattle.gate_pages.specs.GatePages.{IsReadable}
 use Rattle.gate_pages.specs.Journal.{page_count}
 use Rattle.gate_pages.specs.Pages.{GoesOn}
@@ -30,6 +32,7 @@ use Rattle.stored_book.specs.Standing.{KeepsOldStore, book_pages}
 use Rattle.stored_book.specs.Damage.{IsBadForRequest}
 use Rattle.store_commands.specs.Damaged.{IsDamagedLater}
 use Rattle.store_commands.specs.Books.{begun, OfBook, FromBook, HoldsAgain, Never}
+use Rattle.store_commands.specs.Traffic.{IsLong, WasRead}
 use Rattle.chart_program.specs.Texts.{texts_of}
 use Rattle.run_ends.specs.Statuses.{block_of}
 
@@ -122,13 +125,16 @@ SyncsServing old new input = (opened : ℕ) × (opened ≤ old.syncs + 7) × Syn
 
 -- ---- frames that can't be used
 
--- a client that held nothing accepted some frames one after the other, and rejects the next one so
-pub record IsRejected (e : ClientError) : Type 0 where
+-- A client that held nothing accepted some frames one after the other, whose texts were sent, and rejects the next one so.
+pub record RejectsNext (e : ClientError) (before now : Option (List ℕ)) : Type 0 where
   pub frames : List Frame
+  pub fits : All Fits frames
   pub drawings : List (Option Canvas)
   pub held : List Holding
   pub accepted : AcceptsAll [] frames drawings held
+  pub sent : now ≡ sent_after (texts_of frames drawings) before
   pub frame : Frame
+  pub fits_too : Fits frame
   pub rejects : Rejects frame e held
 
 -- ---- how a serving command ends
@@ -144,29 +150,31 @@ abbrev pub faults_of : ℕ → ℕ → ℕ → ℕ → Faults
 faults_of reads reads_now sends sends_now = record { reads = reads; reads_now = reads_now; sends = sends; sends_now = sends_now }
 
 -- why not all lines were answered; a client can come in the way of a command that shows its frames alone
-abbrev pub IsLinesCause : Type 0 → ℕ → View → View → Faults → RunEnd → Type 0
-IsLinesCause CanShow count old new faults (run_end.Serve serve_end.ReadFault) = HasRisen faults.reads faults.reads_now
-IsLinesCause CanShow count old new faults (run_end.Serve serve_end.SendFault) = HasRisen faults.sends faults.sends_now
-IsLinesCause CanShow count old new faults (run_end.Serve serve_end.DiskFault) = HasRisen old.faults new.faults
-IsLinesCause CanShow count old new faults (run_end.Serve (serve_end.Damaged page)) = IsDamagedLater IsBadForRequest count new (block_of page)
-IsLinesCause CanShow count old new faults (run_end.Serve serve_end.InputTooLong) = ⊤
-IsLinesCause CanShow count old new faults (run_end.Serve serve_end.NoMemory) = ⊤
-IsLinesCause CanShow count old new faults (run_end.Show (client.Missing key)) = CanShow × (key.index < 2 ^ 40) × IsRejected (client.Missing key)
-IsLinesCause CanShow count old new faults (run_end.Show (client.BadCoefficient key)) = CanShow × (key.index < 2 ^ 40) × IsRejected (client.BadCoefficient key)
-IsLinesCause CanShow count old new faults (run_end.Show (client.UnknownSession number)) = ⊥
-IsLinesCause CanShow count old new faults (run_end.Show client.NoMemory) = ⊤
+abbrev pub IsLinesCause : Type 0 → ℕ → View → View → Option (List ℕ) → Option (List ℕ) → Faults → RunEnd → Type 0
+IsLinesCause CanShow count old new before now faults (run_end.Serve serve_end.ReadFault) = HasRisen faults.reads faults.reads_now
+IsLinesCause CanShow count old new before now faults (run_end.Serve serve_end.SendFault) = HasRisen faults.sends faults.sends_now
+IsLinesCause CanShow count old new before now faults (run_end.Serve serve_end.DiskFault) = HasRisen old.faults new.faults
+IsLinesCause CanShow count old new before now faults (run_end.Serve (serve_end.Damaged page)) = IsDamagedLater IsBadForRequest count new (block_of page)
+IsLinesCause CanShow count old new before now faults (run_end.Serve serve_end.InputTooLong) = ⊤
+IsLinesCause CanShow count old new before now faults (run_end.Serve serve_end.NoMemory) = ⊤
+IsLinesCause CanShow count old new before now faults (run_end.Show (client.Missing key)) = CanShow × (key.index < 2 ^ 40) × RejectsNext (client.Missing key) before now
+IsLinesCause CanShow count old new before now faults (run_end.Show (client.BadCoefficient key)) = CanShow × (key.index < 2 ^ 40) × RejectsNext (client.BadCoefficient key) before now
+IsLinesCause CanShow count old new before now faults (run_end.Show (client.UnknownSession number)) = ⊥
+IsLinesCause CanShow count old new before now faults (run_end.Show client.NoMemory) = ⊤
 
 -- What a command did that serves the lines of its input over a store: what it sent, what the disk holds then and held at
 -- each moment, and why it ended.
 pub record ServesLines {T : Type 0} (IsText : Says) (CanShow : Type 0) (count : ℕ) (old new : View) (left left' before now : Option (List ℕ)) (faults : Faults) (answer : Result T RunEnd) : Type 0 where
   pub done : OnOk answer (IfSome left (λ input. AnswersAll IsText count old new input before now))
-  pub within : OnOk answer (IfSome left (λ input. length input ≤ 2 ^ 32))
+  pub within : OnOk answer (WasRead left left')
+  pub long : answer ≡ Err (run_end.Serve serve_end.InputTooLong) → IsLong left
   pub ends : IfErr answer (λ end. IfSome left (λ input. EndsLines IsText count old new input left' before now end))
   pub crash : IfSome left (λ input. IfSome before (λ bytes. LeavesBooks IsText count input old new))
-  pub cause : IfErr answer (λ end. IsLinesCause CanShow count old new faults end)
+  pub cause : IfErr answer (λ end. IsLinesCause CanShow count old new before now faults end)
   pub holds : answer ≢ Err (run_end.Serve serve_end.DiskFault) → IfSome left (λ input. HoldsAgain count old new)
   pub reads : IfSome left (λ input. ReadsFrom count old new input old.reads)
   pub syncs : IfSome left (λ input. SyncsFrom count old new input old.syncs)
+  pub honest : Honest old → Honest new
   pub goes_on : GoesOn old new
   pub risen : old.faults ≤ new.faults
 
@@ -176,9 +184,9 @@ served (Ok done) = Ok done
 served (Err end) = Err (run_end.Serve end)
 
 -- why not all lines were answered, where the store is opened first
-abbrev pub IsWorldCause : Type 0 → View → View → Faults → LinesEnd → Type 0
-IsWorldCause CanShow old new faults (lines_end.Opening cause) = Prevents cause old new
-IsWorldCause CanShow old new faults (lines_end.Answering end) = IsLinesCause CanShow (page_count old.size) old new faults end
+abbrev pub IsWorldCause : Type 0 → View → View → Option (List ℕ) → Option (List ℕ) → Faults → LinesEnd → Type 0
+IsWorldCause CanShow old new before now faults (lines_end.Opening cause) = Prevents cause old new
+IsWorldCause CanShow old new before now faults (lines_end.Answering end) = IsLinesCause CanShow (page_count old.size) old new before now faults end
 
 abbrev pub EndsOpening : Says → View → View → List ℕ → Option (List ℕ) → Option (List ℕ) → OpeningCause → Type 0
 EndsOpening IsText old new input before now (opening.TooSmall size) = now ≡ before
@@ -193,13 +201,15 @@ EndsWorld IsText old new input left before now (lines_end.Answering end) = EndsL
 -- the same of a command that opens the store of its disk and serves lines over it
 pub record ServesWorld {T : Type 0} (IsText : Says) (CanShow : Type 0) (old new : View) (left left' before now : Option (List ℕ)) (faults : Faults) (answer : Result T LinesEnd) : Type 0 where
   pub done : OnOk answer (IfSome left (λ input. AnswersAll IsText (page_count old.size) old new input before now))
-  pub within : OnOk answer (IfSome left (λ input. length input ≤ 2 ^ 32))
+  pub within : OnOk answer (WasRead left left')
+  pub long : answer ≡ Err (lines_end.Answering (run_end.Serve serve_end.InputTooLong)) → IsLong left
   pub ends : IfErr answer (λ end. IfSome left (λ input. EndsWorld IsText old new input left' before now end))
   pub crash : IfSome left (λ input. IfSome before (λ bytes. LeavesBooks IsText (page_count old.size) input old new))
-  pub cause : IfErr answer (λ end. IsWorldCause CanShow old new faults end)
+  pub cause : IfErr answer (λ end. IsWorldCause CanShow old new before now faults end)
   pub holds : answer ≢ Err (lines_end.Answering (run_end.Serve serve_end.DiskFault)) → IfSome left (λ input. HoldsAgain (page_count old.size) old new)
   pub reads : IfSome left (λ input. ReadsServing old new input)
   pub syncs : IfSome left (λ input. SyncsServing old new input)
+  pub honest : Honest old → Honest new
   pub goes_on : GoesOn old new
 
 abbrev pub in_world : {T : Type 0} → Result T RunEnd → Result T LinesEnd

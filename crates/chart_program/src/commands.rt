@@ -1,6 +1,7 @@
 //! The commands, each with its status.
 ghost use Rattle.std.specs.Prelude.{◌≡◌, ◌⊎◌, IfErr, None, Some};
 ghost use Rattle.block_disk.specs.Counts.{HasRisen};
+ghost use Rattle.block_disk.specs.View.{Honest};
 ghost use Rattle.chart_grid.specs.Limits.{IsSide};
 ghost use Rattle.chart_world.specs.Faults.{CountsFault};
 ghost use Rattle.program_words.specs.declared.words.Command.TheVariants.{Plot, Draw, Cover};
@@ -114,6 +115,7 @@ fn init<W: World>(alloc: Global, world: W) -> (End, W)
     ensures untaken { W.left result.1 ≡ W.left world }
     ensures sent { W.sent result.1 ≡ W.sent world }
     ensures disk { LeavesMade (W.view world) (W.view result.1) }
+    ensures honest { Honest (W.view world) → Honest (W.view result.1) }
     ensures faults { CountsFault (end_fault result.0) (W.view world) (W.view result.1) }
     ensures ready { IsFree (W.view world) → (HasRisen (W.view world).faults (W.view result.1).faults → ⊥) → (result.0 ≡ End.Done) ⊎ (result.0 ≡ End.NoMemory) }
 {

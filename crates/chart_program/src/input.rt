@@ -1,6 +1,7 @@
 ghost use Rattle.std.specs.Prelude.{◌≡◌, ◌≢◌, ◌≤◌, ◌^◌, All, length, IfOk, IfErr, IfSome, OnOk, vec_len};
 ghost use Rattle.block_disk.specs.Counts.{HasRisen};
 ghost use Rattle.plain_chart.specs.Samples.{IsSlot};
+ghost use Rattle.chart_world.specs.Reading.{IsReadUp};
 ghost use Rattle.chart_program.specs.declared.input.InputEnd.TheVariants.{NoMemory};
 ghost use Rattle.chart_program.specs.Slots.{SpellsAll};
 ghost use Rattle.chart_program.specs.Reads.{end_of, AddsLine, IsNotAdded, Stops};
@@ -67,6 +68,7 @@ pub fn read_slots<S: Streams>(alloc: Global, from: &mut S) -> Result<Vec<Option<
     ensures values { IfOk result (λ slots. All IsSlot slots.items) }
     ensures few { IfOk result (λ slots. vec_len slots ≤ MOST_SLOTS) }
     ensures within { OnOk result (IfSome (S.left from.old) (λ input. length input ≤ 2 ^ 32)) }
+    ensures whole { OnOk result (IsReadUp (S.left from.old) (S.left from.new)) }
     ensures ends { IfErr result (λ end. IfSome (S.left from.old) (λ input. Stops input (S.left from.new) end)) }
     ensures read { result ≡ Err InputEnd.ReadFault → HasRisen (S.read_faults from.old) (S.read_faults from.new) }
     // nothing is sent, and of the stream nothing changes but by takes

@@ -3,6 +3,7 @@ ghost use Rattle.block_disk.specs.Counts.{HasRisen};
 ghost use Rattle.chart_grid.specs.Limits.{IsSide};
 ghost use Rattle.chart_grid.specs.Projection.{ShowsWindow, HasCanvas};
 ghost use Rattle.chart_world.specs.Faults.{CountsFault, fault_in};
+ghost use Rattle.chart_world.specs.Reading.{IsReadUp};
 ghost use Rattle.plain_chart.specs.Samples.{IsSlot};
 ghost use Rattle.draw_command.specs.Alone.{StaysAlone};
 ghost use Rattle.chart_program.specs.Faulting.{plot_fault};
@@ -42,6 +43,7 @@ pub fn plot<S: World>(alloc: Global, w: u16, h: u16, streams: &mut S) -> Result<
     requires high { IsSide h }
     ensures done { OnOk result (IfSome (S.left streams.old) (λ input. SendsPlot w h input (S.sent streams.old) (S.sent streams.new))) }
     ensures within { OnOk result (IfSome (S.left streams.old) (λ input. length input ≤ 2 ^ 32)) }
+    ensures whole { OnOk result (IsReadUp (S.left streams.old) (S.left streams.new)) }
     ensures ends { IfErr result (λ end. IfSome (S.left streams.old) (λ input. EndsPlot w h input (S.left streams.new) (S.sent streams.old) (S.sent streams.new) end)) }
     ensures unsent { IfErr result (λ end. end ≢ PlotEnd.SendFault → S.sent streams.new ≡ S.sent streams.old) }
     ensures read { result ≡ Err (PlotEnd.Input InputEnd.ReadFault) → HasRisen (S.read_faults streams.old) (S.read_faults streams.new) }

@@ -1,7 +1,8 @@
-ghost use Rattle.std.specs.Prelude.{◌≡◌, ◌≢◌, ◌≤◌, ◌^◌, ℕ, Bool, length, IfErr, IfOk, IfSome, OnOk};
+ghost use Rattle.std.specs.Prelude.{◌≡◌, ◌≢◌, ◌≤◌, ◌<◌, ◌^◌, ℕ, Bool, length, IfErr, IfOk, IfSome, OnOk};
 ghost use Rattle.block_disk.specs.Counts.{HasRisen};
 ghost use Rattle.chart_frames.specs.Frames.{Fits};
 ghost use Rattle.chart_world.specs.Faults.{CountsFault, fault_in};
+ghost use Rattle.chart_world.specs.Reading.{IsReadUp};
 ghost use Rattle.gate_pages.specs.Pages.{GoesOn};
 ghost use Rattle.chart_service.specs.Answering.{SendsAll, LastsBy, ReadsByLines, SyncsByLines};
 ghost use Rattle.chart_service.specs.Knowing.{KnowsOpen};
@@ -52,6 +53,8 @@ pub fn run_on<P: PageWorld, V: Show>(
     // edits whose lines stand ready are committed together
     ensures syncs { shown.ForBook service.old (λ total book. SyncsByLines P.left P.pieces total book service.old service.new) }
     // whatever the pages are
+    ensures whole { OnOk result (IsReadUp (P.left (shown.pages service.old)) (P.left (shown.pages service.new))) }
+    ensures long { result ≡ Err (RunEnd.Serve ServeEnd.InputTooLong) → IfSome (P.left (shown.pages service.old)) (λ input. 2 ^ 32 < length input) }
     ensures read { result ≡ Err (RunEnd.Serve ServeEnd.ReadFault) → HasRisen (P.read_faults (shown.pages service.old)) (P.read_faults (shown.pages service.new)) }
     ensures send { result ≡ Err (RunEnd.Serve ServeEnd.SendFault) → HasRisen (P.send_faults (shown.pages service.old)) (P.send_faults (shown.pages service.new)) }
     ensures disk { result ≡ Err (RunEnd.Serve ServeEnd.DiskFault) → HasRisen (shown.view service.old).faults (shown.view service.new).faults }

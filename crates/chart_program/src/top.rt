@@ -1,5 +1,6 @@
 ghost use Rattle.std.specs.Prelude.{◌≡◌, ◌≢◌, ◌⊎◌, ℕ, List, [], ◌∷◌, map, Contains, Option, string_bytes, IfSome};
 ghost use Rattle.block_disk.specs.Counts.{HasRisen};
+ghost use Rattle.block_disk.specs.View.{Honest};
 ghost use Rattle.chart_world.specs.Faults.{CountsFault};
 ghost use Rattle.program_words.specs.CommandLine.{plain_words};
 ghost use Rattle.program_words.specs.declared.words.Command.TheVariants.{Check, Cover, Demo, Derive, Draw, Export, Init, ListSeries, Live, Load, Plot, Retain};
@@ -57,7 +58,7 @@ pub fn chart<W: World>(alloc: Global, words: &[String], world: W) -> (Status, W)
     ensures misfit { result.0.code ≡ BAD_COEFFICIENT → ForCommand words.now W.view W.left W.sent world result.1 (λ command old new input. Misfits command old input result.0.place) }
     ensures unopened { result.0.code ≡ UNKNOWN_SESSION → ForCommand words.now W.view W.left W.sent world result.1 (λ command old new input. NamesUnopened command old input result.0.place) }
     ensures memory { result.0.code ≡ NO_MEMORY → (result.1 ≡ world) ⊎ ForCommand words.now W.view W.left W.sent world result.1 IsCutShort }
-    ensures within { result.0.code ≡ DONE → ByCommand words.now (λ command. IfSome (W.left world) (IsWithin command)) }
+    ensures within { result.0.code ≡ DONE → ByCommand words.now (λ command. IfSome (W.left world) (IsWithin command (W.left result.1))) }
     ensures fault { result.0.code ≡ DISK_FAULT → HasRisen (W.view world).faults (W.view result.1).faults }
     // with 4, 5 or 6 one call failed, and that count rose by one, or stood at its last value; no other count rose
     ensures faults { CountsFault (code_fault result.0.code) (W.view world) (W.view result.1) }
@@ -98,6 +99,9 @@ pub fn chart<W: World>(alloc: Global, words: &[String], world: W) -> (Status, W)
 
     // so each run is a life, as the law on lists of lives has it
     ensures life { result.0.code ≢ WRONG_WORDS → IsUnread result.0 world result.1 ⊎ ForCommand words.now W.view W.left W.sent world result.1 IsLived }
+
+    // with any status reads of the disk give what a crash may leave, where they did
+    ensures honest { Honest (W.view world) → Honest (W.view result.1) }
 
     // with any status but 6 the disk holds a book again, where it held one
     ensures holds { result.0.code ≢ WRONG_WORDS → result.0.code ≢ DISK_FAULT → (result.1 ≡ world) ⊎ ForCommand words.now W.view W.left W.sent world result.1 HoldsNow }

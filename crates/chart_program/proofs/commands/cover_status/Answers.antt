@@ -6,6 +6,7 @@ use Rattle.run_ends.specs.Faults.{end_fault}
 use Rattle.run_ends.specs.declared.status.Status.{Status}
 use Rattle.store_commands.specs.Faulting.{counts_end}
 use Rattle.program_words.specs.declared.words.Command.TheVariants.{Cover}
+use Rattle.store_commands.specs.TrafficLaws.{read_on}
 use Rattle.chart_program.specs.Served.{faults_of}
 use Rattle.chart_program.specs.Ran.{CommandEnds}
 use Rattle.chart_program.proofs.Faults.{counts_drawn}
@@ -30,7 +31,7 @@ returns-clause-ends g c =
     subst S (sym c.status_of.ensures.status)
     (subst E (sym c.drawing_end.ensures)
     (covered (view old) (view new) (left old) (left new) (sent old) (sent new) faults c.args.every (record { one = c.one_frame_a_spelling.ensures; told = c.length_is_told.ensures; good = c.spellings_are_good.ensures }) c.more_bytes_mend_nothing.ensures.stays
-    c.cover-answer.result e.done e.within e.ends e.read e.send e.disk))
+    c.cover-answer.result e.done (read_on c.cover-answer.result (left old) (left new) e.within e.whole) e.ends e.read e.send e.disk))
 
 pub returns-clause-faults : goal.returns-clause-faults
 returns-clause-faults g c =
@@ -50,4 +51,4 @@ returns-clause-does g c =
     let e = c.cover-answer.ensures in
     let known : Known = record { one = c.one_frame_a_spelling.ensures; told = c.length_is_told.ensures; good = c.spellings_are_good.ensures } in
     let E : End → Type 0 = λ x. Draws (Some c.args.every) at x in
-    (c.drawing_end.result, c.status_of.ensures.status, subst E (sym c.drawing_end.ensures) (drawn_by at (Some c.args.every) known c.more_bytes_mend_nothing.ensures.stays c.replies_draw_the_book.ensures c.one_session_draws_the_book.ensures c.replies_are_accepted.ensures c.own_replies_are_accepted.ensures c.cover-answer.result e.done e.within e.ends e.disk))
+    (c.drawing_end.result, c.status_of.ensures.status, subst E (sym c.drawing_end.ensures) (drawn_by at (Some c.args.every) known c.more_bytes_mend_nothing.ensures.stays c.replies_draw_the_book.ensures c.one_session_draws_the_book.ensures c.replies_are_accepted.ensures c.own_replies_are_accepted.ensures c.cover-answer.result e.done (read_on c.cover-answer.result at.left at.left_now e.within e.whole) e.ends e.disk))

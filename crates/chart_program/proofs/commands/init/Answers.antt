@@ -54,3 +54,9 @@ returns-in-Err-clause-ready g c =
     let new = g.W.Disk.view c.in-Err.field-0.value in
     let E : End → Type 0 = λ x. (x ≡ Done) ⊎ (x ≡ NoMemory) in
     λ free whole. subst E (sym c.init_end.ensures) (unmade_ready old new c.in-Err.field-0.cause c.in-Err.ensures.cause free whole)
+
+pub returns-in-Ok-clause-honest : goal.returns-in-Ok-clause-honest
+returns-in-Ok-clause-honest g c = c.in-Ok.ensures.honest
+
+pub returns-in-Err-clause-honest : goal.returns-in-Err-clause-honest
+returns-in-Err-clause-honest g c = c.in-Err.ensures.honest

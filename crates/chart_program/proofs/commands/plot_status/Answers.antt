@@ -6,6 +6,7 @@ use Rattle.run_ends.specs.Faults.{end_fault}
 use Rattle.run_ends.specs.declared.status.Status.{Status}
 use Rattle.store_commands.specs.Faulting.{counts_end, counts_told}
 use Rattle.program_words.specs.declared.words.Command.TheVariants.{Plot}
+use Rattle.store_commands.specs.TrafficLaws.{read_on}
 use Rattle.chart_program.specs.Faulting.{plot_fault}
 use Rattle.chart_program.specs.Plotted.{plotting_end}
 use Rattle.chart_program.specs.Served.{faults_of}
@@ -29,7 +30,7 @@ returns-clause-ends g c =
     let S : Status → Type 0 = λ s. CommandEnds (Plot c.args.w c.args.h) (view old) (view new) (left old) (left new) (sent old) (sent new) faults s.code s.place in
     let E : End → Type 0 = λ x. CommandEnds (Plot c.args.w c.args.h) (view old) (view new) (left old) (left new) (sent old) (sent new) faults (code_of x) (place_of x) in
     subst S (sym c.status_of.ensures.status)
-    (subst E (sym c.plotting_end.ensures) (plotted (view old) (view new) (left old) (left new) (sent old) (sent new) faults c.args.w c.args.h c.plot-answer.result e.done e.within e.ends e.unsent e.read e.send e.disk))
+    (subst E (sym c.plotting_end.ensures) (plotted (view old) (view new) (left old) (left new) (sent old) (sent new) faults c.args.w c.args.h c.plot-answer.result e.done (read_on c.plot-answer.result (left old) (left new) e.within e.whole) e.ends e.unsent e.read e.send e.disk))
 
 pub returns-clause-faults : goal.returns-clause-faults
 returns-clause-faults g c =
@@ -45,4 +46,4 @@ returns-clause-does g c =
     let at = course g.W.Disk.view g.W.Streams.left g.W.Streams.sent c.args.world.now c.plot-answer.new.streams in
     let e = c.plot-answer.ensures in
     let E : End → Type 0 = λ x. OfPlot c.args.w c.args.h at x in
-    (c.plotting_end.result, c.status_of.ensures.status, subst E (sym c.plotting_end.ensures) (of_plot at c.args.w c.args.h c.plot-answer.result e.done e.within e.ends e.unsent e.disk))
+    (c.plotting_end.result, c.status_of.ensures.status, subst E (sym c.plotting_end.ensures) (of_plot at c.args.w c.args.h c.plot-answer.result e.done (read_on c.plot-answer.result at.left at.left_now e.within e.whole) e.ends e.unsent e.disk))

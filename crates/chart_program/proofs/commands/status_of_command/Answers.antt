@@ -137,7 +137,7 @@ returns-in-Init-clause-ends g c =
     let P : Command → Type 0 = λ command. CommandEnds command (view old) (view new) (left old) (left new) (sent old) (sent new) faults (code_of end) (place_of end) in
     let S : Status → Type 0 = λ s. CommandEnds c.args.command (view old) (view new) (left old) (left new) (sent old) (sent new) faults s.code s.place in
     subst S (sym c.status_of-in-Init.ensures.status)
-    (subst P (sym c.in-Init.is) (init_ends (view old) (view new) (left old) (left new) (sent old) (sent new) faults end e.ends e.away e.untaken e.sent e.disk e.ready))
+    (subst P (sym c.in-Init.is) (init_ends (view old) (view new) (left old) (left new) (sent old) (sent new) faults end e.ends e.away e.untaken e.sent e.disk e.honest e.ready))
 
 pub returns-in-Init-clause-faults : goal.returns-in-Init-clause-faults
 returns-in-Init-clause-faults g c =

@@ -1,7 +1,7 @@
 use Rattle.std.proofs.Common.{ℤ, ◌^◌, List, Option, Ok, Err, IsTrue, IfSome, All, length, refl, ap, sym, subst, ◌∙◌, arith}
 use Rattle.std.proofs.lemmas.List.Elements.{All-nil}
-use Rattle.chart_world.specs.Reading.{Reading, unread}
-use Rattle.chart_world.specs.FrontLaws.{same_line}
+use Rattle.chart_world.specs.Reading.{Reading, input_length, unread}
+use Rattle.chart_world.specs.FrontLaws.{read_up, same_line}
 use Rattle.chart_world.specs.StandsLaws.{stands_first}
 use Rattle.plain_chart.specs.Samples.{IsSlot}
 use Rattle.chart_service.proofs.Outcomes.{ok_err}
@@ -42,6 +42,14 @@ pub returns-in-End-clause-within : goal.returns-in-End-clause-within
 returns-in-End-clause-within g c =
     read_all (g.S.Streams.left c.args.from.now) (unread c.lines.lines (g.S.Streams.left c.lines.from)) c.lines.lines.given (2 ^ 32) c.lines.slots.items
     (c.in_ok-next.ensures.end (ap Ok c.in-End.is)) c.lines.invariant.within c.lines.invariant.progress
+
+pub returns-in-End-clause-whole : goal.returns-in-End-clause-whole
+returns-in-End-clause-whole g c =
+    let left = g.S.Streams.left in
+    let e = c.in_ok-next.ensures in
+    let taken = ap (λ (r : Reading). r.taken) c.in_ok-lines.ensures in
+    let total = e.total ∙ c.lines.invariant.total ∙ ap (λ n. input_length n (left c.args.from.now)) taken in
+    read_up (left c.args.from.now) (left c.lines.from) (left c.next.new.from) c.lines.lines c.next.new.self (e.end (ap Ok c.in-End.is)) e.rest total
 
 pub returns-in-TooLong-clause-ends : goal.returns-in-TooLong-clause-ends
 returns-in-TooLong-clause-ends g c =

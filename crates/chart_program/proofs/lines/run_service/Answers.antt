@@ -14,6 +14,7 @@ use Rattle.chart_client.specs.Showing.{ScreenGives}
 use Rattle.chart_program.proofs.ShownFrames.{stopped_shown}
 use Rattle.chart_program.proofs.Telling.{texts_none}
 use Rattle.chart_program.proofs.Knowing.{holds_of, screen_follows, known_first}
+use Rattle.store_commands.specs.TrafficLaws.{read_on}
 use Rattle.store_commands.proofs.Held.{rests_new}
 use Rattle.store_commands.proofs.Stores.{store_disk, store_sound}
 use Rattle.chart_program.proofs.lines.run_service.Goals as goal
@@ -45,7 +46,7 @@ returns-in-Ok-clause-serves g c =
     let rests = rests_new pages.count (view disk) (shown.numbers c.args.service) (pages.at_rest c.requires.sound) (c.args.service.store.space.spelled c.requires.sound) in
     let all = run_made pages.count end_pages.count pages.sound end_pages.sound (view disk) (view new) (left disk) (left new) (sent disk) (sent new) faults after.sessions made.serves.size made.serves.told made.goes_on made.serves.faults rests
     c.one_frame_a_spelling.ensures c.replies_draw_the_book.ensures c.clients_draw_the_book.ensures.accepts c.run_on-answer.result c.in-Ok.screen c.run_on-answer.new.show own c.in-Ok.ensures c.requires.alone
-    (λ total book told stands. c.is_sound.ensures.state total book c.requires.sound told stands) made.done made.within made.ends made.crash closed
+    (λ total book told stands. c.is_sound.ensures.state total book c.requires.sound told stands) made.done (read_on c.run_on-answer.result (left disk) (left new) made.within made.whole) made.long made.ends made.crash closed
     (run_causes c.one_frame_a_spelling.ensures law.numbered pages.count end_pages.count (view disk) (view new) faults c.in-Ok.screen c.run_on-answer.new.show own (sent disk) (sent new) c.run_on-answer.result c.in-Ok.ensures made.serves.size made.read made.send made.disk made.bad
     (stopped_shown ScreenGives c.in-Ok.screen c.run_on-answer.new.show own (sent disk) (sent new) c.run_on-answer.result made.named)
     (made.known holds_of (screen_follows change.others change.opened change.viewed c.one_frame_a_spelling.ensures) (known_first c.in-Ok.screen own c.requires.alone)))

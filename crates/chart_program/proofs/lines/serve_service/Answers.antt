@@ -12,6 +12,7 @@ use Rattle.chart_program.proofs.Faults.{told_served}
 use Rattle.chart_program.specs.Served.{Spelled, faults_of, ServesLines, served}
 use Rattle.chart_program.proofs.Counts.{reads_served, syncs_served}
 use Rattle.chart_program.proofs.LinesServed.{serve_made, serve_causes, same_answer}
+use Rattle.store_commands.specs.TrafficLaws.{read_on}
 use Rattle.store_commands.proofs.Held.{rests_new}
 use Rattle.store_commands.proofs.Stores.{store_disk, store_sound}
 use Rattle.chart_program.proofs.lines.serve_service.Goals as goal
@@ -40,8 +41,8 @@ returns-clause-serves g c =
     subst P same_disk (c.disk_of.ensures.rests (subst IsTrue (sym (store_sound store after.store c.into_store.ensures)) (made.sound other))) in
     let rests = rests_new pages.count (view disk) (shown.numbers c.args.service) (pages.at_rest c.requires.sound) (c.args.service.store.space.spelled c.requires.sound) in
     let all = serve_made pages.count end_pages.count pages.sound end_pages.sound (view disk) (view new) (left disk) (left new) (sent disk) (sent new) faults after.sessions made.serves.size made.serves.told made.goes_on made.serves.faults rests
-    c.serve-answer.result own c.requires.alone made.done made.within made.ends made.crash closed
-    (serve_causes pages.count end_pages.count (view disk) (view new) faults ⊥ c.serve-answer.result made.serves.size made.read made.send made.disk made.bad)
+    c.serve-answer.result own c.requires.alone made.done (read_on c.serve-answer.result (left disk) (left new) made.within made.whole) made.long made.ends made.crash closed
+    (serve_causes pages.count end_pages.count (view disk) (view new) (sent disk) (sent new) faults ⊥ c.serve-answer.result made.serves.size made.read made.send made.disk made.bad)
     (reads_served (left disk) pages.count (view disk) (view new) own rests c.requires.alone made.reads)
     (syncs_served (left disk) pages.count (view disk) (view new) (pieces disk) (pieces new) rests (g.met.W.World.beside_pieces disk) (g.met.W.World.beside_pieces new) made.syncs) in
     let D : g.row.W.Denot → Type 0 = λ d. ServesLines Spelled ⊥ pages.count (view disk) (view d) (left disk) (left d) (sent disk) (sent d) (faults_of (reads disk) (reads d) (sends disk) (sends d)) (served c.serve-answer.result) in

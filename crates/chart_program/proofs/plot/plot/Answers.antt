@@ -1,7 +1,8 @@
-use Rattle.std.proofs.Common.{◌≡◌, ◌≢◌, true, false, None, Some, Result, Err, IfSome, refl, sym, subst, ap, ◌∙◌, rules}
+use Rattle.std.proofs.Common.{◌≡◌, ◌≢◌, ℕ, List, Option, true, false, None, Some, Result, Err, IfSome, refl, sym, subst, ap, ◌∙◌, rules}
 use Rattle.std.specs.Prelude.{is_err}
 use Rattle.block_disk.specs.Counts.{HasRisen}
 use Rattle.chart_world.specs.Faults.{OfSend, CountsFault, fault_in}
+use Rattle.chart_world.specs.Reading.{IsReadUp}
 use Rattle.chart_world.specs.FaultLaws.{counts_then, counts_kept, counts_unsent}
 use Rattle.chart_service.proofs.Sending.{error_goes}
 use Rattle.chart_service.proofs.Ends.{error_is, on_err}
@@ -28,6 +29,9 @@ returns-in_err-slots-clause-done g c = on_err c.from_residual.result _ _ c.from_
 pub returns-in_err-slots-clause-within : goal.returns-in_err-slots-clause-within
 returns-in_err-slots-clause-within g c = on_err c.from_residual.result _ _ c.from_residual.ensures.1
 
+pub returns-in_err-slots-clause-whole : goal.returns-in_err-slots-clause-whole
+returns-in_err-slots-clause-whole g c = on_err c.from_residual.result _ _ c.from_residual.ensures.1
+
 pub returns-in_err-slots-clause-ends : goal.returns-in_err-slots-clause-ends
 returns-in_err-slots-clause-ends g c =
     let old = c.args.streams.now in
@@ -53,6 +57,9 @@ returns-in_err-bytes-clause-done g c = on_err c.from_residual-in_err-bytes.resul
 pub returns-in_err-bytes-clause-within : goal.returns-in_err-bytes-clause-within
 returns-in_err-bytes-clause-within g c = on_err c.from_residual-in_err-bytes.result _ _ c.from_residual-in_err-bytes.ensures.1
 
+pub returns-in_err-bytes-clause-whole : goal.returns-in_err-bytes-clause-whole
+returns-in_err-bytes-clause-whole g c = on_err c.from_residual-in_err-bytes.result _ _ c.from_residual-in_err-bytes.ensures.1
+
 pub returns-in_err-bytes-clause-unsent : goal.returns-in_err-bytes-clause-unsent
 returns-in_err-bytes-clause-unsent g c =
     let sent = g.S.Streams.sent in
@@ -66,6 +73,15 @@ returns-then-is_err-clause-done g c = tt
 
 pub returns-then-is_err-clause-within : goal.returns-then-is_err-clause-within
 returns-then-is_err-clause-within g c = tt
+
+pub returns-then-is_err-clause-whole : goal.returns-then-is_err-clause-whole
+returns-then-is_err-clause-whole g c = tt
+
+pub returns-clause-whole : goal.returns-clause-whole
+returns-clause-whole g c =
+    let left = g.S.Streams.left in
+    let R : Option (List ℕ) → Type 0 = λ l. IsReadUp (left c.args.streams.now) l in
+    subst R (sym c.send.ensures.left) c.in_ok-slots.ensures.whole
 
 pub returns-then-is_err-clause-unsent : goal.returns-then-is_err-clause-unsent
 returns-then-is_err-clause-unsent g c = λ other. absurd (other refl)

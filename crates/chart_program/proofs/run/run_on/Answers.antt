@@ -3,9 +3,10 @@ use Rattle.block_disk.specs.View.{sent_now}
 use Rattle.chart_service.specs.Answering.{SendsAll}
 use Rattle.chart_service.specs.Faulting.{answer_fault}
 use Rattle.chart_service.specs.Shown as shown
-use Rattle.chart_service.specs.declared.failure.ServeEnd.TheVariants.{ReadFault, SendFault, DiskFault}
+use Rattle.chart_service.specs.declared.failure.ServeEnd.TheVariants.{ReadFault, SendFault, DiskFault, InputTooLong}
 use Rattle.chart_service.proofs.Sending.{ok_so}
 use Rattle.chart_world.specs.Faults.{CountsFault, fault_in}
+use Rattle.chart_world.specs.Reading.{IsReadUp}
 use Rattle.store_commands.specs.Faulting.{counts_told}
 use Rattle.chart_program.specs.Faulting as faulting
 use Rattle.chart_program.specs.declared.run_end.RunEnd.{RunEnd}
@@ -32,6 +33,17 @@ pub returns-clause-within : goal.returns-clause-within
 returns-clause-within g c =
     let X = IfSome (g.P.Streams.left (shown.pages c.args.service.now)) (λ input. length input ≤ 2 ^ 32) in
     subst (λ r. OnOk r X) (sym c.of_answers.ensures) (run_ok c.answer_lines-answer.result X c.answer_lines-answer.ensures.within)
+
+pub returns-clause-whole : goal.returns-clause-whole
+returns-clause-whole g c =
+    let left = g.P.Streams.left in
+    let X = IsReadUp (left (shown.pages c.args.service.now)) (left (shown.pages c.answer_lines-answer.new.service)) in
+    subst (λ r. OnOk r X) (sym c.of_answers.ensures) (run_ok c.answer_lines-answer.result X c.answer_lines-answer.ensures.whole)
+
+pub returns-clause-long : goal.returns-clause-long
+returns-clause-long g c = λ fault.
+    let unmade = c.answer_lines-answer.ensures.known _ (all_follow g.V.Show.gives) (all_known c.args.show.now c.args.service.now.sessions) in
+    c.answer_lines-answer.ensures.long (run_fault g.V.Show.gives c.answer_lines-answer.result InputTooLong (λ e. cc) unmade (sym c.of_answers.ensures ∙ fault))
 
 pub returns-clause-ends : goal.returns-clause-ends
 returns-clause-ends g c = λ total book told stands.

@@ -12,7 +12,7 @@ lines_status-requires g c =
     let old = c.args.world in
     let new = c.run_world-answer.result.1 in
     let faults = faults_of (g.W.Streams.read_faults old) (g.W.Streams.read_faults new) (g.W.Streams.send_faults old) (g.W.Streams.send_faults new) in
-    numbered_by (Unit {0}) (g.W.Disk.view old) (g.W.Disk.view new) faults c.run_world-answer.result.0 c.run_world-answer.ensures.serves.cause
+    numbered_by (Unit {0}) (g.W.Disk.view old) (g.W.Disk.view new) (g.W.Streams.sent old) (g.W.Streams.sent new) faults c.run_world-answer.result.0 c.run_world-answer.ensures.serves.cause
 
 pub returns-clause-ends : goal.returns-clause-ends
 returns-clause-ends g c =

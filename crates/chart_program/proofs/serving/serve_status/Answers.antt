@@ -12,7 +12,7 @@ lines_status-requires g c =
     let old = c.args.world in
     let new = c.serve_world-answer.result.1 in
     let faults = faults_of (g.W.Streams.read_faults old) (g.W.Streams.read_faults new) (g.W.Streams.send_faults old) (g.W.Streams.send_faults new) in
-    numbered_by ⊥ (g.W.Disk.view old) (g.W.Disk.view new) faults c.serve_world-answer.result.0 c.serve_world-answer.ensures.serves.cause
+    numbered_by ⊥ (g.W.Disk.view old) (g.W.Disk.view new) (g.W.Streams.sent old) (g.W.Streams.sent new) faults c.serve_world-answer.result.0 c.serve_world-answer.ensures.serves.cause
 
 pub returns-clause-ends : goal.returns-clause-ends
 returns-clause-ends g c =

@@ -78,6 +78,9 @@ returns-in-Ok-clause-unopened g c =
     let e = c.status_of_command.ensures.ends in
     λ is. of_command _ c.in-Ok.command c.in-Ok.command _ refl c.in-Ok.ensures.command (e.unopened is)
 
+pub returns-in-Ok-clause-honest : goal.returns-in-Ok-clause-honest
+returns-in-Ok-clause-honest g c = c.status_of_command.ensures.ends.honest
+
 pub returns-in-Ok-clause-within : goal.returns-in-Ok-clause-within
 returns-in-Ok-clause-within g c =
     let e = c.status_of_command.ensures.ends in
@@ -213,6 +216,9 @@ returns-in-Err-Wrong-clause-misfit g c = λ is. apart (sym c.status_of.ensures.c
 pub returns-in-Err-Wrong-clause-unopened : goal.returns-in-Err-Wrong-clause-unopened
 returns-in-Err-Wrong-clause-unopened g c = λ is. apart (sym c.status_of.ensures.code ∙ is) refl
 
+pub returns-in-Err-Wrong-clause-honest : goal.returns-in-Err-Wrong-clause-honest
+returns-in-Err-Wrong-clause-honest g c = λ h. h
+
 pub returns-in-Err-Wrong-clause-within : goal.returns-in-Err-Wrong-clause-within
 returns-in-Err-Wrong-clause-within g c = λ is. apart (sym c.status_of.ensures.code ∙ is) refl
 
@@ -308,6 +314,9 @@ returns-in-Err-NoMemory-clause-misfit g c = λ is. apart (sym c.status_of-in-Err
 
 pub returns-in-Err-NoMemory-clause-unopened : goal.returns-in-Err-NoMemory-clause-unopened
 returns-in-Err-NoMemory-clause-unopened g c = λ is. apart (sym c.status_of-in-Err-NoMemory.ensures.code ∙ is) refl
+
+pub returns-in-Err-NoMemory-clause-honest : goal.returns-in-Err-NoMemory-clause-honest
+returns-in-Err-NoMemory-clause-honest g c = λ h. h
 
 pub returns-in-Err-NoMemory-clause-within : goal.returns-in-Err-NoMemory-clause-within
 returns-in-Err-NoMemory-clause-within g c = λ is. apart (sym c.status_of-in-Err-NoMemory.ensures.code ∙ is) refl
