@@ -105,7 +105,7 @@ module _ (old new : View) (input was sent bytes : List ℕ) (faults : Faults) (c
       sent_first (begun total book) lines.between input lines.rest was sent code lines.first (other_than 5 (sym is))
   serve_sent total book holds (suc (suc (suc (suc (suc zero)))), inside, is) = absurd (e.undamaged (sym is) total book holds)
   serve_sent total book holds (suc (suc (suc (suc (suc (suc zero))))), inside, is) =
-      let within = (e.much (sym is)).1 total book holds in
+      let within = (e.much (sym is)).2 total book holds in
       sent_first (begun total book) within.0 input within.1.rest was sent code within.1.first (other_than 8 (sym is))
   serve_sent total book holds (suc (suc (suc (suc (suc (suc (suc zero)))))), inside, is) =
       absurd (small_never old total book holds (omega (arith, (e.small (sym is)).1)))
