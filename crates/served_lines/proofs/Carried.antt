@@ -83,7 +83,8 @@ module _ {S F : Type 0} (makes : Makes S F) where
   over_one : (old new : Held S) → ◌≡◌ {A = Stand S} (Over old) (Over new) → old ≡ new
   over_one old new same = cc
 
-  pause_none : (new mid : Held S) (text : List ℕ) (between : Stand S) → Does makes (Over mid) Pause text between → between ≡ Over new → new.ahead ≡ []
+  pause_none : (new mid : Held S) (text : List ℕ) (between : Stand S) → Does makes (Over mid) Pause text between → between ≡ Over new
+      → new.ahead ≡ []
   pause_none new mid text (Any named) does same = absurd does
   pause_none new mid text (Over next) does same = sym (ap (λ h. h.ahead) (over_one next new same)) ∙ does.1
 
@@ -95,14 +96,18 @@ module _ {S F : Type 0} (makes : Makes S F) where
       let both = carries_both (Does makes) p.earlier (Pause ∷ []) (Over old) text stand (subst C p.given_are all) in
       let t = turned given old text stand all in
       let first = turned p.earlier old both.begin both.between both.begins in
-      let D : Stand S → Type 0 = λ b. Does makes b Pause both.others.first both.others.between in
-      (t, pause_none t.new first.new both.others.first both.others.between (subst D first.is both.others.does) (sym both.others.others.1 ∙ t.is))
+      let D : Stand S → Type 0 = λ b. Does makes b Pause both.others.first both.others.between in (
+        t,
+        pause_none t.new first.new both.others.first both.others.between (subst D first.is both.others.does) (sym both.others.others.1
+            ∙ t.is),
+      )
 
   none_both : (front rest : List (Option (List ℕ))) → front ++ rest ≡ [] → rest ≡ []
   none_both [] rest none = none
   none_both (line ∷ front) rest none = absurd (cc (none))
 
-  end_none : (new mid : Held S) (text : List ℕ) → mid.ahead ≡ [] → (between : Stand S) → Does makes (Over mid) End text between → between ≡ Over new
+  end_none : (new mid : Held S) (text : List ℕ) → mid.ahead ≡ [] → (between : Stand S) → Does makes (Over mid) End text between
+      → between ≡ Over new
       → new.ahead ≡ []
   end_none new mid text none (Any named) does same = absurd does
   end_none new mid text none (Over next) does same =
@@ -110,12 +115,16 @@ module _ {S F : Type 0} (makes : Makes S F) where
       ∙ none_both does.0.answered.front next.ahead (sym does.0.answered.split ∙ append-nil mid.ahead ∙ none)
 
   -- nor behind the end that comes then
-  pub ended : (earlier given : List Given) (old : Held S) (text : List ℕ) (stand : Stand S) → EndsPaused earlier → given ≡ earlier ++ End ∷ []
+  pub ended : (earlier given : List Given) (old : Held S) (text : List ℕ) (stand : Stand S) → EndsPaused earlier
+      → given ≡ earlier ++ End ∷ []
       → Carries (Does makes) (Over old) given text stand → (t : Turned old given text stand) × (t.new.ahead ≡ [])
   ended earlier given old text stand p is all =
       let C : List Given → Type 0 = λ l. Carries (Does makes) (Over old) l text stand in
       let both = carries_both (Does makes) earlier (End ∷ []) (Over old) text stand (subst C is all) in
       let t = turned given old text stand all in
       let first = paused earlier old both.begin both.between p both.begins in
-      let D : Stand S → Type 0 = λ b. Does makes b End both.others.first both.others.between in
-      (t, end_none t.new first.0.new both.others.first first.1 both.others.between (subst D first.0.is both.others.does) (sym both.others.others.1 ∙ t.is))
+      let D : Stand S → Type 0 = λ b. Does makes b End both.others.first both.others.between in (
+        t,
+        end_none t.new first.0.new both.others.first first.1 both.others.between (subst D first.0.is both.others.does) (sym
+            both.others.others.1 ∙ t.is),
+      )

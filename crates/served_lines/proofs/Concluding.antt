@@ -82,8 +82,10 @@ module _ {S F : Type 0} (makes : Makes S F) (v w : S) (total : ℕ) (book : List
         }
 
   -- after the whole input
-  pub done_over : (o : Option (List ℕ)) (pieces pieces' : ℕ) → runs.Runs (Does makes) (Over first) (runs.AreAll pieces pieces') StandsNow o before now
-      → StandsAfter total new.image sessions (λ after. IfSome o (λ input. SendsText (AreMade makes v w) input (state_of book total own) after before now))
+  pub done_over : (o : Option (List ℕ)) (pieces pieces' : ℕ)
+      → runs.Runs (Does makes) (Over first) (runs.AreAll pieces pieces') StandsNow o before now
+      → StandsAfter total new.image sessions (λ after. IfSome o (λ input. SendsText (AreMade makes v w) input (state_of book total own)
+      after before now))
   done_over None pieces pieces' all =
       let t = turned makes all.done.given first all.done.text all.done.behind all.done.carries in
       let h : IsHeld t.new w edits told_now new sessions now = subst StandsNow t.is all.stands in
@@ -106,7 +108,8 @@ module _ {S F : Type 0} (makes : Makes S F) (v w : S) (total : ℕ) (book : List
       }
 
   -- at a failed take
-  pub read_over : (o left : Option (List ℕ)) (pieces pieces' : ℕ) → runs.Runs (Does makes) (Over first) (runs.AreTaken pieces pieces' left) StandsNow o before now
+  pub read_over : (o left : Option (List ℕ)) (pieces pieces' : ℕ)
+      → runs.Runs (Does makes) (Over first) (runs.AreTaken pieces pieces' left) StandsNow o before now
       → EndsAnswers makes v w o (state_of book total own) new.image sessions left before now (Serve ReadFault)
   read_over None left pieces pieces' all =
       let t = turned makes all.done.given first all.done.text all.done.behind all.done.carries in
@@ -125,7 +128,8 @@ module _ {S F : Type 0} (makes : Makes S F) (v w : S) (total : ℕ) (book : List
         so = by left a are.behind;
       }
     where
-      by : (l : Option (List ℕ)) → {h : Held S} → AllAnswered all.done.text all.are.first.front h → IfSome l (runs.Unended all.are.first.rest)
+      by : (l : Option (List ℕ)) → {h : Held S} → AllAnswered all.done.text all.are.first.front h
+          → IfSome l (runs.Unended all.are.first.rest)
           → IfSome l (λ bytes. SendsTaken (AreMade makes v w) input bytes (state_of book total own) (state_now h) before now)
       by None {h} a after = tt
       by (Some bytes) {h} a after = record {
@@ -145,7 +149,8 @@ module _ {S F : Type 0} (makes : Makes S F) (v w : S) (total : ℕ) (book : List
       }
 
   -- past 2^32 bytes
-  pub long_over : (o left : Option (List ℕ)) (pieces pieces' : ℕ) → runs.Runs (Does makes) (Over first) (runs.AreWithin pieces pieces') StandsNow o before now
+  pub long_over : (o left : Option (List ℕ)) (pieces pieces' : ℕ)
+      → runs.Runs (Does makes) (Over first) (runs.AreWithin pieces pieces') StandsNow o before now
       → EndsAnswers makes v w o (state_of book total own) new.image sessions left before now (Serve InputTooLong)
   long_over None left pieces pieces' all =
       let t = turned makes all.done.given first all.done.text all.done.behind all.done.carries in
@@ -180,7 +185,8 @@ module _ {S F : Type 0} (makes : Makes S F) (v w : S) (total : ℕ) (book : List
 -- ---- lines on their way
 
 -- lines were given, some of them were answered, and behind those the next ones are on their way
-pub record OnWay {S F : Type 0} (makes : Makes S F) (first : Held S) (given : List Given) (it : Given) (text : List ℕ) (next : List (Option (List ℕ)))
+pub record OnWay {S F : Type 0} (makes : Makes S F) (first : Held S) (given : List Given) (it : Given) (text : List ℕ) (next : List
+    (Option (List ℕ)))
     (between : Held S) : Type 0 where
   pub answered : Answered makes first between (lines_all given) text
   pub later : List (Option (List ℕ))
@@ -194,7 +200,8 @@ module _ {S F : Type 0} (makes : Makes S F) (v : S) (total : ℕ) (book : List S
   start = first_held v total book own before from syncs
 
   -- behind what was given
-  pub on_way : (given : List Given) (it : Given) (mid : Held S) (text : List ℕ) (pauses : ℕ) → Turn makes start mid (lines_all given) pauses text
+  pub on_way : (given : List Given) (it : Given) (mid : Held S) (text : List ℕ) (pauses : ℕ)
+      → Turn makes start mid (lines_all given) pauses text
       → (b : Begun makes mid (lines_of it)) → OnWay makes start given it (text ++ b.text) b.next b.between
   on_way given it mid text pauses t b =
       let A : List (Option (List ℕ)) → Type 0 = λ l. Answered makes start b.between l (text ++ b.text) in
@@ -218,27 +225,36 @@ module _ {S F : Type 0} (makes : Makes S F) (v : S) (total : ℕ) (book : List S
     -- the place behind the lines that were answered
     abbrev pub count_at : (input : List ℕ) → AreBefore input given it → ℕ
     count_at input are =
-        length (place input are.first.front are.first.rest are.first.begins are.first.early way.answered.front between.ahead (told_place input are)).front
+        length (place input are.first.front are.first.rest are.first.begins are.first.early way.answered.front between.ahead (told_place
+        input are)).front
 
     abbrev pub rest_at : (input : List ℕ) → AreBefore input given it → List ℕ
-    rest_at input are = behind input are.first.front are.first.rest are.first.begins are.first.early way.answered.front between.ahead (told_place input are)
+    rest_at input are = behind input are.first.front are.first.rest are.first.begins are.first.early way.answered.front between.ahead
+        (told_place input are)
 
     abbrev pub reached_at : (input : List ℕ) (are : AreBefore input given it)
-        → Progress (AreMade makes v between.kept) input (Some (rest_at input are)) (count_at input are) (state_of book total own) between.state before between.sent
+        → Progress (AreMade makes v between.kept) input (Some (rest_at input are)) (count_at input are) (state_of book total own)
+        between.state before between.sent
     reached_at input are =
-        reached input are.first.front are.first.rest are.first.begins are.first.early way.answered.front between.ahead (told_place input are) makes v between.kept
-        (state_of book total own) between.state before between.sent way.answered.frames text way.answered.replied way.answered.made way.answered.sent
+        reached input are.first.front are.first.rest are.first.begins are.first.early way.answered.front between.ahead (told_place input
+        are) makes v between.kept
+        (state_of book total own) between.state before between.sent way.answered.frames text way.answered.replied way.answered.made
+        way.answered.sent
 
     abbrev pub passing_at : (input : List ℕ) (are : AreBefore input given it)
-        → Passing input are.first.front are.first.rest are.first.begins are.first.early way.answered.front between.ahead (told_place input are) next
+        → Passing input are.first.front are.first.rest are.first.begins are.first.early way.answered.front between.ahead (told_place input
+        are) next
     passing_at input are =
-        passing input are.first.front are.first.rest are.first.begins are.first.early way.answered.front between.ahead (told_place input are)
+        passing input are.first.front are.first.rest are.first.begins are.first.early way.answered.front between.ahead (told_place input
+        are)
         it next way.later are.next_is way.next_are way.some
 
     -- they stopped the answering
     module _ (w' : S) (image : Image) (sessions : List Session) (left now : Option (List ℕ)) where
-      left_free : (input : List ℕ) (new : State) (l : Option (List ℕ)) (end : AnswerEnd F) → LinesStopAt makes next between.kept w' between.state new between.sent now end
-          → EndsAt makes v w' input (state_of book total own) new l before now end → EndsAt makes v w' input (state_of book total own) new left before now end
+      left_free : (input : List ℕ) (new : State) (l : Option (List ℕ)) (end : AnswerEnd F)
+          → LinesStopAt makes next between.kept w' between.state new between.sent now end
+          → EndsAt makes v w' input (state_of book total own) new l before now end
+          → EndsAt makes v w' input (state_of book total own) new left before now end
       left_free input new l (Serve ReadFault) is ends = absurd is
       left_free input new l (Serve SendFault) is ends = ends
       left_free input new l (Serve DiskFault) is ends = absurd is
@@ -248,31 +264,41 @@ module _ {S F : Type 0} (makes : Makes S F) (v : S) (total : ℕ) (book : List S
       left_free input new l (Reply e) is ends = ends
 
       stop_at : (end : AnswerEnd F) (input : List ℕ) (are : AreBefore input given it) (new : State)
-          → LinesStopAt makes next between.kept w' between.state new between.sent now end → EndsAt makes v w' input (state_of book total own) new left before now end
+          → LinesStopAt makes next between.kept w' between.state new between.sent now end
+          → EndsAt makes v w' input (state_of book total own) new left before now end
       stop_at end input are new is =
           let p = passing_at input are in
           left_free input new (Some p.later) end is
-          (line_stops makes (Some input) (reading_at (count_at input are)) (reading_at (count_at input are + length p.piece)) (Some (rest_at input are)) (Some p.later)
-          (state_of book total own) between.state new v between.kept w' before between.sent now next p.passes way.few end is (reached_at input are))
+          (line_stops makes (Some input) (reading_at (count_at input are)) (reading_at (count_at input are + length p.piece)) (Some
+          (rest_at input are)) (Some p.later)
+          (state_of book total own) between.state new v between.kept w' before between.sent now next p.passes way.few end is (reached_at
+          input are))
 
       stops_standing : (end : AnswerEnd F) (o : Option (List ℕ)) → IfSome o (λ input. AreBefore input given it)
-          → StandsAfter between.state.total image sessions (λ new. LinesStopAt makes next between.kept w' between.state new between.sent now end)
-          → StandsAfter total image sessions (λ new. IfSome o (λ input. EndsAt makes v w' input (state_of book total own) new left before now end))
+          → StandsAfter between.state.total image sessions (λ new. LinesStopAt makes next between.kept w' between.state new between.sent
+          now end)
+          → StandsAfter total image sessions (λ new. IfSome o (λ input. EndsAt makes v w' input (state_of book total own) new left before
+          now end))
       stops_standing end o are why =
-          let T : ℕ → Type 0 = λ t. StandsAfter t image sessions (λ new. LinesStopAt makes next between.kept w' between.state new between.sent now end) in
-          stands_on total image image sessions sessions (λ new. LinesStopAt makes next between.kept w' between.state new between.sent now end)
+          let T : ℕ → Type 0 = λ t. StandsAfter t image sessions (λ new. LinesStopAt makes next between.kept w' between.state new
+          between.sent now end) in
+          stands_on total image image sessions sessions (λ new. LinesStopAt makes next between.kept w' between.state new between.sent now
+          end)
           (λ new. IfSome o (λ input. EndsAt makes v w' input (state_of book total own) new left before now end)) refl refl
-          (λ new is. told_so (λ input. AreBefore input given it) (λ input. EndsAt makes v w' input (state_of book total own) new left before now end) o
+          (λ new is. told_so (λ input. AreBefore input given it) (λ input. EndsAt makes v w' input (state_of book total own) new left
+          before now end) o
           (λ input so. stop_at end input so new is) are)
           (subst T way.answered.total_is why)
 
-      lines_only : (input : List ℕ) → now ≡ between.sent → AreBefore input given it → SendsLines (AreMade makes v between.kept) input (state_of book total own) before now
+      lines_only : (input : List ℕ) → now ≡ between.sent → AreBefore input given it
+          → SendsLines (AreMade makes v between.kept) input (state_of book total own) before now
       lines_only input same are =
           let N : Option (List ℕ) → Type 0 = λ n. SendsLines (AreMade makes v between.kept) input (state_of book total own) before n in
           subst N (sym same) (record {
             rest = rest_at input are;
             between = between.state;
-            first = first_at (AreMade makes v between.kept) input (state_of book total own) between.state before between.sent (Some (rest_at input are)) (count_at input are) (reached_at input are);
+            first = first_at (AreMade makes v between.kept) input (state_of book total own) between.state before between.sent (Some
+                (rest_at input are)) (count_at input are) (reached_at input are);
           })
 
       pub ends_over : (end : AnswerEnd F) (o : Option (List ℕ)) → IfSome o (λ input. AreBefore input given it)
@@ -282,7 +308,8 @@ module _ {S F : Type 0} (makes : Makes S F) (v : S) (total : ℕ) (book : List S
       ends_over (Serve SendFault) o are why = stops_standing (Serve SendFault) o are why
       ends_over (Serve DiskFault) o are why = (
         between.kept,
-        told_so (λ input. AreBefore input given it) (λ input. SendsLines (AreMade makes v between.kept) input (state_of book total own) before now) o
+        told_so (λ input. AreBefore input given it) (λ input. SendsLines (AreMade makes v between.kept) input (state_of book total own)
+            before now) o
             (λ input. lines_only input why) are,
       )
       ends_over (Serve (Damaged page)) o are why = absurd why
@@ -291,15 +318,20 @@ module _ {S F : Type 0} (makes : Makes S F) (v : S) (total : ℕ) (book : List S
       ends_over (Reply e) o are why = stops_standing (Reply e) o are why
 
     -- what a crash leaves meanwhile
-    pub ahead_over : (input : List ℕ) (are : AreBefore input given it) (sent_before : ℕ) (image : Image) (count at : ℕ) → at ≡ sent_before + length text
-        → LinesMoments makes between.kept next between.state at image count → IsAhead (AreMadeFrom makes v) input total (state_of book total own) sent_before image count
+    pub ahead_over : (input : List ℕ) (are : AreBefore input given it) (sent_before : ℕ) (image : Image) (count at : ℕ)
+        → at ≡ sent_before + length text
+        → LinesMoments makes between.kept next between.state at image count
+        → IsAhead (AreMadeFrom makes v) input total (state_of book total own) sent_before image count
     ahead_over input are sent_before image count at begins moment =
         let p = passing_at input are in
-        at_line makes v between.kept input (reading_at (count_at input are)) (reading_at (count_at input are + length p.piece)) (Some (rest_at input are)) (Some p.later)
-        total sent_before (state_of book total own) between.state before between.sent (reached_at input are) way.answered.total_is next p.passes way.few image count at begins moment
+        at_line makes v between.kept input (reading_at (count_at input are)) (reading_at (count_at input are + length p.piece)) (Some
+        (rest_at input are)) (Some p.later)
+        total sent_before (state_of book total own) between.state before between.sent (reached_at input are) way.answered.total_is next
+        p.passes way.few image count at begins moment
 
   -- between lines a crash leaves the book
-  pub rests_over : (given : List Given) (mid : Held S) (text : List ℕ) (pauses : ℕ) (t : Turn makes start mid (lines_all given) pauses text) (input : List ℕ) (are : AreFirst input given)
+  pub rests_over : (given : List Given) (mid : Held S) (text : List ℕ) (pauses : ℕ) (t : Turn makes start mid (lines_all given) pauses
+      text) (input : List ℕ) (are : AreFirst input given)
       (sent_before : ℕ) (image : Image) (count : ℕ) → StandsForBook image mid.state.total mid.state.book → count ≡ sent_before + length text
       → IsAhead (AreMadeFrom makes v) input total (state_of book total own) sent_before image count
   rests_over given mid text pauses t input are sent_before image count stands sent =
@@ -307,6 +339,8 @@ module _ {S F : Type 0} (makes : Makes S F) (v : S) (total : ℕ) (book : List S
       let told_is : told are.front ≡ one.front ++ mid.ahead = sym (told_are given are.front are.given_are) ∙ one.split in
       let P : ℕ → Type 0 = λ n. StandsForBook image n mid.state.book in
       at_rest makes v mid.kept input (Some (behind input are.front are.rest are.begins are.early one.front mid.ahead told_is))
-      (length (place input are.front are.rest are.begins are.early one.front mid.ahead told_is).front) total sent_before (state_of book total own) mid.state before mid.sent
-      (reached input are.front are.rest are.begins are.early one.front mid.ahead told_is makes v mid.kept (state_of book total own) mid.state before mid.sent one.frames text one.replied one.made one.sent)
+      (length (place input are.front are.rest are.begins are.early one.front mid.ahead told_is).front) total sent_before (state_of book
+      total own) mid.state before mid.sent
+      (reached input are.front are.rest are.begins are.early one.front mid.ahead told_is makes v mid.kept (state_of book total own)
+      mid.state before mid.sent one.frames text one.replied one.made one.sent)
       one.total_is image count (subst P one.total_is stands) sent

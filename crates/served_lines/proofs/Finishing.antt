@@ -50,7 +50,8 @@ record FrontMore (input front : List ℕ) (it : Given) : Type 0 where
   pub begins : BeginsWith input bytes rest
   pub told_is : told bytes ≡ told front ++ lines_of it
 
-front_more : (input front rest : List ℕ) (it : Given) → BeginsWith input front rest → IsNext (length front) rest it → FrontMore input front it
+front_more : (input front rest : List ℕ) (it : Given) → BeginsWith input front rest → IsNext (length front) rest it
+    → FrontMore input front it
 front_more input front rest (Line at line) begins is = by (whole_of rest begins.whole is.1.lines_are)
   where
     whole_of : (bytes : List ℕ) → IsWhole front ⊎ (bytes ≡ []) → lines bytes ≡ line ∷ is.1.later → IsWhole front
@@ -73,7 +74,13 @@ front_more input front rest (Line at line) begins is = by (whole_of rest begins.
           told_is = told_behind front first whole
               ∙ ap (λ l. told front ++ filter says l) (piece_line rest line (first_of rest line is.1.later is.1.lines_are));
         }
-front_more input front rest Pause begins is = record { bytes = front; rest = rest; begins = begins; told_is = sym (append-nil (told front)) }
+front_more input front rest Pause begins is = record {
+  bytes = front;
+  rest = rest;
+  begins = begins;
+  told_is = sym (append-nil (told
+      front));
+}
 front_more input front rest End begins is = record { bytes = front; rest = rest; begins = begins; told_is = sym (append-nil (told front)) }
 
 -- the line that is given is the one that stands there
@@ -93,8 +100,10 @@ told_case None P more = tt
 told_case (Some bytes) P more = more tt
 
 -- before the first line the book stands
-pub first_stands : {S : Type 0} (kept : S) (total : ℕ) (book : List Series) (edits : List Edit) (told_so : Type 0) (at : View) (own : List Session) (before : Option (List ℕ))
-    → told_so → StandsForBook at.image total book → edits ≡ [] → IsHeld (first_held kept total book own before at.reads at.syncs) kept edits told_so at own before
+pub first_stands : {S : Type 0} (kept : S) (total : ℕ) (book : List Series) (edits : List Edit) (told_so : Type 0) (at : View) (own : List
+    Session) (before : Option (List ℕ))
+    → told_so → StandsForBook at.image total book → edits ≡ []
+    → IsHeld (first_held kept total book own before at.reads at.syncs) kept edits told_so at own before
 first_stands kept total book edits told_so at own before told_now stands none = record {
   told_so = told_now;
   stands = stands;
@@ -124,17 +133,21 @@ module _ {S F : Type 0} (makes : Makes S F) (v w : S) (total : ℕ) (book : List
   RunStops o left pieces pieces' why = runs.StopsSo (Does makes) Stops StandsNow (Over start) o left before now pieces pieces' why
 
   -- where the work stopped
-  stop_held : (done : Done (Does makes) (Over start)) (t : Turned makes start done.given done.text done.behind) (it : Given) (end : AnswerEnd F) (sent : Option (List ℕ))
+  stop_held : (done : Done (Does makes) (Over start)) (t : Turned makes start done.given done.text done.behind) (it : Given) (end :
+      AnswerEnd F) (sent : Option (List ℕ))
       → Stops done.behind it end sent → StopsSo makes t.new it w new.image sessions now new.reads new.syncs end
   stop_held done t it end sent why = let P : Stand S → Type 0 = λ s. Stops s it end sent in subst P t.is why
 
   pub done_so : {T : Type 0} (o : Option (List ℕ)) (pieces pieces' : ℕ) (r : Result T (LinesStop (AnswerEnd F)))
       → OnOk r (runs.Runs (Does makes) (Over start) (runs.AreAll pieces pieces') StandsNow o before now)
-      → OnOk (answer_of r) (StandsAfter total new.image sessions (λ after. IfSome o (λ input. SendsText (AreMade makes v w) input first after before now)))
-  done_so o pieces pieces' (Ok done) all = done_over makes v w total book own sessions before now old.reads old.syncs name edits told_now new o pieces pieces' all
+      → OnOk (answer_of r) (StandsAfter total new.image sessions (λ after. IfSome o (λ input. SendsText (AreMade makes v w) input first
+      after before now)))
+  done_so o pieces pieces' (Ok done) all = done_over makes v w total book own sessions before now old.reads old.syncs name edits told_now
+      new o pieces pieces' all
   done_so o pieces pieces' (Err why) all = tt
 
-  pub ends_so : {T : Type 0} (o left : Option (List ℕ)) (pieces pieces' : ℕ) (r : Result T (LinesStop (AnswerEnd F))) → IfErr r (RunStops o left pieces pieces')
+  pub ends_so : {T : Type 0} (o left : Option (List ℕ)) (pieces pieces' : ℕ) (r : Result T (LinesStop (AnswerEnd F)))
+      → IfErr r (RunStops o left pieces pieces')
       → IfErr (answer_of r) (EndsAnswers makes v w o first new.image sessions left before now)
   ends_so o left pieces pieces' (Ok done) why = tt
   ends_so o left pieces pieces' (Err (stop.Fault fault.ReadFault)) why =
@@ -145,8 +158,10 @@ module _ {S F : Type 0} (makes : Makes S F) (v w : S) (total : ℕ) (book : List
       let done = why.done in
       let t = turned makes done.given start done.text done.behind done.carries in
       let s = stop_held done t why.next end (sent_after done.text before) why.why in
-      let way = on_way makes v total book own before old.reads old.syncs done.given why.next t.new done.text (pauses done.given) t.turn s.begun in
-      ends_over makes v total book own before old.reads old.syncs done.given why.next (done.text ++ s.begun.text) s.begun.next s.begun.between way
+      let way = on_way makes v total book own before old.reads old.syncs done.given why.next t.new done.text (pauses done.given) t.turn
+      s.begun in
+      ends_over makes v total book own before old.reads old.syncs done.given why.next (done.text ++ s.begun.text) s.begun.next
+      s.begun.between way
       w new.image sessions left now end o why.are s.why
 
   -- ---- what a crash leaves
@@ -160,21 +175,31 @@ module _ {S F : Type 0} (makes : Makes S F) (v w : S) (total : ℕ) (book : List
       elim a.is [
         | inl is ↦
             let R : Stand S → Type 0 = λ s. Rests s image in
-            rests_over makes v total book own before old.reads old.syncs done.given t.new done.text (pauses done.given) t.turn input is.are from image count
+            rests_over makes v total book own before old.reads old.syncs done.given t.new done.text (pauses done.given) t.turn input
+            is.are from image count
             (subst R t.is is.rests_so) is.sent_is
         | inr amid ↦
             let L : Stand S → Type 0 = λ s. Leaves makes s amid.next amid.begun image count in
             let l = subst L t.is amid.leaves_so in
-            let way = on_way makes v total book own before old.reads old.syncs done.given amid.next t.new done.text (pauses done.given) t.turn l.begun in
-            ahead_over makes v total book own before old.reads old.syncs done.given amid.next (done.text ++ l.begun.text) l.begun.next l.begun.between way
-            input amid.are from image count (amid.begun + length l.begun.text) (omega (arith, amid.begun_is, length-append done.text l.begun.text)) l.moments
+            let way = on_way makes v total book own before old.reads old.syncs done.given amid.next t.new done.text (pauses done.given)
+            t.turn l.begun in
+            ahead_over makes v total book own before old.reads old.syncs done.given amid.next (done.text ++ l.begun.text) l.begun.next
+            l.begun.between way
+            input amid.are from image count (amid.begun + length l.begun.text) (omega (
+              arith,
+              amid.begun_is,
+              length-append done.text
+                  l.begun.text,
+            )) l.moments
       ]
 
-  pub crash_so : (o : Option (List ℕ)) → moments.Since old new (runs.IsAhead (Does makes) Rests (Leaves makes) (Over start) o before (sent_now old))
+  pub crash_so : (o : Option (List ℕ)) → moments.Since old new (runs.IsAhead (Does makes) Rests (Leaves makes) (Over start) o before
+      (sent_now old))
       → IfSome o (λ input. IfSome before (λ bytes. Since old new (IsAhead (AreMadeFrom makes v) input total first (sent_now old))))
   crash_so o since = by o before refl since
     where
-      by : (p q : Option (List ℕ)) → q ≡ before → moments.Since old new (runs.IsAhead (Does makes) Rests (Leaves makes) (Over start) p before (sent_now old))
+      by : (p q : Option (List ℕ)) → q ≡ before
+          → moments.Since old new (runs.IsAhead (Does makes) Rests (Leaves makes) (Over start) p before (sent_now old))
           → IfSome p (λ input. IfSome q (λ bytes. Since old new (IsAhead (AreMadeFrom makes v) input total first (sent_now old))))
       by None q same s = tt
       by (Some input) None same s = tt
@@ -185,19 +210,23 @@ module _ {S F : Type 0} (makes : Makes S F) (v w : S) (total : ℕ) (book : List
             goes = s.goes;
             here = λ time image low high left.
                 ahead_so input bytes (sent_now old) image (new.sent_by time)
-                (let M : Option (List ℕ) → Type 0 = λ b. A b image (new.sent_by time) in subst M (sym same) (s.here time image low high left));
+                (let M : Option (List ℕ) → Type 0 = λ b. A b image (new.sent_by time) in subst M (sym same) (s.here time image low high
+                left));
           }
 
   -- where what was sent is told
-  pub crash_told : (o : Option (List ℕ)) → (AreTold before → moments.Since old new (runs.IsAhead (Does makes) Rests (Leaves makes) (Over start) o before (sent_now old)))
+  pub crash_told : (o : Option (List ℕ)) → (AreTold before
+      → moments.Since old new (runs.IsAhead (Does makes) Rests (Leaves makes) (Over start) o before (sent_now old)))
       → IfSome o (λ input. IfSome before (λ bytes. Since old new (IsAhead (AreMadeFrom makes v) input total first (sent_now old))))
   crash_told None since = tt
   crash_told (Some input) since =
-      told_case before (Since old new (IsAhead (AreMadeFrom makes v) input total first (sent_now old))) (λ is_told. crash_so (Some input) (since is_told))
+      told_case before (Since old new (IsAhead (AreMadeFrom makes v) input total first (sent_now old))) (λ is_told. crash_so (Some input)
+      (since is_told))
 
   -- ---- reads
 
-  reads_all : (input front rest : List ℕ) (given : List Given) (text : List ℕ) (stand : Stand S) (t : Turned makes start given text stand) → BeginsWith input front rest
+  reads_all : (input front rest : List ℕ) (given : List Given) (text : List ℕ) (stand : Stand S) (t : Turned makes start given text stand)
+      → BeginsWith input front rest
       → t.new.ahead ≡ [] → lines_all given ≡ told front → StandsNow stand → ReadsLines input first old.reads new.reads
   reads_all input front rest given text stand t begins none are stands =
       let one = t.turn.answered in
@@ -253,11 +282,21 @@ module _ {S F : Type 0} (makes : Makes S F) (v w : S) (total : ℕ) (book : List
         between = between.state;
         count = between.reads;
         answered = subst R (sym p.first_are) one.reads;
-        last = inr (inr (record { front = q.piece; rest = q.later; begins = q.here; edits = spelled; spells = subst E (sym q.told_piece) spells; few = few; most = most }));
+        last = inr (inr (record {
+          front = q.piece;
+          rest = q.later;
+          begins = q.here;
+          edits = spelled;
+          spells = subst E (sym q.told_piece)
+              spells;
+          few = few;
+          most = most;
+        }));
       }
 
   pub reads_so : {T : Type 0} (o left : Option (List ℕ)) (pieces pieces' : ℕ) (r : Result T (LinesStop (AnswerEnd F)))
-      → OnOk r (runs.Runs (Does makes) (Over start) (runs.AreAll pieces pieces') StandsNow o before now) → IfErr r (RunStops o left pieces pieces')
+      → OnOk r (runs.Runs (Does makes) (Over start) (runs.AreAll pieces pieces') StandsNow o before now)
+      → IfErr r (RunStops o left pieces pieces')
       → IfSome o (λ input. ReadsLines input first old.reads new.reads)
   reads_so None left pieces pieces' r all why = tt
   reads_so (Some input) left pieces pieces' (Ok done) all why =
@@ -279,7 +318,8 @@ module _ {S F : Type 0} (makes : Makes S F) (v w : S) (total : ℕ) (book : List
       let done = why.done in
       let t = turned makes done.given start done.text done.behind done.carries in
       let s = stop_held done t why.next end (sent_after done.text before) why.why in
-      let way = on_way makes v total book own before old.reads old.syncs done.given why.next t.new done.text (pauses done.given) t.turn s.begun in
+      let way = on_way makes v total book own before old.reads old.syncs done.given why.next t.new done.text (pauses done.given) t.turn
+      s.begun in
       reads_stopped input done.given why.next (done.text ++ s.begun.text) s.begun.next s.begun.between way why.are s.reads_next
 
   -- ---- syncs
@@ -287,23 +327,27 @@ module _ {S F : Type 0} (makes : Makes S F) (v w : S) (total : ℕ) (book : List
   abbrev Synced : List ℕ → ℕ → ℕ → Type 0
   Synced input pieces pieces' = pieces' < 2 ^ 64 - 1 → SyncsLines input total book (pieces' - pieces) old.syncs new.syncs
 
-  syncs_all : (input front rest : List ℕ) (pieces pieces' : ℕ) (given : List Given) (text : List ℕ) (stand : Stand S) (t : Turned makes start given text stand) → BeginsWith input front rest
+  syncs_all : (input front rest : List ℕ) (pieces pieces' : ℕ) (given : List Given) (text : List ℕ) (stand : Stand S) (t : Turned makes
+      start given text stand) → BeginsWith input front rest
       → lines_all given ≡ told front → StandsNow stand → runs.FewPauses pieces pieces' given → Synced input pieces pieces'
   syncs_all input front rest pieces pieces' given text stand t begins are stands few small =
       let one = t.turn.answered in
       let h : IsHeld t.new w edits told_now new sessions now = subst StandsNow t.is stands in
       let C : ℕ → Type 0 = λ n. Costs first (edits_of one.front) (lines_all given) (pauses given) old.syncs n in
-      let c = costs_lines first front (lines_all given) one.front t.new.ahead (pauses given) (pieces' - pieces) old.syncs new.syncs are one.split
+      let c = costs_lines first front (lines_all given) one.front t.new.ahead (pauses given) (pieces' - pieces) old.syncs new.syncs are
+      one.split
       (omega (arith, few small)) (subst C h.syncs_are t.turn.costs) in
       record { front = front; rest = rest; begins = begins; others = c.0; counted = c.1; few = c.2 }
 
-  syncs_stopped : (input : List ℕ) (pieces pieces' : ℕ) (given : List Given) (it : Given) (text : List ℕ) (mid : Held S) (t : Turn makes start mid (lines_all given) (pauses given) text)
+  syncs_stopped : (input : List ℕ) (pieces pieces' : ℕ) (given : List Given) (it : Given) (text : List ℕ) (mid : Held S) (t : Turn makes
+      start mid (lines_all given) (pauses given) text)
       → AreBefore input given it → CostsSome mid.state (mid.ahead ++ lines_of it) (lines_of it) (pauses_of it) mid.syncs new.syncs
       → runs.FewPauses pieces pieces' (given ++ it ∷ []) → Synced input pieces pieces'
   syncs_stopped input pieces pieces' given it text mid t are some few small =
       let one = t.answered in
       let f = front_more input are.first.front are.first.rest it are.first.begins are.next_is in
-      let both = costs_then first mid.state (edits_of one.front) (edits_of some.front) (lines_all given) (lines_of it) (pauses given) (pauses_of it) old.syncs mid.syncs new.syncs
+      let both = costs_then first mid.state (edits_of one.front) (edits_of some.front) (lines_all given) (lines_of it) (pauses given)
+      (pauses_of it) old.syncs mid.syncs new.syncs
       one.total_is one.book_is t.costs some.costs in
       let C : List Edit → Type 0 = λ e. Costs first e (lines_all given ++ lines_of it) (pauses given + pauses_of it) old.syncs new.syncs in
       let told_is : lines_all given ++ lines_of it ≡ told f.bytes =
@@ -311,7 +355,8 @@ module _ {S F : Type 0} (makes : Makes S F) (v w : S) (total : ℕ) (book : List
       let split : lines_all given ++ lines_of it ≡ (one.front ++ some.front) ++ some.rest =
       ap (λ l. l ++ lines_of it) one.split ∙ append_assoc one.front mid.ahead (lines_of it) ∙ ap (λ l. one.front ++ l) some.split
       ∙ sym (append_assoc one.front some.front some.rest) in
-      let c = costs_lines first f.bytes (lines_all given ++ lines_of it) (one.front ++ some.front) some.rest (pauses given + pauses_of it) (pieces' - pieces) old.syncs new.syncs told_is split
+      let c = costs_lines first f.bytes (lines_all given ++ lines_of it) (one.front ++ some.front) some.rest (pauses given + pauses_of it)
+      (pieces' - pieces) old.syncs new.syncs told_is split
       (omega (arith, few small, pauses_joined given (it ∷ []), pauses_one it)) (subst C (sym (edits_joined one.front some.front)) both) in
       record { front = f.bytes; rest = f.rest; begins = f.begins; others = c.0; counted = c.1; few = c.2 }
     where
@@ -321,7 +366,8 @@ module _ {S F : Type 0} (makes : Makes S F) (v w : S) (total : ℕ) (book : List
       pauses_one End = refl
 
   pub syncs_so : {T : Type 0} (o left : Option (List ℕ)) (pieces pieces' : ℕ) (r : Result T (LinesStop (AnswerEnd F)))
-      → OnOk r (runs.Runs (Does makes) (Over start) (runs.AreAll pieces pieces') StandsNow o before now) → IfErr r (RunStops o left pieces pieces')
+      → OnOk r (runs.Runs (Does makes) (Over start) (runs.AreAll pieces pieces') StandsNow o before now)
+      → IfErr r (RunStops o left pieces pieces')
       → IfSome o (λ input. Synced input pieces pieces')
   syncs_so None left pieces pieces' r all why = tt
   syncs_so (Some input) left pieces pieces' (Ok done) all why =
@@ -333,12 +379,14 @@ module _ {S F : Type 0} (makes : Makes S F) (v w : S) (total : ℕ) (book : List
       let d = why.done in
       let f = why.are.first in
       let t = turned makes d.given start d.text d.behind d.carries in
-      syncs_all input f.front f.rest pieces pieces' d.given d.text d.behind t f.begins (told_are d.given f.front f.given_are) why.stands why.are.few
+      syncs_all input f.front f.rest pieces pieces' d.given d.text d.behind t f.begins (told_are d.given f.front f.given_are) why.stands
+      why.are.few
   syncs_so (Some input) left pieces pieces' (Err (stop.Fault fault.InputTooLong)) all why =
       let d = why.done in
       let f = why.are.first in
       let t = turned makes d.given start d.text d.behind d.carries in
-      syncs_all input f.front f.rest pieces pieces' d.given d.text d.behind t f.begins (told_are d.given f.front f.given_are) why.stands why.are.few
+      syncs_all input f.front f.rest pieces pieces' d.given d.text d.behind t f.begins (told_are d.given f.front f.given_are) why.stands
+      why.are.few
   syncs_so (Some input) left pieces pieces' (Err (stop.Work end)) all why =
       let done = why.done in
       let t = turned makes done.given start done.text done.behind done.carries in

@@ -42,6 +42,7 @@ module _ {S F : Type 0} (makes : Makes S F) (name : GName) (kept : S) (edits : L
   pub end_does : (stand : Stand S) → StandsSo stand name kept edits told at own before
       → DoesOne (Does makes) (λ s. StandsSo s name kept edits told at own before) stand End before before
   end_does (Any named) is =
-      gives_does makes named name name kept kept own own before before is refl End edits told at (gives_none makes kept (λ n. is_open n own) before)
+      gives_does makes named name name kept kept own own before before is refl End edits told at (gives_none makes kept (λ n. is_open n
+      own) before)
   end_does (Over held) is =
       record { text = []; behind = Over held; done = (turn_none makes held, tt); stands = is; sent = sent_none before }

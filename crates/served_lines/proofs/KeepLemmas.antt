@@ -54,12 +54,15 @@ edit_few (Some text) = read_few (read_line text)
 edits_few : (line : Option (List ℕ)) → IsSaid line → length (edits_of (unless_empty line)) ≤ length (unless_empty line)
 edits_few line said = omega (arith, edit_few line, ap length said, ap (λ l. length (edits_of l)) said, length-append (edit_of line) [])
 
-pub gives_ok : {T S F : Type 0} (makes : Makes S F) (kept kept' : S) (own sessions : List Session) (before now : Option (List ℕ)) (r : Result T (AnswerEnd F))
-    → GivesBy makes kept kept' own sessions before now r → OnOk r (Gives makes kept kept' (λ n. is_open n own) (λ n. is_open n sessions) before now)
+pub gives_ok : {T S F : Type 0} (makes : Makes S F) (kept kept' : S) (own sessions : List Session) (before now : Option (List ℕ)) (r :
+    Result T (AnswerEnd F))
+    → GivesBy makes kept kept' own sessions before now r
+    → OnOk r (Gives makes kept kept' (λ n. is_open n own) (λ n. is_open n sessions) before now)
 gives_ok makes kept kept' own sessions before now (Ok done) gives = gives
 gives_ok makes kept kept' own sessions before now (Err end) gives = tt
 
-pub gives_err : {T S F : Type 0} (makes : Makes S F) (kept kept' : S) (own sessions : List Session) (before now : Option (List ℕ)) (r : Result T (AnswerEnd F))
+pub gives_err : {T S F : Type 0} (makes : Makes S F) (kept kept' : S) (own sessions : List Session) (before now : Option (List ℕ)) (r :
+    Result T (AnswerEnd F))
     → GivesBy makes kept kept' own sessions before now r → IfErr r (GivesFirst makes kept kept' (λ n. is_open n own) before now)
 gives_err makes kept kept' own sessions before now (Ok done) gives = tt
 gives_err makes kept kept' own sessions before now (Err end) gives = gives
@@ -76,7 +79,8 @@ module _ {S F : Type 0} (makes : Makes S F) (name : GName) (kept : S) (edits : L
       → StopsBy makes stand (Line position line) name kept at.image own before before at.reads at.syncs (Serve NoMemory)
   memory_stops (Any named) position line said is =
       gives_stops makes named name name kept kept own own before before is refl (Serve NoMemory)
-      (first_memory makes kept kept (λ n. is_open n own) (λ n. is_open n own) before before (gives_none makes kept (λ n. is_open n own) before))
+      (first_memory makes kept kept (λ n. is_open n own) (λ n. is_open n own) before before (gives_none makes kept (λ n. is_open n own)
+      before))
   memory_stops (Over held) position line said is =
       let lines = unless_empty line in
       let some : 1 ≤ length (held.ahead ++ lines) = omega (arith, ap length said, length-append held.ahead lines) in
@@ -110,8 +114,10 @@ module _ {S F : Type 0} (makes : Makes S F) (name : GName) (kept : S) (edits : L
         };
       }
 
-  module _ (line : Option (List ℕ)) (edit : Edit) (spells : SpellsEdit line edit) (edits' : List Edit) (pushed : edits' ≡ edits ++ edit ∷ []) where
-    pub pushed_held : (held : Held S) → IsHeld held kept edits told at own before → IsHeld (behind makes held (line ∷ [])) kept edits' told at own before
+  module _ (line : Option (List ℕ)) (edit : Edit) (spells : SpellsEdit line edit) (edits' : List Edit) (pushed : edits' ≡ edits ++ edit ∷
+      []) where
+    pub pushed_held : (held : Held S) → IsHeld held kept edits told at own before
+        → IsHeld (behind makes held (line ∷ [])) kept edits' told at own before
     pushed_held held is =
         let P : List Edit → Type 0 = λ e. SpellEdits (held.ahead ++ line ∷ []) e in
         record {
@@ -141,15 +147,19 @@ module _ {S F : Type 0} (makes : Makes S F) (name : GName) (kept : S) (edits : L
 
     -- ---- and all are done
 
-    module _ (name' : GName) (same_name : name' ≡ name) (kept' : S) (told' : Type 0) (new : View) (sessions : List Session) (now : Option (List ℕ)) (none : List Edit) where
-      pub full_does : {T : Type 0} (r : Result T (AnswerEnd F)) (stand : Stand S) (position : ℕ) → 64 ≤ length edits' → StandsSo stand name kept edits told at own before
+    module _ (name' : GName) (same_name : name' ≡ name) (kept' : S) (told' : Type 0) (new : View) (sessions : List Session) (now : Option
+        (List ℕ)) (none : List Edit) where
+      pub full_does : {T : Type 0} (r : Result T (AnswerEnd F)) (stand : Stand S) (position : ℕ) → 64 ≤ length edits'
+          → StandsSo stand name kept edits told at own before
           → GivesBy makes kept kept' own sessions before now r
-          → ((held : Held S) → IsHeld held kept edits' told at own before → OnOk r (SettlesTo makes held (λ h. IsHeld h kept' none told' new sessions now) before now))
+          → ((held : Held S) → IsHeld held kept edits' told at own before
+          → OnOk r (SettlesTo makes held (λ h. IsHeld h kept' none told' new sessions now) before now))
           → OnOk r (DoesOne (Does makes) (λ s. StandsSo s name' kept' none told' new sessions now) stand (Line position line) before now)
       full_does r (Any named) position full is gives settles =
           ok_so r (Gives makes kept kept' (λ n. is_open n own) (λ n. is_open n sessions) before now)
           (DoesOne (Does makes) (λ s. StandsSo s name' kept' none told' new sessions now) (Any named) (Line position line) before now)
-          (λ given. gives_does makes named name name' kept kept' own sessions before now is same_name (Line position line) none told' new given)
+          (λ given. gives_does makes named name name' kept kept' own sessions before now is same_name (Line position line) none told' new
+          given)
           (gives_ok makes kept kept' own sessions before now r gives)
       full_does r (Over held) position full is gives settles =
           let mid = behind makes held (line ∷ []) in
@@ -159,15 +169,25 @@ module _ {S F : Type 0} (makes : Makes S F) (name : GName) (kept : S) (edits : L
           (λ s. record {
             text = s.text;
             behind = Over s.new;
-            done = (full_turn makes held s.new line edit s.text spells (omega (arith, full, ap length (spelled_edits mid.ahead edits' here.spells))) s.settles, tt);
+            done = (
+              full_turn makes held s.new line edit s.text spells (omega (
+                arith,
+                full,
+                ap length (spelled_edits mid.ahead edits'
+                    here.spells),
+              )) s.settles,
+              tt,
+            );
             stands = s.stands;
             sent = s.sent;
           })
           (settles mid here)
 
-      pub full_stops : {T : Type 0} (r : Result T (AnswerEnd F)) (stand : Stand S) (position : ℕ) → 64 ≤ length edits' → length edits' ≤ most_ahead → StandsSo stand name kept edits told at own before
+      pub full_stops : {T : Type 0} (r : Result T (AnswerEnd F)) (stand : Stand S) (position : ℕ) → 64 ≤ length edits'
+          → length edits' ≤ most_ahead → StandsSo stand name kept edits told at own before
           → GivesBy makes kept kept' own sessions before now r
-          → ((held : Held S) → IsHeld held kept edits' told at own before → IfErr r (Unsettled makes held kept' edits' new.image sessions now new.reads new.syncs))
+          → ((held : Held S) → IsHeld held kept edits' told at own before
+          → IfErr r (Unsettled makes held kept' edits' new.image sessions now new.reads new.syncs))
           → IfErr r (λ end. StopsBy makes stand (Line position line) name' kept' new.image sessions before now new.reads new.syncs end)
       full_stops r (Any named) position full few is gives unsettled =
           error_so r (GivesFirst makes kept kept' (λ n. is_open n own) before now)
@@ -179,7 +199,8 @@ module _ {S F : Type 0} (makes : Makes S F) (name : GName) (kept : S) (edits : L
           let here = pushed_held held is in
           error_so r (Unsettled makes mid kept' edits' new.image sessions now new.reads new.syncs)
           (λ end. StopsBy makes (Over held) (Line position line) name' kept' new.image sessions before now new.reads new.syncs end)
-          (λ end u. ahead_stopped makes held (Line position line) edits' mid.ahead [] kept' new.image sessions now new.reads new.syncs end next_are u.some here.spells few u.why u.reads_few
+          (λ end u. ahead_stopped makes held (Line position line) edits' mid.ahead [] kept' new.image sessions now new.reads new.syncs end
+          next_are u.some here.spells few u.why u.reads_few
           (group_costs held.state (edits_of mid.ahead) (unless_empty line) 0 0 1 held.syncs new.syncs counted (omega arith)
           (omega (arith, full, ap length (spelled_edits mid.ahead edits' here.spells))) u.few))
           (unsettled mid here)
@@ -195,17 +216,21 @@ module _ {S F : Type 0} (makes : Makes S F) (name : GName) (kept : S) (edits : L
             ap length (spelled_edits (line ∷ []) (edit ∷ []) (spells, tt)),
           )
 
-      pub full_leaves : (stand : Stand S) (position : ℕ) → length edits' ≤ most_ahead → StandsSo stand name kept edits told at own before → Lasting stand
+      pub full_leaves : (stand : Stand S) (position : ℕ) → length edits' ≤ most_ahead
+          → StandsSo stand name kept edits told at own before → Lasting stand
           → ((held : Held S) → IsHeld held kept edits' told at own before → AreTold held.sent
-          → Through at new (λ image count. (1 ≤ length held.ahead) × LinesMoments makes held.kept held.ahead held.state (sent_now at) image count))
+          → Through at new (λ image count. (1 ≤ length held.ahead) × LinesMoments makes held.kept held.ahead held.state (sent_now at)
+          image count))
           → moments.Through at new (Leaves makes stand (Line position line) (sent_now at))
       full_leaves (Any named) position few is lasting leaves = absurd lasting
       full_leaves (Over held) position few is lasting leaves =
           let mid = behind makes held (line ∷ []) in
           let here = pushed_held held is in
-          let Ahead : Image → ℕ → Type 0 = λ image count. (1 ≤ length mid.ahead) × LinesMoments makes held.kept mid.ahead held.state (sent_now at) image count in
+          let Ahead : Image → ℕ → Type 0 = λ image count. (1 ≤ length mid.ahead) × LinesMoments makes held.kept mid.ahead held.state
+          (sent_now at) image count in
           let next_are : held.ahead ++ unless_empty line ≡ mid.ahead ++ [] =
           ap (λ l. held.ahead ++ l) (spelled_line line edit spells) ∙ sym (append-nil mid.ahead) in
           runs.through_so at new Ahead (LeavesSo makes held (Line position line) (sent_now at))
-          (λ image count moment. ahead_leaves makes held (Line position line) edits' mid.ahead [] (sent_now at) image count next_are moment.0 here.spells few moment.1)
+          (λ image count moment. ahead_leaves makes held (Line position line) edits' mid.ahead [] (sent_now at) image count next_are
+          moment.0 here.spells few moment.1)
           (run_through at new Ahead (leaves mid here lasting))

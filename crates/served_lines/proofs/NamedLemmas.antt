@@ -45,14 +45,17 @@ module _ {S F : Type 0} (makes : Makes S F) where
     is = all.1;
     same_reference = refl;
     gives = λ before now sent.
-        let G : Option (List ℕ) → Type 0 = λ n. Gives makes old.kept old.kept (λ n. is_open n old.sessions) (λ n. is_open n old.sessions) before n in
-        subst G (sent_none before ∙ sym (sent ∙ ap (λ t. sent_after t before) all.0)) (gives_none makes old.kept (λ n. is_open n old.sessions) before);
+        let G : Option (List ℕ) → Type 0 = λ n. Gives makes old.kept old.kept (λ n. is_open n old.sessions) (λ n. is_open n old.sessions)
+        before n in
+        subst G (sent_none before ∙ sym (sent ∙ ap (λ t. sent_after t before) all.0)) (gives_none makes old.kept (λ n. is_open n
+        old.sessions) before);
   }
   given (it ∷ later) old text stand all =
       by all.between all.does (λ mid same. given later mid all.more stand
       (let C : Stand S → Type 0 = λ b. Carries (Does makes) b later all.more stand in subst C same all.others)) refl
     where
-      by : (between : Stand S) → Does makes (Any old) it all.first between → ((mid : Named S) → all.between ≡ Any mid → GivesTo mid all.more stand)
+      by : (between : Stand S) → Does makes (Any old) it all.first between → ((mid : Named S) → all.between ≡ Any mid
+          → GivesTo mid all.more stand)
           → all.between ≡ between → GivesTo old text stand
       by (Over held) does others same = absurd does
       by (Any mid) does others same =
@@ -70,7 +73,8 @@ module _ {S F : Type 0} (makes : Makes S F) where
                 (λ n. is_open n rest.new.sessions) before mid_sent now (does.1 before mid_sent refl) (rest.gives mid_sent now both);
           }
 
-module _ {S F : Type 0} (makes : Makes S F) (v w : S) (own sessions : List Session) (before now : Option (List ℕ)) (name name' : GName) (edits : List Edit)
+module _ {S F : Type 0} (makes : Makes S F) (v w : S) (own sessions : List Session) (before now : Option (List ℕ)) (name name' : GName)
+    (edits : List Edit)
     (told_now : Type 0) (new : View) where
   abbrev start : Named S
   start = record { name = name; kept = v; sessions = own }
@@ -98,7 +102,8 @@ module _ {S F : Type 0} (makes : Makes S F) (v w : S) (own sessions : List Sessi
       (subst K h.kept_is (subst O h.sessions_are (t.gives before now sent)), sym h.name_is ∙ t.same_reference)
 
   pub gives_so : {T : Type 0} (o left : Option (List ℕ)) (pieces pieces' : ℕ) (r : Result T (LinesStop (AnswerEnd F)))
-      → OnOk r (runs.Runs (Does makes) (Any start) (runs.AreAll pieces pieces') StandsNow o before now) → IfErr r (RunStops o left pieces pieces')
+      → OnOk r (runs.Runs (Does makes) (Any start) (runs.AreAll pieces pieces') StandsNow o before now)
+      → IfErr r (RunStops o left pieces pieces')
       → GivesBy makes v w own sessions before now (answer_of r) × (name' ≡ name)
   gives_so o left pieces pieces' (Ok done) all why = ran all.done.given all.done.text all.done.behind all.done.carries all.stands all.sent
   gives_so o left pieces pieces' (Err (stop.Fault fault.ReadFault)) all why =
@@ -113,14 +118,16 @@ module _ {S F : Type 0} (makes : Makes S F) (v w : S) (own sessions : List Sessi
       let mid = sent_after d.text before in
       let P : Stand S → Type 0 = λ s. Stops s why.next end mid in
       let s : StopsAt makes t.new name' w mid now end = subst P t.is why.why in (
-        first_behind makes v t.new.kept w (λ n. is_open n own) (λ n. is_open n t.new.sessions) before mid now end (t.gives before mid refl) s.gives,
+        first_behind makes v t.new.kept w (λ n. is_open n own) (λ n. is_open n t.new.sessions) before mid now end (t.gives before mid
+            refl) s.gives,
         s.same_reference ∙ t.same_reference,
       )
 
 -- ---- what is known of open sessions
 
 -- what opens where it was open opens where it was known
-opens_more : (frame : Frame) (n : ℕ) (was known : Bool) → (IsTrue was → IsTrue known) → IsTrue (opens frame n was) → IsTrue (opens frame n known)
+opens_more : (frame : Frame) (n : ℕ) (was known : Bool) → (IsTrue was → IsTrue known) → IsTrue (opens frame n was)
+    → IsTrue (opens frame n known)
 opens_more (Done slots) n was known more is = more is
 opens_more (Refused number a b) n was known more is = more is
 opens_more (Opened session cache) n was known more is =
@@ -131,7 +138,8 @@ opens_more (ViewFrame view) n was known more is = more is
 opens_more (Rows rows) n was known more is = more is
 opens_more (Live session on) n was known more is = more is
 
-named_known : (frame : Frame) (was known : ℕ → Bool) → ((n : ℕ) → IsTrue (was n) → IsTrue (known n)) → NamesKnown frame was → NamesKnown frame known
+named_known : (frame : Frame) (was known : ℕ → Bool) → ((n : ℕ) → IsTrue (was n) → IsTrue (known n)) → NamesKnown frame was
+    → NamesKnown frame known
 named_known (Done slots) was known more named = tt
 named_known (Refused number a b) was known more named = tt
 named_known (Opened session cache) was known more named = tt
@@ -142,14 +150,17 @@ named_known (Live session on) was known more named = more session named
 
 module _ {S F : Type 0} (makes : Makes S F) (knows : S → ℕ → Bool) (follows : Follows makes knows) where
   known_behind : (frames : List Frame) (v w : S) (was : ℕ → Bool) (lines : List (Option (List ℕ))) (text : List ℕ) → All Fits frames
-      → AreMade makes v w lines frames text → ((n : ℕ) → IsTrue (was n) → IsTrue (knows v n)) → (n : ℕ) → IsTrue (opens_all frames n (was n)) → IsTrue (knows w n)
+      → AreMade makes v w lines frames text → ((n : ℕ) → IsTrue (was n) → IsTrue (knows v n)) → (n : ℕ)
+      → IsTrue (opens_all frames n (was n)) → IsTrue (knows w n)
   known_behind [] v w was lines text fits made known n is =
       let K : S → Type 0 = λ k. IsTrue (knows k n) in subst K (sym made.1) (known n is)
   known_behind (frame ∷ frames) v w was lines text fits made known n is =
       known_behind frames made.1 w (λ n. opens frame n (was n)) lines made.2 (All-tail Fits frame frames fits) made.5
-      (λ n is. follows v made.1 frame made.0 n (All-head Fits frame frames fits) made.3 (opens_more frame n (was n) (knows v n) (known n) is)) n is
+      (λ n is. follows v made.1 frame made.0 n (All-head Fits frame frames fits) made.3 (opens_more frame n (was n) (knows v n) (known n)
+      is)) n is
 
-  stops_known : (last kept : S) (was : ℕ → Bool) (sent now : Option (List ℕ)) (end : AnswerEnd F) → ((n : ℕ) → IsTrue (was n) → IsTrue (knows last n))
+  stops_known : (last kept : S) (was : ℕ → Bool) (sent now : Option (List ℕ)) (end : AnswerEnd F) → ((n : ℕ) → IsTrue (was n)
+      → IsTrue (knows last n))
       → StopsBehind makes last kept was sent now end → EndsKnown makes knows end
   stops_known last kept was sent now (Serve end) known stops = tt
   stops_known last kept was sent now (Reply e) known stops =
@@ -163,7 +174,8 @@ module _ {S F : Type 0} (makes : Makes S F) (knows : S → ℕ → Bool) (follow
       (subst IsTrue (g.given.open_now n) is)) g.stops
 
   -- a frame whose bytes weren't made names known sessions
-  pub known_by : {T : Type 0} (v w : S) (own sessions : List Session) (before now : Option (List ℕ)) (r : Result T (AnswerEnd F)) → KnowsOpen knows v own
+  pub known_by : {T : Type 0} (v w : S) (own sessions : List Session) (before now : Option (List ℕ)) (r : Result T (AnswerEnd F))
+      → KnowsOpen knows v own
       → GivesBy makes v w own sessions before now r → IfErr r (EndsKnown makes knows)
   known_by v w own sessions before now (Ok done) known gives = tt
   known_by v w own sessions before now (Err end) known gives = first_known v w own before now end known gives

@@ -32,7 +32,8 @@ use Rattle.served_lines.proofs.KeepLemmas.{gives_err, gives_ok, run_through}
 use Rattle.served_lines.proofs.Steps.{IsSaid, ahead_leaves, ahead_stopped, group_costs, none_spelt, other_answered, other_leaves, other_stopped, settled_turn}
 
 -- another line is counted
-pub other_counted : (line : Option (List ℕ)) → IsSaid line → edit_of line ≡ [] → length (unless_empty line) ≡ 1 + length (edits_of (unless_empty line))
+pub other_counted : (line : Option (List ℕ)) → IsSaid line → edit_of line ≡ []
+    → length (unless_empty line) ≡ 1 + length (edits_of (unless_empty line))
 other_counted line said none = omega (arith, ap length said, ap length (none_spelt line none))
 
 counts_at : (bytes text : List ℕ) (sent : Option (List ℕ)) (from count : ℕ) → from ≡ length bytes → sent ≡ sent_after text (Some bytes)
@@ -55,7 +56,8 @@ module _ {S F : Type 0} (makes : Makes S F) (name : GName) (kept : S) (edits : L
     -- at a pause all are done
     pub pause_does : {T : Type 0} (r : Result T (AnswerEnd F)) (stand : Stand S) → StandsSo stand name kept edits told at own before
         → GivesBy makes kept kept' own sessions before now r
-        → ((held : Held S) → IsHeld held kept edits told at own before → OnOk r (SettlesTo makes held (λ h. IsHeld h kept' none told' mid sessions now) before now))
+        → ((held : Held S) → IsHeld held kept edits told at own before
+        → OnOk r (SettlesTo makes held (λ h. IsHeld h kept' none told' mid sessions now) before now))
         → OnOk r (DoesOne (Does makes) (λ s. StandsSo s name' kept' none told' mid sessions now) stand Pause before now)
     pause_does r (Any named) is gives settles =
         ok_so r (Gives makes kept kept' (λ n. is_open n own) (λ n. is_open n sessions) before now)
@@ -78,7 +80,8 @@ module _ {S F : Type 0} (makes : Makes S F) (name : GName) (kept : S) (edits : L
     pub group_stops : {T : Type 0} (r : Result T (AnswerEnd F)) (stand : Stand S) (it : Given) (others : ℕ)
         → length (lines_of it) ≡ others + length (edits_of (lines_of it)) → 1 ≤ others + pauses_of it → length edits ≤ most_ahead
         → StandsSo stand name kept edits told at own before → GivesBy makes kept kept' own sessions before now r
-        → ((held : Held S) → IsHeld held kept edits told at own before → IfErr r (Unsettled makes held kept' edits mid.image sessions now mid.reads mid.syncs))
+        → ((held : Held S) → IsHeld held kept edits told at own before
+        → IfErr r (Unsettled makes held kept' edits mid.image sessions now mid.reads mid.syncs))
         → IfErr r (λ end. StopsBy makes stand it name' kept' mid.image sessions before now mid.reads mid.syncs end)
     group_stops r (Any named) it others counted paid few is gives unsettled =
         error_so r (GivesFirst makes kept kept' (λ n. is_open n own) before now)
@@ -88,42 +91,58 @@ module _ {S F : Type 0} (makes : Makes S F) (name : GName) (kept : S) (edits : L
     group_stops r (Over held) it others counted paid few is gives unsettled =
         error_so r (Unsettled makes held kept' edits mid.image sessions now mid.reads mid.syncs)
         (λ end. StopsBy makes (Over held) it name' kept' mid.image sessions before now mid.reads mid.syncs end)
-        (λ end u. ahead_stopped makes held it edits held.ahead (lines_of it) kept' mid.image sessions now mid.reads mid.syncs end refl u.some is.spells few u.why u.reads_few
-        (group_costs held.state (edits_of held.ahead) (lines_of it) (pauses_of it) others 0 held.syncs mid.syncs counted (omega (arith, paid)) (omega arith) u.few))
+        (λ end u. ahead_stopped makes held it edits held.ahead (lines_of it) kept' mid.image sessions now mid.reads mid.syncs end refl
+        u.some is.spells few u.why u.reads_few
+        (group_costs held.state (edits_of held.ahead) (lines_of it) (pauses_of it) others 0 held.syncs mid.syncs counted (omega (
+          arith,
+          paid,
+        )) (omega arith) u.few))
         (unsettled held is)
 
-    pub group_leaves : (stand : Stand S) (it : Given) → length edits ≤ most_ahead → StandsSo stand name kept edits told at own before → Lasting stand
+    pub group_leaves : (stand : Stand S) (it : Given) → length edits ≤ most_ahead → StandsSo stand name kept edits told at own before
+        → Lasting stand
         → ((held : Held S) → IsHeld held kept edits told at own before → AreTold held.sent
-        → Through at mid (λ image count. (1 ≤ length held.ahead) × LinesMoments makes held.kept held.ahead held.state (sent_now at) image count))
+        → Through at mid (λ image count. (1 ≤ length held.ahead) × LinesMoments makes held.kept held.ahead held.state (sent_now at) image
+        count))
         → moments.Through at mid (Leaves makes stand it (sent_now at))
     group_leaves (Any named) it few is lasting leaves = absurd lasting
     group_leaves (Over held) it few is lasting leaves =
-        let Ahead : Image → ℕ → Type 0 = λ image count. (1 ≤ length held.ahead) × LinesMoments makes held.kept held.ahead held.state (sent_now at) image count in
+        let Ahead : Image → ℕ → Type 0 = λ image count. (1 ≤ length held.ahead) × LinesMoments makes held.kept held.ahead held.state
+        (sent_now at) image count in
         runs.through_so at mid Ahead (LeavesSo makes held it (sent_now at))
-        (λ image count moment. ahead_leaves makes held it edits held.ahead (lines_of it) (sent_now at) image count refl moment.0 is.spells few moment.1)
+        (λ image count moment. ahead_leaves makes held it edits held.ahead (lines_of it) (sent_now at) image count refl moment.0 is.spells
+        few moment.1)
         (run_through at mid Ahead (leaves held is lasting))
 
     -- ---- and a line behind it
 
     module _ (gives_mid : Gives makes kept kept' (λ n. is_open n own) (λ n. is_open n sessions) before now)
-        (settles : (held : Held S) → IsHeld held kept edits told at own before → SettlesTo makes held (λ h. IsHeld h kept' none told' mid sessions now) before now)
+        (settles : (held : Held S) → IsHeld held kept edits told at own before
+        → SettlesTo makes held (λ h. IsHeld h kept' none told' mid sessions now) before now)
         (line : Option (List ℕ)) (said : IsSaid line) (idle : edit_of line ≡ [])
-        (name'' : GName) (same_later : name'' ≡ name') (kept'' : S) (told'' : Type 0) (new : View) (sessions' : List Session) (later : Option (List ℕ)) where
+        (name'' : GName) (same_later : name'' ≡ name') (kept'' : S) (told'' : Type 0) (new : View) (sessions' : List Session) (later :
+        Option (List ℕ)) where
       abbrev ReadsSo : Type 0
       ReadsSo = (total : ℕ) (book : List Series) → told' → StandsForBook mid.image total book
           → ReadsFirst (unless_empty line) (state_of book total sessions) mid.reads new.reads
 
-      pub line_does : {T : Type 0} (r : Result T (AnswerEnd F)) (stand : Stand S) (position : ℕ) → StandsSo stand name kept edits told at own before
+      pub line_does : {T : Type 0} (r : Result T (AnswerEnd F)) (stand : Stand S) (position : ℕ)
+          → StandsSo stand name kept edits told at own before
           → GivesBy makes kept' kept'' sessions sessions' now later r
           → ((total : ℕ) (book : List Series) → told' → StandsForBook mid.image total book
-          → OnOk r (StandsAfter total new.image sessions' (λ s. LinesDone makes (unless_empty line) kept' kept'' (state_of book total sessions) s now later)))
+          → OnOk r (StandsAfter total new.image sessions' (λ s. LinesDone makes (unless_empty line) kept' kept'' (state_of book total
+          sessions) s now later)))
           → (told' → told'') → (told' → new.image ≡ mid.image) → ReadsSo → new.syncs ≡ mid.syncs
-          → OnOk r (DoesOne (Does makes) (λ s. StandsSo s name'' kept'' none told'' new sessions' later) stand (Line position line) before later)
+          → OnOk r (DoesOne (Does makes) (λ s. StandsSo s name'' kept'' none told'' new sessions' later) stand (Line position line) before
+          later)
       line_does r (Any named) position is gives done more same reads synced =
           ok_so r (Gives makes kept' kept'' (λ n. is_open n sessions) (λ n. is_open n sessions') now later)
-          (DoesOne (Does makes) (λ s. StandsSo s name'' kept'' none told'' new sessions' later) (Any named) (Line position line) before later)
-          (λ given. gives_does makes named name name'' kept kept'' own sessions' before later is (same_later ∙ same_name) (Line position line) none told'' new
-          (gives_joined makes kept kept' kept'' (λ n. is_open n own) (λ n. is_open n sessions) (λ n. is_open n sessions') before now later gives_mid given))
+          (DoesOne (Does makes) (λ s. StandsSo s name'' kept'' none told'' new sessions' later) (Any named) (Line position line) before
+          later)
+          (λ given. gives_does makes named name name'' kept kept'' own sessions' before later is (same_later
+          ∙ same_name) (Line position line) none told'' new
+          (gives_joined makes kept kept' kept'' (λ n. is_open n own) (λ n. is_open n sessions) (λ n. is_open n sessions') before now later
+          gives_mid given))
           (gives_ok makes kept' kept'' sessions sessions' now later r gives)
       line_does r (Over held) position is gives done more same reads synced =
           let s = settles held is in
@@ -131,9 +150,11 @@ module _ {S F : Type 0} (makes : Makes S F) (name : GName) (kept : S) (edits : L
           let told_mid = s.stands.told_so in
           let first = state_of state.book state.total sessions in
           ok_so r (StandsAfter state.total new.image sessions' (λ n. LinesDone makes (unless_empty line) kept' kept'' first n now later))
-          (DoesOne (Does makes) (λ s. StandsSo s name'' kept'' none told'' new sessions' later) (Over held) (Line position line) before later)
+          (DoesOne (Does makes) (λ s. StandsSo s name'' kept'' none told'' new sessions' later) (Over held) (Line position line) before
+          later)
           (λ after.
-          let a = other_answered makes held s.new s.text s.settles line said idle none told' told'' mid new sessions sessions' kept' kept'' now later s.stands
+          let a = other_answered makes held s.new s.text s.settles line said idle none told' told'' mid new sessions sessions' kept'
+          kept'' now later s.stands
           after (more told_mid) (same told_mid) (reads state.total state.book told_mid s.stands.stands) synced in
           record {
             text = s.text ++ a.reply;
@@ -144,7 +165,8 @@ module _ {S F : Type 0} (makes : Makes S F) (name : GName) (kept : S) (edits : L
           })
           (done state.total state.book told_mid s.stands.stands)
 
-      pub line_stops : {T : Type 0} (r : Result T (AnswerEnd F)) (stand : Stand S) (position : ℕ) → StandsSo stand name kept edits told at own before
+      pub line_stops : {T : Type 0} (r : Result T (AnswerEnd F)) (stand : Stand S) (position : ℕ)
+          → StandsSo stand name kept edits told at own before
           → GivesBy makes kept' kept'' sessions sessions' now later r
           → ((total : ℕ) (book : List Series) → told' → StandsForBook mid.image total book
           → IfErr r (LinesStop makes (unless_empty line) kept' kept'' (state_of book total sessions) new.image sessions' now later))
@@ -162,7 +184,8 @@ module _ {S F : Type 0} (makes : Makes S F) (name : GName) (kept : S) (edits : L
           let first = state_of state.book state.total sessions in
           error_so r (LinesStop makes (unless_empty line) kept' kept'' first new.image sessions' now later)
           (λ end. StopsBy makes (Over held) (Line position line) name'' kept'' new.image sessions' before later new.reads new.syncs end)
-          (λ end why. other_stopped makes held s.new s.text s.settles line said idle none told' told'' mid new sessions sessions' kept' kept'' now later s.stands
+          (λ end why. other_stopped makes held s.new s.text s.settles line said idle none told' told'' mid new sessions sessions' kept'
+          kept'' now later s.stands
           end position why (reads state.total state.book s.stands.told_so s.stands.stands) synced)
           (stops state.total state.book s.stands.told_so s.stands.stands)
 
@@ -181,6 +204,7 @@ module _ {S F : Type 0} (makes : Makes S F) (name : GName) (kept : S) (edits : L
           let begins = sent_at s.text held.sent before now (sent_now at) (sent_now mid) lasting is.sent_is s.sent counts counts_mid in
           runs.through_then at mid new (LeavesSo makes held (Line position line) (sent_now at)) group
           (runs.through_so mid new Line_on (LeavesSo makes held (Line position line) (sent_now at))
-          (λ image count moment. other_leaves makes held s.new s.text s.settles line said idle none told' told'' mid new sessions sessions' kept' kept'' now later s.stands
+          (λ image count moment. other_leaves makes held s.new s.text s.settles line said idle none told' told'' mid new sessions
+          sessions' kept' kept'' now later s.stands
           position (sent_now at) image count begins moment)
           (run_through mid new Line_on (leaves state.total state.book s.stands.told_so s.stands.stands)))

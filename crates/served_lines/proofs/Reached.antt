@@ -163,7 +163,8 @@ module _ (input front rest : List ℕ) (begins : BeginsWith input front rest) (e
     pub later : List ℕ
     pub here : BeginsWith behind piece later
     pub told_piece : told piece ≡ all
-    pub passes : PassesLines (reading_at (length place.front)) (reading_at (length place.front + length piece)) (Some behind) (Some later) all
+    pub passes : PassesLines (reading_at (length place.front)) (reading_at (length place.front + length piece)) (Some behind) (Some later)
+        all
 
   pub passing : (next : Given) (all more : List (Option (List ℕ))) → IsNext (length front) rest next → ahead ++ lines_of next ≡ all ++ more
       → 1 ≤ length (ahead ++ lines_of next) → Passing all
@@ -179,7 +180,13 @@ module _ (input front rest : List ℕ) (begins : BeginsWith input front rest) (e
         told_piece = f.first_are;
         passes = λ input' front' rest' told_rest counted begins'.
             let same : behind ≡ rest' = cc (told_rest) in
-            let whole = whole_at front' rest' begins'.whole (omega (arith, some_bytes, ap length same, ap length s.here.split, length-append s.piece s.later)) in
+            let whole = whole_at front' rest' begins'.whole (omega (
+              arith,
+              some_bytes,
+              ap length same,
+              ap length s.here.split,
+              length-append s.piece s.later,
+            )) in
             record {
               piece = f.front;
               later = f.rest ++ s.later;
@@ -189,7 +196,8 @@ module _ (input front rest : List ℕ) (begins : BeginsWith input front rest) (e
               here = let B : List ℕ → Type 0 = λ r. BeginsWith r f.front (f.rest ++ s.later) in subst B same here;
               told_rest = refl;
               begins = record {
-                split = begins'.split ∙ ap (λ r. front' ++ r) (sym same ∙ here.split) ∙ sym (append_assoc front' f.front (f.rest ++ s.later));
+                split = begins'.split ∙ ap (λ r. front' ++ r) (sym same ∙ here.split)
+                    ∙ sym (append_assoc front' f.front (f.rest ++ s.later));
                 whole = elim here.whole [
                   | inl ends ↦ inl (whole_joined front' f.front whole ends)
                   | inr none ↦ inr none

@@ -65,7 +65,8 @@ module _ {S F : Type 0} (makes : Makes S F) (held : Held S) (edits : List Edit) 
 
   module _ (told' : Type 0) (new : View) (sessions : List Session) (kept' : S) (now : Option (List ℕ)) where
     -- they were done and answered
-    pub settled : (none : List Edit) → none ≡ [] → (after : StandsAfter held.state.total new.image sessions (λ s. LinesDone makes held.ahead kept kept' here s before now))
+    pub settled : (none : List Edit) → none ≡ []
+        → (after : StandsAfter held.state.total new.image sessions (λ s. LinesDone makes held.ahead kept kept' here s before now))
         → StandsForBook new.image held.state.total (after_edits held.state.total held.state.book edits)
         → told' → old.reads ≤ new.reads → new.reads ≤ old.reads + 96 * length edits
         → new.syncs ≤ old.syncs + group_syncs held.state.total held.state.book edits
@@ -130,7 +131,8 @@ module _ {S F : Type 0} (makes : Makes S F) (held : Held S) (edits : List Edit) 
     -- what a crash leaves meanwhile
     pub moments_settled : 1 ≤ length edits → AreTold held.sent
         → IfSome before (λ bytes. Through old new (LinesMoments makes kept held.ahead here (sent_now old)))
-        → Through old new (λ image count. (1 ≤ length held.ahead) × LinesMoments makes held.kept held.ahead held.state (sent_now old) image count)
+        → Through old new (λ image count. (1 ≤ length held.ahead) × LinesMoments makes held.kept held.ahead held.state (sent_now old)
+        image count)
     moments_settled some is_told through =
         let M : Image → ℕ → Type 0 = LinesMoments makes kept held.ahead here (sent_now old) in
         let N : Image → ℕ → Type 0 = λ image count. (1 ≤ length held.ahead)

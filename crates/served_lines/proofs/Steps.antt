@@ -116,7 +116,8 @@ module _ {S F : Type 0} (makes : Makes S F) where
       (turn_then makes old mid new (unless_empty line) [] 0 0 [] text (kept_turn old line edit spells)
       (settled_turn mid new text 0 1 (omega arith) (omega (arith, full)) s))
 
-  abbrev ahead_begun : (old : Held S) (it : Given) (edits : List Edit) (next later : List (Option (List ℕ))) → old.ahead ++ lines_of it ≡ next ++ later
+  abbrev ahead_begun : (old : Held S) (it : Given) (edits : List Edit) (next later : List (Option (List ℕ)))
+      → old.ahead ++ lines_of it ≡ next ++ later
       → 1 ≤ length next → SpellEdits next edits → length edits ≤ most_ahead → Begun makes old (lines_of it)
   ahead_begun old it edits next later are some spells few = record {
     text = [];
@@ -166,7 +167,8 @@ module _ {S F : Type 0} (makes : Makes S F) where
         pub stands : IsHeld next kept' edits told' new sessions now
         pub sent : now ≡ sent_after reply before
 
-      pub other_answered : StandsAfter mid.state.total new.image sessions (λ new. LinesDone makes (unless_empty line) kept kept' here new before now)
+      pub other_answered : StandsAfter mid.state.total new.image sessions (λ new. LinesDone makes (unless_empty line) kept kept' here new
+          before now)
           → told' → new.image ≡ at.image → ReadsFirst (unless_empty line) here at.reads new.reads → new.syncs ≡ at.syncs → AnswersTo
       other_answered after told_now same reads idle =
           let state = mid.state in
@@ -174,7 +176,15 @@ module _ {S F : Type 0} (makes : Makes S F) where
           let after_state = state_of after.book state.total sessions in
           let done = after.so in
           let here_is = same_state state own is.sessions_are in
-          let next : Held S = record { kept = kept'; state = after_state; ahead = mid.ahead; sent = now; reads = new.reads; syncs = new.syncs } in
+          let next : Held S = record {
+            kept = kept';
+            state = after_state;
+            ahead = mid.ahead;
+            sent = now;
+            reads = new.reads;
+            syncs =
+                new.syncs;
+          } in
           let R : State → Type 0 = λ s. RepliesToAll s lines done.frames after_state in
           let replied : RepliesToAll state lines done.frames after_state = subst R here_is done.replied in
           let M : S → Type 0 = λ k. AreMade makes k kept' lines done.frames done.text in
@@ -190,7 +200,8 @@ module _ {S F : Type 0} (makes : Makes S F) where
             replied = replied;
             made = subst M (sym is.kept_is) done.made;
             sent = subst N (sym is.sent_is) done.sent;
-            reads = one_turn line state mid.reads new.reads (subst C (sym is.reads_are) (subst F here_is reads)) done.frames after_state replied;
+            reads = one_turn line state mid.reads new.reads (subst C (sym is.reads_are) (subst F here_is reads)) done.frames after_state
+                replied;
             total_is = refl;
             book_is = one_book at.image state.total state.total state.book after.book is.stands (subst I same after.stands)
                 ∙ ap (after_edits state.total state.book) (sym idle_edits);
@@ -218,7 +229,8 @@ module _ {S F : Type 0} (makes : Makes S F) where
           }
 
       -- it stops the answering
-      pub other_stopped : (end : AnswerEnd F) (position : ℕ) → LinesStop makes (unless_empty line) kept kept' here new.image sessions before now end
+      pub other_stopped : (end : AnswerEnd F) (position : ℕ)
+          → LinesStop makes (unless_empty line) kept kept' here new.image sessions before now end
           → ReadsFirst (unless_empty line) here at.reads new.reads → new.syncs ≡ at.syncs
           → StopsSo makes old (Line position line) kept' new.image sessions now new.reads new.syncs end
       other_stopped end position why reads idle =
@@ -245,7 +257,8 @@ module _ {S F : Type 0} (makes : Makes S F) where
 
       -- and what a crash leaves while it is answered
       pub other_leaves : (position from : ℕ) (image : Image) (count : ℕ) → sent_now at ≡ from + length text
-          → LinesMoments makes kept (unless_empty line) here (sent_now at) image count → LeavesSo makes old (Line position line) from image count
+          → LinesMoments makes kept (unless_empty line) here (sent_now at) image count
+          → LeavesSo makes old (Line position line) from image count
       other_leaves position from image count begins moment =
           let lines = unless_empty line in
           let K : S → Type 0 = λ k. LinesMoments makes k lines mid.state (from + length text) image count in
@@ -262,7 +275,8 @@ module _ {S F : Type 0} (makes : Makes S F) where
       (sessions : List Session) (now : Option (List ℕ)) (reads syncs : ℕ) (end : AnswerEnd F) → old.ahead ++ lines_of it ≡ next ++ later
       → 1 ≤ length next → SpellEdits next edits → length edits ≤ most_ahead
       → LinesStop makes next old.kept kept' old.state image sessions old.sent now end → reads ≤ old.reads + 96 * length edits
-      → Costs old.state (edits_of next) (lines_of it) (pauses_of it) old.syncs syncs → StopsSo makes old it kept' image sessions now reads syncs end
+      → Costs old.state (edits_of next) (lines_of it) (pauses_of it) old.syncs syncs
+      → StopsSo makes old it kept' image sessions now reads syncs end
   ahead_stopped old it edits next later kept' image sessions now reads syncs end are some spells few why reads_few costs = record {
     begun = ahead_begun old it edits next later are some spells few;
     why = why;
@@ -271,7 +285,8 @@ module _ {S F : Type 0} (makes : Makes S F) where
   }
 
   -- what a crash leaves meanwhile
-  pub ahead_leaves : (old : Held S) (it : Given) (edits : List Edit) (next later : List (Option (List ℕ))) (from : ℕ) (image : Image) (count : ℕ)
+  pub ahead_leaves : (old : Held S) (it : Given) (edits : List Edit) (next later : List (Option (List ℕ))) (from : ℕ) (image : Image)
+      (count : ℕ)
       → old.ahead ++ lines_of it ≡ next ++ later → 1 ≤ length next → SpellEdits next edits → length edits ≤ most_ahead
       → LinesMoments makes old.kept next old.state from image count → LeavesSo makes old it from image count
   ahead_leaves old it edits next later from image count are some spells few moment =

@@ -31,7 +31,15 @@ costs_then a b done later lines more p q x y z total_is book_is first second =
     subst (λ k. second.heavy * 22 ≤ weight a.total k later) book_is (subst W total_is second.heavy_paid) in
     record {
       others = first.others + second.others;
-      counted = omega (arith, first.counted, second.counted, length-append lines more, ap length (edits_joined lines more), length-append (edits_of lines) (edits_of more));
+      counted = omega (
+        arith,
+        first.counted,
+        second.counted,
+        length-append lines more,
+        ap length (edits_joined lines more),
+        length-append
+            (edits_of lines) (edits_of more),
+      );
       full = first.full + second.full;
       heavy = first.heavy + second.heavy;
       few = omega (arith, first.few, second.few);
@@ -56,7 +64,15 @@ module _ {S F : Type 0} (makes : Makes S F) where
 
   -- lines are kept back
   abbrev pub behind : Held S → List (Option (List ℕ)) → Held S
-  behind at lines = record { kept = at.kept; state = at.state; ahead = at.ahead ++ lines; sent = at.sent; reads = at.reads; syncs = at.syncs }
+  behind at lines = record {
+    kept = at.kept;
+    state = at.state;
+    ahead = at.ahead ++ lines;
+    sent = at.sent;
+    reads = at.reads;
+    syncs =
+        at.syncs;
+  }
 
   abbrev pub kept_back : (at : Held S) (lines : List (Option (List ℕ))) → Answered makes at (behind at lines) lines []
   kept_back at lines = record {
@@ -114,5 +130,13 @@ module _ {S F : Type 0} (makes : Makes S F) where
       total_is = refl;
       book_is = refl;
     };
-    costs = record { others = 0; counted = refl; full = 0; heavy = 0; few = omega arith; full_paid = omega arith; heavy_paid = omega arith };
+    costs = record {
+      others = 0;
+      counted = refl;
+      full = 0;
+      heavy = 0;
+      few = omega arith;
+      full_paid = omega arith;
+      heavy_paid = omega arith;
+    };
   }

@@ -5,11 +5,12 @@ use Rattle.block_disk.specs.View.{Image, sent_now}
 use Rattle.block_disk.specs.Streams.{sent_after}
 use Rattle.gate_pages.specs.declared.pages.Pages.{Ghosts}
 use Rattle.line_runs.specs.Carried.{DoesOne}
-use Rattle.line_runs.specs.Given.{Given}
+use Rattle.line_runs.specs.Given.{Given, Line}
 use Rattle.line_runs.specs.Moments as moments
 use Rattle.series_book.specs.declared.edits.Edit.{Edit}
 use Rattle.series_store.specs.Groups.{weight}
 use Rattle.zoom_session.specs.declared.session.Session.{Session}
+use Rattle.chart_service.specs.EditGroups.{SpellsEdit}
 use Rattle.chart_service.specs.Making.{Makes, LinesStop, LinesMoments}
 use Rattle.chart_service.specs.Moments.{Through}
 use Rattle.chart_service.specs.Shown as shown
@@ -73,6 +74,10 @@ module _ {P R S F Z : Type 0} {g : Ghosts P} (sent : P → Option (List ℕ)) (m
       StopsBy makes stand it turns.kept.ghost_name turns.kept.now (shown.image new) (shown.sessions new) before
       (sent (shown.pages new)) (shown.view new).reads (shown.view new).syncs end
 
+  -- the same, by the service from before
+  abbrev pub StopsFrom : Stand S → Given → Turns R S (Vec Edit Z) → Service P g → Service P g → AnswerEnd F → Type 0
+  StopsFrom stand it turns old new end = StopsIn stand it end turns new (sent (shown.pages old))
+
   abbrev pub SettlesIn : Held S → Turns R S (Vec Edit Z) → Service P g → Service P g → Type 0
   SettlesIn held turns old new =
       SettlesTo makes held (λ h. HeldIn sent h turns new) (sent (shown.pages old)) (sent (shown.pages new))
@@ -91,3 +96,7 @@ module _ {P S F : Type 0} {g : Ghosts P} (makes : Makes S F) where
   LeavesAhead held old new =
       Through (shown.view old) (shown.view new)
       (λ image count. (1 ≤ length held.ahead) × LinesMoments makes held.kept held.ahead held.state (sent_now (shown.view old)) image count)
+
+-- so of each line that spells this edit, wherever it begins
+abbrev pub ForSpelled : Edit → (Given → Type 0) → Type 0
+ForSpelled edit IsSo = (at : ℕ) (line : Option (List ℕ)) → SpellsEdit line edit → IsSo (Line at line)

@@ -1,14 +1,13 @@
 //! A line is answered, or its edit is kept back.
-ghost use Rattle.std.specs.Prelude.{◌≡◌, ◌≤◌, ◌<◌, ℕ, List, Option, [], Some, None, length, IfErr, OnOk};
+ghost use Rattle.std.specs.Prelude.{◌≡◌, ◌≤◌, ◌<◌, ℕ, [], Some, None, length, IfErr, OnOk};
 ghost use Rattle.chart_world.specs.Faults.{CountsFault, fault_in};
 ghost use Rattle.line_runs.specs.Given.{Line};
 ghost use Rattle.series_book.specs.Edits.{IsEdit};
-ghost use Rattle.chart_service.specs.EditGroups.{SpellsEdit};
 ghost use Rattle.chart_service.specs.Faulting.{answer_fault};
 ghost use Rattle.chart_service.specs.Shown as shown;
 ghost use Rattle.chart_service.specs.Syncing.{edit_of};
 ghost use Rattle.served_lines.specs.Going.{Goes, Harms, IsCause, side_of};
-ghost use Rattle.served_lines.specs.Shown.{DoesIn, FitIn, LeavesIn, StandsIn, StopsIn};
+ghost use Rattle.served_lines.specs.Shown.{DoesIn, FitIn, ForSpelled, LeavesIn, StandsIn, StopsFrom};
 ghost use Rattle.served_lines.specs.Turning.{Lasting, Stand};
 
 use crate::settling::settle;
@@ -28,9 +27,9 @@ pub(crate) fn keep<P: PageWorld, S, F, R: Reply<S, F>>(
 ) -> Result<(), AnswerEnd<F>>
     requires fit { FitIn turns.old service.old }
     requires is_edit { IsEdit edit }
-    ensures does { (stand : Stand S) (at : ℕ) (line : Option (List ℕ)) → SpellsEdit line edit → StandsIn P.sent stand turns.old service.old → OnOk result (DoesIn P.sent R.makes stand (Line at line) turns.new service.old service.new) }
-    ensures stops { (stand : Stand S) (at : ℕ) (line : Option (List ℕ)) → SpellsEdit line edit → StandsIn P.sent stand turns.old service.old → IfErr result (λ end. StopsIn P.sent R.makes stand (Line at line) end turns.new service.new (P.sent (shown.pages service.old))) }
-    ensures leaves { (stand : Stand S) (at : ℕ) (line : Option (List ℕ)) → SpellsEdit line edit → StandsIn P.sent stand turns.old service.old → Lasting stand → LeavesIn R.makes stand (Line at line) service.old service.new }
+    ensures does { (stand : Stand S) → ForSpelled edit (λ it. StandsIn P.sent stand turns.old service.old → OnOk result (DoesIn P.sent R.makes stand it turns.new service.old service.new)) }
+    ensures stops { (stand : Stand S) → ForSpelled edit (λ it. StandsIn P.sent stand turns.old service.old → IfErr result (StopsFrom P.sent R.makes stand it turns.new service.old service.new)) }
+    ensures leaves { (stand : Stand S) → ForSpelled edit (λ it. StandsIn P.sent stand turns.old service.old → Lasting stand → LeavesIn R.makes stand it service.old service.new) }
     ensures fit { OnOk result (FitIn turns.new service.new) }
     ensures fit_on_err { IfErr result (λ end. (Harms end → ⊥) → FitIn turns.new service.new) }
     ensures goes { Goes (side_of P.Streams service.old) (side_of P.Streams service.new) }
@@ -59,7 +58,7 @@ pub(crate) fn answer_other<P: PageWorld, S, F, R: Reply<S, F>>(
     requires some { 0 < length line.now }
     requires other { edit_of (Some line.now) ≡ [] }
     ensures does { (stand : Stand S) (at : ℕ) → StandsIn P.sent stand turns.old service.old → OnOk result (DoesIn P.sent R.makes stand (Line at (Some line.now)) turns.new service.old service.new) }
-    ensures stops { (stand : Stand S) (at : ℕ) → StandsIn P.sent stand turns.old service.old → IfErr result (λ end. StopsIn P.sent R.makes stand (Line at (Some line.now)) end turns.new service.new (P.sent (shown.pages service.old))) }
+    ensures stops { (stand : Stand S) (at : ℕ) → StandsIn P.sent stand turns.old service.old → IfErr result (StopsFrom P.sent R.makes stand (Line at (Some line.now)) turns.new service.old service.new) }
     ensures leaves { (stand : Stand S) (at : ℕ) → StandsIn P.sent stand turns.old service.old → Lasting stand → LeavesIn R.makes stand (Line at (Some line.now)) service.old service.new }
     ensures fit { OnOk result (FitIn turns.new service.new) }
     ensures fit_on_err { IfErr result (λ end. (Harms end → ⊥) → FitIn turns.new service.new) }
@@ -83,7 +82,7 @@ pub(crate) fn refuse_long<P: PageWorld, S, F, R: Reply<S, F>>(
 ) -> Result<(), AnswerEnd<F>>
     requires fit { FitIn turns.old service.old }
     ensures does { (stand : Stand S) (at : ℕ) → StandsIn P.sent stand turns.old service.old → OnOk result (DoesIn P.sent R.makes stand (Line at None) turns.new service.old service.new) }
-    ensures stops { (stand : Stand S) (at : ℕ) → StandsIn P.sent stand turns.old service.old → IfErr result (λ end. StopsIn P.sent R.makes stand (Line at None) end turns.new service.new (P.sent (shown.pages service.old))) }
+    ensures stops { (stand : Stand S) (at : ℕ) → StandsIn P.sent stand turns.old service.old → IfErr result (StopsFrom P.sent R.makes stand (Line at None) turns.new service.old service.new) }
     ensures leaves { (stand : Stand S) (at : ℕ) → StandsIn P.sent stand turns.old service.old → Lasting stand → LeavesIn R.makes stand (Line at None) service.old service.new }
     ensures fit { OnOk result (FitIn turns.new service.new) }
     ensures fit_on_err { IfErr result (λ end. (Harms end → ⊥) → FitIn turns.new service.new) }

@@ -17,7 +17,8 @@ pub returns-in-Err-clause-ends : goal.returns-in-Err-clause-ends
 returns-in-Err-clause-ends g c = λ total book told stands.
     let it = c.args.service.now in
     let left = g.P.Streams.left (shown.pages it) in
-    no_memory_first g.R.Reply.makes c.args.kept.now left total book it.sessions (g.P.Streams.sent (shown.pages it)) (shown.view it).image left
+    no_memory_first g.R.Reply.makes c.args.kept.now left total book it.sessions (g.P.Streams.sent (shown.pages it)) (shown.view it).image
+    left
     (Serve NoMemory) stands refl
 
 pub returns-in-Err-clause-crash : goal.returns-in-Err-clause-crash
@@ -59,7 +60,8 @@ returns-clause-done g c = λ total book told stands.
     let it = c.args.service.now in
     let new = c.answer_turns-answer.new.service in
     let K : g.row.S.Denot → Type 0 = λ k.
-    OnOk c.answer_turns-answer.result (SendsAll g.P.Streams.left g.P.Streams.sent (AreMade g.R.Reply.makes c.args.kept.now k) total book it new) in
+    OnOk c.answer_turns-answer.result (SendsAll g.P.Streams.left g.P.Streams.sent (AreMade g.R.Reply.makes c.args.kept.now k) total book
+    it new) in
     subst K (search rules) (c.answer_turns-answer.ensures.done total book told stands)
 
 pub returns-clause-ends : goal.returns-clause-ends

@@ -28,8 +28,15 @@ returns-clause-same_reference g c =
     let makes = g.R.Reply.makes in
     let r = c.run_lines.result in
     let named : Named g.row.S.Denot = record { name = turns.kept.ghost_name; kept = turns.kept.now; sessions = it.sessions } in
-    let here : IsNamed named turns.kept.ghost_name turns.kept.now it.sessions = record { name_is = refl; kept_is = refl; sessions_are = refl } in
-    let all = gives_so makes turns.kept.now work.kept.now it.sessions new.sessions (sent pages) (sent pages') turns.kept.ghost_name work.kept.ghost_name work.edits.items (shown.IsTold new) (shown.view new) (left pages) (left pages') (pieces pages) (pieces pages') r
+    let here : IsNamed named turns.kept.ghost_name turns.kept.now it.sessions = record {
+      name_is = refl;
+      kept_is = refl;
+      sessions_are =
+          refl;
+    } in
+    let all = gives_so makes turns.kept.now work.kept.now it.sessions new.sessions (sent pages) (sent pages') turns.kept.ghost_name
+    work.kept.ghost_name work.edits.items (shown.IsTold new) (shown.view new) (left pages) (left pages') (pieces pages) (pieces
+    pages') r
     (c.run_lines.ensures.done (Any named) here) (c.run_lines.ensures.stops (Any named) here) in
     all.1
 
@@ -47,10 +54,14 @@ returns-clause-done g c = λ total book told stands.
     let makes = g.R.Reply.makes in
     let r = c.run_lines.result in
     let held = first_held turns.kept.now total book it.sessions (sent pages) (shown.view it).reads (shown.view it).syncs in
-    let here = first_stands turns.kept.now total book turns.edits.items (shown.IsTold it) (shown.view it) it.sessions (sent pages) told stands c.requires.none in
-    let P : Result (Unit {0}) (AnswerEnd g.row.F.Denot) → Type 0 = λ x. OnOk x (SendsAll left sent (AreMade makes turns.kept.now work.kept.now) total book it new) in
+    let here = first_stands turns.kept.now total book turns.edits.items (shown.IsTold it) (shown.view it) it.sessions (sent pages) told
+    stands c.requires.none in
+    let P : Result (Unit {0}) (AnswerEnd g.row.F.Denot)
+    → Type 0 = λ x. OnOk x (SendsAll left sent (AreMade makes turns.kept.now work.kept.now) total book it new) in
     subst P (sym c.answer_of.ensures)
-    (done_so makes turns.kept.now work.kept.now total book it.sessions new.sessions (sent pages) (sent pages') (shown.view it) work.kept.ghost_name work.edits.items (shown.IsTold new) (shown.view new) (left pages) (pieces pages) (pieces pages') r (c.run_lines.ensures.done (Over held) here))
+    (done_so makes turns.kept.now work.kept.now total book it.sessions new.sessions (sent pages) (sent pages') (shown.view it)
+    work.kept.ghost_name work.edits.items (shown.IsTold new) (shown.view new) (left pages) (pieces pages) (pieces pages') r
+    (c.run_lines.ensures.done (Over held) here))
 
 pub returns-clause-ends : goal.returns-clause-ends
 returns-clause-ends g c = λ total book told stands.
@@ -66,10 +77,14 @@ returns-clause-ends g c = λ total book told stands.
     let makes = g.R.Reply.makes in
     let r = c.run_lines.result in
     let held = first_held turns.kept.now total book it.sessions (sent pages) (shown.view it).reads (shown.view it).syncs in
-    let here = first_stands turns.kept.now total book turns.edits.items (shown.IsTold it) (shown.view it) it.sessions (sent pages) told stands c.requires.none in
-    let P : Result (Unit {0}) (AnswerEnd g.row.F.Denot) → Type 0 = λ x. IfErr x (EndsBy left sent makes turns.kept.now work.kept.now total book it new) in
+    let here = first_stands turns.kept.now total book turns.edits.items (shown.IsTold it) (shown.view it) it.sessions (sent pages) told
+    stands c.requires.none in
+    let P : Result (Unit {0}) (AnswerEnd g.row.F.Denot)
+    → Type 0 = λ x. IfErr x (EndsBy left sent makes turns.kept.now work.kept.now total book it new) in
     subst P (sym c.answer_of.ensures)
-    (ends_so makes turns.kept.now work.kept.now total book it.sessions new.sessions (sent pages) (sent pages') (shown.view it) work.kept.ghost_name work.edits.items (shown.IsTold new) (shown.view new) (left pages) (left pages') (pieces pages) (pieces pages') r (c.run_lines.ensures.stops (Over held) here))
+    (ends_so makes turns.kept.now work.kept.now total book it.sessions new.sessions (sent pages) (sent pages') (shown.view it)
+    work.kept.ghost_name work.edits.items (shown.IsTold new) (shown.view new) (left pages) (left pages') (pieces pages) (pieces
+    pages') r (c.run_lines.ensures.stops (Over held) here))
 
 pub returns-clause-crash : goal.returns-clause-crash
 returns-clause-crash g c = λ total book told stands.
@@ -85,8 +100,10 @@ returns-clause-crash g c = λ total book told stands.
     let makes = g.R.Reply.makes in
     let r = c.run_lines.result in
     let held = first_held turns.kept.now total book it.sessions (sent pages) (shown.view it).reads (shown.view it).syncs in
-    let here = first_stands turns.kept.now total book turns.edits.items (shown.IsTold it) (shown.view it) it.sessions (sent pages) told stands c.requires.none in
-    crash_told makes turns.kept.now work.kept.now total book it.sessions new.sessions (sent pages) (sent pages') (shown.view it) work.kept.ghost_name work.edits.items (shown.IsTold new) (shown.view new) (left pages) (c.run_lines.ensures.crash (Over held) here)
+    let here = first_stands turns.kept.now total book turns.edits.items (shown.IsTold it) (shown.view it) it.sessions (sent pages) told
+    stands c.requires.none in
+    crash_told makes turns.kept.now work.kept.now total book it.sessions new.sessions (sent pages) (sent pages') (shown.view it)
+    work.kept.ghost_name work.edits.items (shown.IsTold new) (shown.view new) (left pages) (c.run_lines.ensures.crash (Over held) here)
 
 pub returns-clause-reads : goal.returns-clause-reads
 returns-clause-reads g c = λ total book told stands.
@@ -102,8 +119,11 @@ returns-clause-reads g c = λ total book told stands.
     let makes = g.R.Reply.makes in
     let r = c.run_lines.result in
     let held = first_held turns.kept.now total book it.sessions (sent pages) (shown.view it).reads (shown.view it).syncs in
-    let here = first_stands turns.kept.now total book turns.edits.items (shown.IsTold it) (shown.view it) it.sessions (sent pages) told stands c.requires.none in
-    reads_so makes turns.kept.now work.kept.now total book it.sessions new.sessions (sent pages) (sent pages') (shown.view it) work.kept.ghost_name work.edits.items (shown.IsTold new) (shown.view new) (left pages) (left pages') (pieces pages) (pieces pages') r
+    let here = first_stands turns.kept.now total book turns.edits.items (shown.IsTold it) (shown.view it) it.sessions (sent pages) told
+    stands c.requires.none in
+    reads_so makes turns.kept.now work.kept.now total book it.sessions new.sessions (sent pages) (sent pages') (shown.view it)
+    work.kept.ghost_name work.edits.items (shown.IsTold new) (shown.view new) (left pages) (left pages') (pieces pages) (pieces
+    pages') r
     (c.run_lines.ensures.done (Over held) here) (c.run_lines.ensures.stops (Over held) here)
 
 pub returns-clause-syncs : goal.returns-clause-syncs
@@ -120,8 +140,11 @@ returns-clause-syncs g c = λ total book told stands.
     let makes = g.R.Reply.makes in
     let r = c.run_lines.result in
     let held = first_held turns.kept.now total book it.sessions (sent pages) (shown.view it).reads (shown.view it).syncs in
-    let here = first_stands turns.kept.now total book turns.edits.items (shown.IsTold it) (shown.view it) it.sessions (sent pages) told stands c.requires.none in
-    syncs_so makes turns.kept.now work.kept.now total book it.sessions new.sessions (sent pages) (sent pages') (shown.view it) work.kept.ghost_name work.edits.items (shown.IsTold new) (shown.view new) (left pages) (left pages') (pieces pages) (pieces pages') r
+    let here = first_stands turns.kept.now total book turns.edits.items (shown.IsTold it) (shown.view it) it.sessions (sent pages) told
+    stands c.requires.none in
+    syncs_so makes turns.kept.now work.kept.now total book it.sessions new.sessions (sent pages) (sent pages') (shown.view it)
+    work.kept.ghost_name work.edits.items (shown.IsTold new) (shown.view new) (left pages) (left pages') (pieces pages) (pieces
+    pages') r
     (c.run_lines.ensures.done (Over held) here) (c.run_lines.ensures.stops (Over held) here)
 
 pub returns-clause-known : goal.returns-clause-known
@@ -138,12 +161,20 @@ returns-clause-known g c = λ knows follows known.
     let makes = g.R.Reply.makes in
     let r = c.run_lines.result in
     let named : Named g.row.S.Denot = record { name = turns.kept.ghost_name; kept = turns.kept.now; sessions = it.sessions } in
-    let here : IsNamed named turns.kept.ghost_name turns.kept.now it.sessions = record { name_is = refl; kept_is = refl; sessions_are = refl } in
-    let all = gives_so makes turns.kept.now work.kept.now it.sessions new.sessions (sent pages) (sent pages') turns.kept.ghost_name work.kept.ghost_name work.edits.items (shown.IsTold new) (shown.view new) (left pages) (left pages') (pieces pages) (pieces pages') r
+    let here : IsNamed named turns.kept.ghost_name turns.kept.now it.sessions = record {
+      name_is = refl;
+      kept_is = refl;
+      sessions_are =
+          refl;
+    } in
+    let all = gives_so makes turns.kept.now work.kept.now it.sessions new.sessions (sent pages) (sent pages') turns.kept.ghost_name
+    work.kept.ghost_name work.edits.items (shown.IsTold new) (shown.view new) (left pages) (left pages') (pieces pages) (pieces
+    pages') r
     (c.run_lines.ensures.done (Any named) here) (c.run_lines.ensures.stops (Any named) here) in
     let P : Result (Unit {0}) (AnswerEnd g.row.F.Denot) → Type 0 = λ x. IfErr x (EndsKnown makes knows) in
     subst P (sym c.answer_of.ensures)
-    (known_by makes knows follows turns.kept.now work.kept.now it.sessions new.sessions (sent pages) (sent pages') (answer_of r) known all.0)
+    (known_by makes knows follows turns.kept.now work.kept.now it.sessions new.sessions (sent pages) (sent pages') (answer_of r) known
+    all.0)
 
 pub returns-clause-gives : goal.returns-clause-gives
 returns-clause-gives g c =
@@ -159,8 +190,16 @@ returns-clause-gives g c =
     let makes = g.R.Reply.makes in
     let r = c.run_lines.result in
     let named : Named g.row.S.Denot = record { name = turns.kept.ghost_name; kept = turns.kept.now; sessions = it.sessions } in
-    let here : IsNamed named turns.kept.ghost_name turns.kept.now it.sessions = record { name_is = refl; kept_is = refl; sessions_are = refl } in
-    let all = gives_so makes turns.kept.now work.kept.now it.sessions new.sessions (sent pages) (sent pages') turns.kept.ghost_name work.kept.ghost_name work.edits.items (shown.IsTold new) (shown.view new) (left pages) (left pages') (pieces pages) (pieces pages') r
+    let here : IsNamed named turns.kept.ghost_name turns.kept.now it.sessions = record {
+      name_is = refl;
+      kept_is = refl;
+      sessions_are =
+          refl;
+    } in
+    let all = gives_so makes turns.kept.now work.kept.now it.sessions new.sessions (sent pages) (sent pages') turns.kept.ghost_name
+    work.kept.ghost_name work.edits.items (shown.IsTold new) (shown.view new) (left pages) (left pages') (pieces pages) (pieces
+    pages') r
     (c.run_lines.ensures.done (Any named) here) (c.run_lines.ensures.stops (Any named) here) in
-    let P : Result (Unit {0}) (AnswerEnd g.row.F.Denot) → Type 0 = λ x. GivesBy makes turns.kept.now work.kept.now it.sessions new.sessions (sent pages) (sent pages') x in
+    let P : Result (Unit {0}) (AnswerEnd g.row.F.Denot)
+    → Type 0 = λ x. GivesBy makes turns.kept.now work.kept.now it.sessions new.sessions (sent pages) (sent pages') x in
     subst P (sym c.answer_of.ensures) all.0

@@ -9,7 +9,8 @@ pub returns-then-is_err-clause-stops : goal.returns-then-is_err-clause-stops
 returns-then-is_err-clause-stops g c = λ stand at line spells stands.
     let it = c.args.service.now in
     let turns = c.args.turns.now in
-    memory_stops g.R.Reply.makes turns.kept.ghost_name turns.kept.now turns.edits.items (shown.IsTold it) (shown.view it) (shown.sessions it)
+    memory_stops g.R.Reply.makes turns.kept.ghost_name turns.kept.now turns.edits.items (shown.IsTold it) (shown.view it) (shown.sessions
+    it)
     (g.P.Streams.sent (shown.pages it)) stand at line (spelled_line line c.args.edit spells) stands
 
 pub returns-then-len-lt-MOST_EDITS-clause-does : goal.returns-then-len-lt-MOST_EDITS-clause-does
@@ -29,7 +30,8 @@ returns-clause-does g c = λ stand at line spells stands.
     let pushed : c.push.new.self.items ≡ turns.edits.items ++ c.args.edit ∷ [] = grind (arith, common_steps) in
     let full : 64 ≤ length c.push.new.self.items = grind (arith, common_steps) in
     full_does g.R.Reply.makes turns.kept.ghost_name turns.kept.now turns.edits.items (shown.IsTold it) (shown.view it) (shown.sessions it)
-    (g.P.Streams.sent (shown.pages it)) line c.args.edit spells c.push.new.self.items pushed next.kept.ghost_name c.settle.ensures.same_reference
+    (g.P.Streams.sent (shown.pages it)) line c.args.edit spells c.push.new.self.items pushed next.kept.ghost_name
+    c.settle.ensures.same_reference
     next.kept.now (shown.IsTold new) (shown.view new) (shown.sessions new) (g.P.Streams.sent (shown.pages new)) next.edits.items
     c.settle.result stand at full stands c.settle.ensures.gives c.settle.ensures.done
 
@@ -43,7 +45,8 @@ returns-clause-stops g c = λ stand at line spells stands.
     let full : 64 ≤ length c.push.new.self.items = grind (arith, common_steps) in
     let few : length c.push.new.self.items ≤ 64 = grind (arith, common_steps) in
     full_stops g.R.Reply.makes turns.kept.ghost_name turns.kept.now turns.edits.items (shown.IsTold it) (shown.view it) (shown.sessions it)
-    (g.P.Streams.sent (shown.pages it)) line c.args.edit spells c.push.new.self.items pushed next.kept.ghost_name c.settle.ensures.same_reference
+    (g.P.Streams.sent (shown.pages it)) line c.args.edit spells c.push.new.self.items pushed next.kept.ghost_name
+    c.settle.ensures.same_reference
     next.kept.now (shown.IsTold new) (shown.view new) (shown.sessions new) (g.P.Streams.sent (shown.pages new)) next.edits.items
     c.settle.result stand at full few stands c.settle.ensures.gives c.settle.ensures.stops
 
@@ -56,6 +59,7 @@ returns-clause-leaves g c = λ stand at line spells stands lasting.
     let pushed : c.push.new.self.items ≡ turns.edits.items ++ c.args.edit ∷ [] = grind (arith, common_steps) in
     let few : length c.push.new.self.items ≤ 64 = grind (arith, common_steps) in
     full_leaves g.R.Reply.makes turns.kept.ghost_name turns.kept.now turns.edits.items (shown.IsTold it) (shown.view it) (shown.sessions it)
-    (g.P.Streams.sent (shown.pages it)) line c.args.edit spells c.push.new.self.items pushed next.kept.ghost_name c.settle.ensures.same_reference
+    (g.P.Streams.sent (shown.pages it)) line c.args.edit spells c.push.new.self.items pushed next.kept.ghost_name
+    c.settle.ensures.same_reference
     next.kept.now (shown.IsTold new) (shown.view new) (shown.sessions new) (g.P.Streams.sent (shown.pages new)) next.edits.items
     stand at few stands lasting c.settle.ensures.moments

@@ -14,7 +14,8 @@ returns-in-Err-clause-stops g c = λ stand at stands.
     let few : length turns.edits.items ≤ 64 = omega (arith, c.requires.fit.few) in
     let failed : Result (Unit {0}) (AnswerEnd g.row.F.Denot) = Err c.in-Err.end in
     group_stops g.R.Reply.makes turns.kept.ghost_name turns.kept.now turns.edits.items (shown.IsTold it) (shown.view it) (shown.sessions it)
-    (g.P.Streams.sent (shown.pages it)) next.kept.ghost_name c.settle.ensures.same_reference next.kept.now next.edits.items (shown.IsTold new)
+    (g.P.Streams.sent (shown.pages it)) next.kept.ghost_name c.settle.ensures.same_reference next.kept.now next.edits.items (shown.IsTold
+    new)
     (shown.view new) (shown.sessions new) (g.P.Streams.sent (shown.pages new)) failed stand (Line at None) 1
     (other_counted None refl refl) (omega arith) few stands c.in-Err.ensures.gives c.in-Err.ensures.stops
 
@@ -25,9 +26,12 @@ returns-in-Err-clause-leaves g c = λ stand at stands lasting.
     let new = c.settle.new.service in
     let next = c.settle.new.turns in
     let few : length turns.edits.items ≤ 64 = omega (arith, c.requires.fit.few) in
-    group_leaves g.R.Reply.makes turns.kept.ghost_name turns.kept.now turns.edits.items (shown.IsTold it) (shown.view it) (shown.sessions it)
-    (g.P.Streams.sent (shown.pages it)) next.kept.ghost_name c.settle.ensures.same_reference next.kept.now next.edits.items (shown.IsTold new)
-    (shown.view new) (shown.sessions new) (g.P.Streams.sent (shown.pages new)) stand (Line at None) few stands lasting c.settle.ensures.moments
+    group_leaves g.R.Reply.makes turns.kept.ghost_name turns.kept.now turns.edits.items (shown.IsTold it) (shown.view it) (shown.sessions
+    it)
+    (g.P.Streams.sent (shown.pages it)) next.kept.ghost_name c.settle.ensures.same_reference next.kept.now next.edits.items (shown.IsTold
+    new)
+    (shown.view new) (shown.sessions new) (g.P.Streams.sent (shown.pages new)) stand (Line at None) few stands lasting
+    c.settle.ensures.moments
 
 pub returns-clause-does : goal.returns-clause-does
 returns-clause-does g c = λ stand at stands.
@@ -38,10 +42,13 @@ returns-clause-does g c = λ stand at stands.
     let new = c.answer_long_line.new.service in
     let e = c.answer_long_line.ensures in
     line_does g.R.Reply.makes turns.kept.ghost_name turns.kept.now turns.edits.items (shown.IsTold it) (shown.view it) (shown.sessions it)
-    (g.P.Streams.sent (shown.pages it)) next.kept.ghost_name c.settle.ensures.same_reference next.kept.now next.edits.items (shown.IsTold mid)
+    (g.P.Streams.sent (shown.pages it)) next.kept.ghost_name c.settle.ensures.same_reference next.kept.now next.edits.items (shown.IsTold
+    mid)
     (shown.view mid) (shown.sessions mid) (g.P.Streams.sent (shown.pages mid)) c.in-Ok.ensures.gives c.in-Ok.ensures.done None refl refl
-    next.kept.ghost_name refl c.answer_long_line.new.kept (shown.IsTold new) (shown.view new) (shown.sessions new) (g.P.Streams.sent (shown.pages new))
-    c.answer_long_line.result stand at stands e.gives e.done e.keeps.told (λ told. e.keeps.disk.image) (λ total book told stands. e.keeps.disk.reads) e.keeps.disk.syncs
+    next.kept.ghost_name refl c.answer_long_line.new.kept (shown.IsTold new) (shown.view new) (shown.sessions new) (g.P.Streams.sent
+    (shown.pages new))
+    c.answer_long_line.result stand at stands e.gives e.done e.keeps.told (λ told. e.keeps.disk.image) (λ total book told stands.
+    e.keeps.disk.reads) e.keeps.disk.syncs
 
 pub returns-clause-stops : goal.returns-clause-stops
 returns-clause-stops g c = λ stand at stands.
@@ -52,9 +59,11 @@ returns-clause-stops g c = λ stand at stands.
     let new = c.answer_long_line.new.service in
     let e = c.answer_long_line.ensures in
     line_stops g.R.Reply.makes turns.kept.ghost_name turns.kept.now turns.edits.items (shown.IsTold it) (shown.view it) (shown.sessions it)
-    (g.P.Streams.sent (shown.pages it)) next.kept.ghost_name c.settle.ensures.same_reference next.kept.now next.edits.items (shown.IsTold mid)
+    (g.P.Streams.sent (shown.pages it)) next.kept.ghost_name c.settle.ensures.same_reference next.kept.now next.edits.items (shown.IsTold
+    mid)
     (shown.view mid) (shown.sessions mid) (g.P.Streams.sent (shown.pages mid)) c.in-Ok.ensures.gives c.in-Ok.ensures.done None refl refl
-    next.kept.ghost_name refl c.answer_long_line.new.kept (shown.IsTold new) (shown.view new) (shown.sessions new) (g.P.Streams.sent (shown.pages new))
+    next.kept.ghost_name refl c.answer_long_line.new.kept (shown.IsTold new) (shown.view new) (shown.sessions new) (g.P.Streams.sent
+    (shown.pages new))
     c.answer_long_line.result stand at stands e.gives e.stops (λ total book told stands. e.keeps.disk.reads) e.keeps.disk.syncs
 
 pub returns-clause-leaves : goal.returns-clause-leaves
@@ -67,11 +76,16 @@ returns-clause-leaves g c = λ stand at stands lasting.
     let e = c.answer_long_line.ensures in
     let few : length turns.edits.items ≤ 64 = omega (arith, c.requires.fit.few) in
     line_leaves g.R.Reply.makes turns.kept.ghost_name turns.kept.now turns.edits.items (shown.IsTold it) (shown.view it) (shown.sessions it)
-    (g.P.Streams.sent (shown.pages it)) next.kept.ghost_name c.settle.ensures.same_reference next.kept.now next.edits.items (shown.IsTold mid)
+    (g.P.Streams.sent (shown.pages it)) next.kept.ghost_name c.settle.ensures.same_reference next.kept.now next.edits.items (shown.IsTold
+    mid)
     (shown.view mid) (shown.sessions mid) (g.P.Streams.sent (shown.pages mid)) c.in-Ok.ensures.gives c.in-Ok.ensures.done None refl refl
-    next.kept.ghost_name refl c.answer_long_line.new.kept (shown.IsTold new) (shown.view new) (shown.sessions new) (g.P.Streams.sent (shown.pages new))
+    next.kept.ghost_name refl c.answer_long_line.new.kept (shown.IsTold new) (shown.view new) (shown.sessions new) (g.P.Streams.sent
+    (shown.pages new))
     stand at stands lasting
-    (group_leaves g.R.Reply.makes turns.kept.ghost_name turns.kept.now turns.edits.items (shown.IsTold it) (shown.view it) (shown.sessions it)
-    (g.P.Streams.sent (shown.pages it)) next.kept.ghost_name c.settle.ensures.same_reference next.kept.now next.edits.items (shown.IsTold mid)
-    (shown.view mid) (shown.sessions mid) (g.P.Streams.sent (shown.pages mid)) stand (Line at None) few stands lasting c.settle.ensures.moments)
+    (group_leaves g.R.Reply.makes turns.kept.ghost_name turns.kept.now turns.edits.items (shown.IsTold it) (shown.view it) (shown.sessions
+    it)
+    (g.P.Streams.sent (shown.pages it)) next.kept.ghost_name c.settle.ensures.same_reference next.kept.now next.edits.items (shown.IsTold
+    mid)
+    (shown.view mid) (shown.sessions mid) (g.P.Streams.sent (shown.pages mid)) stand (Line at None) few stands lasting
+    c.settle.ensures.moments)
     e.moments (g.met.P.PageWorld.counts_sent (shown.pages it)) (g.met.P.PageWorld.counts_sent (shown.pages mid))

@@ -22,7 +22,8 @@ returns-clause-done g c = λ total book told stands.
     let answer = c.answer_lines-answer.result in
     let X = SendsWhole g.P.Streams.left g.P.Streams.sent AreSpelled total book old new in
     subst (λ r. OnOk r X) (sym c.served.ensures) (served_ok answer X
-    (ok_so answer _ X (done_spelled spelling_makes spells _ _ (g.P.Streams.left pages) total (shown.state old total book) (shown.image new) new.sessions (g.P.Streams.sent pages) (g.P.Streams.sent after)) (c.answer_lines-answer.ensures.done total book told stands)))
+    (ok_so answer _ X (done_spelled spelling_makes spells _ _ (g.P.Streams.left pages) total (shown.state old total book) (shown.image
+    new) new.sessions (g.P.Streams.sent pages) (g.P.Streams.sent after)) (c.answer_lines-answer.ensures.done total book told stands)))
 
 pub returns-clause-within : goal.returns-clause-within
 returns-clause-within g c =
@@ -36,23 +37,29 @@ returns-clause-ends g c = λ total book told stands.
     let pages = shown.pages old in
     let after = shown.pages new in
     subst (λ r. IfErr r (ServeEndsBy g.P.Streams.left g.P.Streams.sent total book old new)) (sym c.served.ensures)
-    (ends_spelled spelling_makes spells _ _ (shown.state old total book) (shown.image new) new.sessions (g.P.Streams.left after) (g.P.Streams.sent pages) (g.P.Streams.sent after) (g.P.Streams.left pages) c.answer_lines-answer.result (c.answer_lines-answer.ensures.ends total book told stands))
+    (ends_spelled spelling_makes spells _ _ (shown.state old total book) (shown.image new) new.sessions (g.P.Streams.left after)
+    (g.P.Streams.sent pages) (g.P.Streams.sent after) (g.P.Streams.left pages) c.answer_lines-answer.result
+    (c.answer_lines-answer.ensures.ends total book told stands))
 
 pub returns-clause-crash : goal.returns-clause-crash
 returns-clause-crash g c = λ total book told stands.
     let old = c.args.service.now in
     let new = c.answer_lines-answer.new.service in
     let pages = shown.pages old in
-    lasts_spelled spelling_makes spells _ (g.P.Streams.left pages) (g.P.Streams.sent pages) total (sent_now (shown.view old)) (shown.state old total book) (shown.view old) (shown.view new) (c.answer_lines-answer.ensures.crash total book told stands)
+    lasts_spelled spelling_makes spells _ (g.P.Streams.left pages) (g.P.Streams.sent pages) total (sent_now (shown.view old)) (shown.state
+    old total book) (shown.view old) (shown.view new) (c.answer_lines-answer.ensures.crash total book told stands)
 
 pub returns-clause-read : goal.returns-clause-read
-returns-clause-read g c = λ fault. c.answer_lines-answer.ensures.read (served_fault c.answer_lines-answer.result ReadFault (λ e. cc) (sym c.served.ensures ∙ fault))
+returns-clause-read g c = λ fault. c.answer_lines-answer.ensures.read (served_fault c.answer_lines-answer.result ReadFault (λ e. cc) (sym
+    c.served.ensures ∙ fault))
 
 pub returns-clause-send : goal.returns-clause-send
-returns-clause-send g c = λ fault. c.answer_lines-answer.ensures.send (served_fault c.answer_lines-answer.result SendFault (λ e. cc) (sym c.served.ensures ∙ fault))
+returns-clause-send g c = λ fault. c.answer_lines-answer.ensures.send (served_fault c.answer_lines-answer.result SendFault (λ e. cc) (sym
+    c.served.ensures ∙ fault))
 
 pub returns-clause-disk : goal.returns-clause-disk
-returns-clause-disk g c = λ fault. c.answer_lines-answer.ensures.disk (served_fault c.answer_lines-answer.result DiskFault (λ e. cc) (sym c.served.ensures ∙ fault))
+returns-clause-disk g c = λ fault. c.answer_lines-answer.ensures.disk (served_fault c.answer_lines-answer.result DiskFault (λ e. cc) (sym
+    c.served.ensures ∙ fault))
 
 pub returns-clause-bad : goal.returns-clause-bad
 returns-clause-bad g c =
@@ -70,10 +77,12 @@ pub returns-clause-named : goal.returns-clause-named
 returns-clause-named g c =
     let old = c.args.service.now in
     let new = c.answer_lines-answer.new.service in
-    serve_named _ _ old.sessions new.sessions (g.P.Streams.sent (shown.pages old)) (g.P.Streams.sent (shown.pages new)) c.answer_lines-answer.result c.answer_lines-answer.ensures.gives
+    serve_named _ _ old.sessions new.sessions (g.P.Streams.sent (shown.pages old)) (g.P.Streams.sent (shown.pages new))
+    c.answer_lines-answer.result c.answer_lines-answer.ensures.gives
 
 pub returns-clause-faults : goal.returns-clause-faults
 returns-clause-faults g c =
     let old = shown.view c.args.service.now in
     let new = shown.view c.answer_lines-answer.new.service in
-    subst (λ r. CountsFault (fault_in serve_fault r) old new) (sym c.served.ensures) (serve_goes c.answer_lines-answer.result old new c.answer_lines-answer.ensures.faults)
+    subst (λ r. CountsFault (fault_in serve_fault r) old new) (sym c.served.ensures) (serve_goes c.answer_lines-answer.result old new
+    c.answer_lines-answer.ensures.faults)

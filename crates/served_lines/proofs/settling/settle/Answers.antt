@@ -14,7 +14,8 @@ pub returns-then-is_empty-clause-done : goal.returns-then-is_empty-clause-done
 returns-then-is_empty-clause-done g c = λ held is.
     let it = c.args.service.now in
     let none : length c.args.turns.now.edits.items ≡ 0 = grind (arith, common_steps) in
-    none_settled g.R.Reply.makes held c.args.turns.now.edits.items (shown.IsTold it) (shown.view it) (shown.sessions it) c.args.turns.now.kept.now
+    none_settled g.R.Reply.makes held c.args.turns.now.edits.items (shown.IsTold it) (shown.view it) (shown.sessions it)
+    c.args.turns.now.kept.now
     (g.P.Streams.sent (shown.pages it)) is none
 
 pub returns-clause-done : goal.returns-clause-done
@@ -51,7 +52,8 @@ returns-clause-stops g c = λ held is.
     let first = state_of held.state.book held.state.total (shown.sessions it) in
     error_so c.answer_edits-answer.result
     (LinesStop g.R.Reply.makes held.ahead kept kept' first (shown.image new) (shown.sessions new) before now)
-    (Unsettled g.R.Reply.makes held kept' c.args.turns.now.edits.items (shown.image new) (shown.sessions new) now (shown.view new).reads (shown.view new).syncs)
+    (Unsettled g.R.Reply.makes held kept' c.args.turns.now.edits.items (shown.image new) (shown.sessions new) now (shown.view new).reads
+    (shown.view new).syncs)
     (λ end why.
     let U : List Edit → Type 0 = λ l. Unsettled g.R.Reply.makes held kept' l (shown.image new) (shown.sessions new) now
     (shown.view new).reads (shown.view new).syncs end in

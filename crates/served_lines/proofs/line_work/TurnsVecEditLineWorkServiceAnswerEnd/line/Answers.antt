@@ -36,5 +36,6 @@ returns-in-Err-clause-stops g c = λ stand stands.
     let it = c.args.from.now in
     let turns = c.args.self.now in
     let some : 0 < length c.args.line.now = grind (arith, common_steps) in
-    memory_stops g.R.Reply.makes turns.kept.ghost_name turns.kept.now turns.edits.items (shown.IsTold it) (shown.view it) (shown.sessions it)
+    memory_stops g.R.Reply.makes turns.kept.ghost_name turns.kept.now turns.edits.items (shown.IsTold it) (shown.view it) (shown.sessions
+    it)
     (g.P.Streams.sent (shown.pages it)) stand c.args.at (Some c.args.line.now) (said_some c.args.line.now some) stands

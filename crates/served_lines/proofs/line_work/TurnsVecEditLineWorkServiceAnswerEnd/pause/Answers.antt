@@ -11,7 +11,8 @@ returns-clause-does g c = λ stand stands.
     let new = c.settle.new.service in
     let next = c.settle.new.turns in
     pause_does g.R.Reply.makes turns.kept.ghost_name turns.kept.now turns.edits.items (shown.IsTold it) (shown.view it) (shown.sessions it)
-    (g.P.Streams.sent (shown.pages it)) next.kept.ghost_name c.settle.ensures.same_reference next.kept.now next.edits.items (shown.IsTold new)
+    (g.P.Streams.sent (shown.pages it)) next.kept.ghost_name c.settle.ensures.same_reference next.kept.now next.edits.items (shown.IsTold
+    new)
     (shown.view new) (shown.sessions new) (g.P.Streams.sent (shown.pages new))
     c.settle.result stand stands c.settle.ensures.gives c.settle.ensures.done
 
@@ -23,7 +24,8 @@ returns-clause-stops g c = λ stand stands.
     let next = c.settle.new.turns in
     let few : length turns.edits.items ≤ 64 = omega (arith, c.requires.fit.few) in
     group_stops g.R.Reply.makes turns.kept.ghost_name turns.kept.now turns.edits.items (shown.IsTold it) (shown.view it) (shown.sessions it)
-    (g.P.Streams.sent (shown.pages it)) next.kept.ghost_name c.settle.ensures.same_reference next.kept.now next.edits.items (shown.IsTold new)
+    (g.P.Streams.sent (shown.pages it)) next.kept.ghost_name c.settle.ensures.same_reference next.kept.now next.edits.items (shown.IsTold
+    new)
     (shown.view new) (shown.sessions new) (g.P.Streams.sent (shown.pages new))
     c.settle.result stand Pause 0 refl (omega arith) few stands c.settle.ensures.gives c.settle.ensures.stops
 
@@ -34,7 +36,9 @@ returns-clause-leaves g c = λ stand stands lasting.
     let new = c.settle.new.service in
     let next = c.settle.new.turns in
     let few : length turns.edits.items ≤ 64 = omega (arith, c.requires.fit.few) in
-    group_leaves g.R.Reply.makes turns.kept.ghost_name turns.kept.now turns.edits.items (shown.IsTold it) (shown.view it) (shown.sessions it)
-    (g.P.Streams.sent (shown.pages it)) next.kept.ghost_name c.settle.ensures.same_reference next.kept.now next.edits.items (shown.IsTold new)
+    group_leaves g.R.Reply.makes turns.kept.ghost_name turns.kept.now turns.edits.items (shown.IsTold it) (shown.view it) (shown.sessions
+    it)
+    (g.P.Streams.sent (shown.pages it)) next.kept.ghost_name c.settle.ensures.same_reference next.kept.now next.edits.items (shown.IsTold
+    new)
     (shown.view new) (shown.sessions new) (g.P.Streams.sent (shown.pages new))
     stand Pause few stands lasting c.settle.ensures.moments
