@@ -18,11 +18,12 @@ use block_disk::{Back, World};
 use chart_client::Screen;
 use chart_client::laws::{frames_change_one_session, frames_have_one_answer};
 use chart_frames::laws::one_frame_a_spelling;
-use chart_service::{ServeEnd, Service, serve};
+use chart_service::{ServeEnd, Service};
 use disk_store::{disk_of, open_store};
 use drawn_replies::laws::{clients_draw_the_book, replies_draw_the_book};
 use gate_pages::GatePages;
 use series_store::Store;
+use served_lines::serve;
 use std::alloc::Global;
 
 /// Opens the store of a world, sends the frames that answer the lines of the input, and gives the world
@@ -64,7 +65,7 @@ fn serve_lines<W: World>(alloc: Global, store: Store<GatePages<W>>) -> (Result<(
     ensures faults { CountsFault (fault_in run_fault result.0) (W.view (disk (stored.pages store))) (W.view result.1) }
 {
     match Service::new(alloc, store) {
-        Ok(service) => serve_service(service),
+        Ok(service) => serve_service(alloc, service),
         Err(Back { value, cause: _ }) => (Err(RunEnd::Serve(ServeEnd::NoMemory)), disk_of(value)),
     }
 }
@@ -81,13 +82,16 @@ fn run_lines<W: World>(alloc: Global, store: Store<GatePages<W>>) -> (Result<(),
 }
 
 /// The same by a service with no session open.
-fn serve_service<W: World>(mut service: Service<GatePages<W>>) -> (Result<(), RunEnd>, W)
+fn serve_service<W: World>(
+    alloc: Global,
+    mut service: Service<GatePages<W>>,
+) -> (Result<(), RunEnd>, W)
     requires sound { AreSound (shown.pages service) }
     requires alone { shown.sessions service ≡ [] }
     ensures serves { let pages = shown.pages service in PagesServed Spelled ⊥ W.view pages result.1 (traffic W.left W.sent W.read_faults W.send_faults (disk pages) result.1) result.0 }
     ensures faults { CountsFault (fault_in run_fault result.0) (W.view (disk (shown.pages service))) (W.view result.1) }
 {
-    let answer = serve(&mut service);
+    let answer = serve(alloc, &mut service);
     (of_serving(answer), disk_of(service.into_store()))
 }
 

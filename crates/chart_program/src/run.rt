@@ -16,8 +16,9 @@ use crate::reply_text::reply_text;
 use crate::run_end::RunEnd;
 use chart_client::Show;
 use chart_frames::{Frame, encode};
-use chart_service::{AnswerEnd, Reply, ServeEnd, Service, answer_lines};
+use chart_service::{AnswerEnd, Reply, ServeEnd, Service};
 use gate_pages::PageWorld;
+use served_lines::answer_lines;
 use std::alloc::Global;
 
 /// Replies are the texts of what a `Show` shows for the spellings of their frames, with the pictures.
@@ -71,7 +72,7 @@ pub fn run_on<P: PageWorld, V: Show>(
     ensures total { shown.total service.new ≡ shown.total service.old }
 {
     let texts = Texts { alloc };
-    let answer = answer_lines(service, &texts, show);
+    let answer = answer_lines(alloc, service, &texts, show);
     of_answers(answer)
 }
 

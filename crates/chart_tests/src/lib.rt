@@ -13,6 +13,8 @@ mod loads;
 #[cfg(test)]
 mod plans;
 #[cfg(test)]
+mod served;
+#[cfg(test)]
 mod walks;
 #[cfg(test)]
 mod worlds;

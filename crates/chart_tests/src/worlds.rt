@@ -1,10 +1,11 @@
 //! Worlds in memory over a disk of 128 blocks, and what is done to them.
 
 use block_disk::MemDisk;
-use chart_service::{Service, serve};
+use chart_service::Service;
 use chart_world::MemWorld;
 use disk_store::{disk_of, open_store};
 use empty_store::make_store;
+use served_lines::serve;
 use std::alloc::Global;
 use std::test::Fail;
 
@@ -37,7 +38,7 @@ pub(crate) fn behind(alloc: Global, lines: &[u8]) -> Result<MemDisk, Fail> {
     let Ok(mut service) = Service::new(alloc, store) else {
         return Err(Fail::new("no service"));
     };
-    if !service.is_sound() || serve(&mut service).is_err() {
+    if !service.is_sound() || serve(alloc, &mut service).is_err() {
         return Err(Fail::new("the lines weren't answered"));
     }
     Ok(disk_of(service.into_store()).into_disk())
