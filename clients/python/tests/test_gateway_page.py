@@ -56,6 +56,7 @@ class Viewed(OverAGateway):
         self.addCleanup(lambda: [viewer.hang_up() for viewer in found])
         for viewer in found:
             self.assertEqual(viewer.open(), frames.OPENED)
+            viewer.listen()  # so that none counts as gone, however slow this is
         return found
 
     def drawn(self, views):
@@ -105,7 +106,7 @@ class Crowd(Viewed):
         self.require_exact(viewers, views_of)
         ways = self.ways()
         self.assertEqual(sum(ways.values()), 120)
-        self.assertTrue(ways.get("own") and ways.get("whole"), ways)
+        self.assertTrue(ways.get("own"), ways)
         # Edits change some of what they have, and all of them draw again, whichever way they were answered before.
         self.require_written(lines_of("sea", 500, 300, self.chance) + "\n" + lines_of("tide", SLOTS, 20, self.chance))
         self.require_exact(viewers, views_of)
@@ -115,8 +116,6 @@ class Crowd(Viewed):
 
     def test_forty_viewers_of_one_window(self):
         viewers, words = self.viewers(40), f"sea_v 200 60 {T} {T + SLOTS} auto"
-        for viewer in viewers:
-            viewer.listen()
         for _ in range(2):
             self.require_exact(viewers, lambda _: [words])
         self.assertEqual(sum(self.ways().values()), 80)
@@ -133,13 +132,14 @@ class Crowd(Viewed):
         for _ in range(3):
             viewers.append(Viewer(self.gateway.port, 5 + len(viewers)))
             viewers[-1].open()
+            self.addCleanup(viewers[-1].listen().hang_up)
         self.require_exact(viewers[3:], views_of)
         self.assertEqual(self.gateway.metrics()["zurtkvani_gateway_page_viewers"], 20)
 
 
 class Pushes(Viewed):
     def test_forty_viewers_are_told_what_changes_and_draw_it(self):
-        viewers, words = [viewer.listen() for viewer in self.viewers(40)], f"sea_v 200 60 {T} {T + 2 * SLOTS} auto"
+        viewers, words = self.viewers(40), f"sea_v 200 60 {T} {T + 2 * SLOTS} auto"
         self.require_exact(viewers, lambda _: [words])
         for turn in range(4):
             self.require_written(f"sea v={turn * 300} {T + SLOTS + turn}")
@@ -150,7 +150,7 @@ class Pushes(Viewed):
             self.require_exact(viewers, lambda _: [words])
 
     def test_a_killed_run_is_started_again_and_viewers_go_on(self):
-        viewers, words = [viewer.listen() for viewer in self.viewers(20)], f"sea_v 200 60 {T} {T + 2 * SLOTS} auto"
+        viewers, words = self.viewers(20), f"sea_v 200 60 {T} {T + 2 * SLOTS} auto"
         self.require_exact(viewers, lambda _: [words])
         for turn in range(3):
             (child,) = self.gateway.children()
@@ -166,7 +166,6 @@ class Pushes(Viewed):
 
     def test_a_new_series_is_told(self):
         (viewer,) = self.viewers(1)
-        viewer.listen()
         self.require_written(f"fresh v=1 {T}")
         while "fresh_v" not in viewer.changed():
             pass
@@ -174,7 +173,10 @@ class Pushes(Viewed):
         self.assertEqual(set(names), {"sea_v", "tide_v", "wind_v", "fresh_v"})
         self.assertEqual(names["fresh_v"], names["sea_v"] - SLOTS + 1)
         self.require_written(f"fresh,room=cellar v=1 {T}")
-        (name,) = viewer.changed()
+        new = set()
+        while not new:
+            new = viewer.changed().keys() - names.keys()
+        (name,) = new
         (shown,) = [one["shown"] for one in json.loads(viewer.post("/catalog", b"")) if one["name"] == name]
         self.assertEqual(shown, 'fresh_v{room="cellar"}')
 
@@ -229,6 +231,7 @@ class Let(Viewed):
         viewers = [Viewer(self.gateway.port, number, **{"X-Chart-Token": "read"}) for number in range(1, 5)]
         for viewer in viewers[:3]:
             viewer.open()
+            self.addCleanup(viewer.listen().hang_up)
         with self.assertRaisesRegex(Denied, "503 .*3 pages look at this gateway"):
             viewers[3].open()
         self.assertEqual(viewers[0].open(), frames.REFUSED)

@@ -3,13 +3,14 @@ import asyncio
 import struct
 import types
 import unittest
+import unittest.mock
 
 from gateway_server import require_all
 
 require_all()
 
 from zurtkvani_client import page_rules  # noqa: E402
-from zurtkvani_client.gateway import child  # noqa: E402
+from zurtkvani_client.gateway import child, sessions, viewers  # noqa: E402
 from zurtkvani_client.gateway.metrics import Counts  # noqa: E402
 from zurtkvani_client.gateway.news import News  # noqa: E402
 from zurtkvani_client.gateway.sessions import MOST_OWN  # noqa: E402
@@ -67,6 +68,11 @@ def kinds(frames):
 class OverAKeeper(unittest.IsolatedAsyncioTestCase):
     async def asyncSetUp(self):
         self.keeper = Keeper()
+        # No time passes but what a test makes pass.
+        for module in (sessions, viewers):
+            patched = unittest.mock.patch.object(module, "time", types.SimpleNamespace(monotonic=lambda: 0.0))
+            patched.start()
+            self.addCleanup(patched.stop)
         known = types.SimpleNamespace(name="a", keeper=self.keeper)
         page, read = types.SimpleNamespace(viewers=40), types.SimpleNamespace(seconds=60 * 10**9)
         self.news = News()
@@ -89,15 +95,15 @@ class OverAKeeper(unittest.IsolatedAsyncioTestCase):
         """Makes a viewer one who asked nothing for so long."""
         viewer = self.viewers.held[number]
         viewer.asked -= seconds
-        for sessions in self.viewers.sessions.values():
-            if viewer in sessions.own:
-                sessions.own[viewer].asked -= seconds
+        for one in self.viewers.sessions.values():
+            if viewer in one.own:
+                one.own[viewer].asked -= seconds
 
     async def settled(self):
         """Waits until nothing is being closed."""
-        for sessions in self.viewers.sessions.values():
-            while sessions.tasks:
-                await asyncio.wait(sessions.tasks)
+        for one in self.viewers.sessions.values():
+            while one.tasks:
+                await asyncio.wait(one.tasks)
 
     async def test_the_first_have_sessions_and_the_others_are_served_by_one(self):
         await self.come(40)
