@@ -12,7 +12,6 @@ use Rattle.store_commands.specs.Away.{IsTurnedAway}
 use Rattle.chart_program.specs.CommandStatuses.{codes_of, IsBarred}
 use Rattle.chart_program.specs.Ended.{EndsBy}
 use Rattle.chart_program.specs.Ran.{CommandEnds, AreLines, of_done}
-use Rattle.chart_program.proofs.Counts.{told_any}
 use Rattle.chart_program.proofs.CommandCodes.{never, of_lines, lines_codes}
 
 pub both_told : (o b : Option (List ℕ)) (P : List ℕ → Type 0) (Q : Type 0) → IfSome o P → Q → IfSome o (λ input. IfSome b (λ bytes. P input × Q))

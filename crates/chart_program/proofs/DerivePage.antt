@@ -1,9 +1,9 @@
 -- The command `derive` did as its page says.
-use Rattle.std.proofs.Common.{ℕ, ◌+◌, ◌*◌, ◌<◌, List, Option, Some, None, IfSome, ap, arith}
+use Rattle.std.proofs.Common.{ℕ, List, IfSome, ap, arith}
 use Rattle.block_disk.specs.View.{View}
 use Rattle.chart_world.specs.LineLaws.{told_so}
 use Rattle.derive_command.specs.Derived.{DeriveEnds, DerivesToRefused, IsDeriveCause}
-use Rattle.derive_command.specs.Lines.{DrawsToNumber, EndsSo}
+use Rattle.derive_command.specs.Lines.{EndsSo}
 use Rattle.derive_command.proofs.GoodLemmas.{bad_never, refused_never}
 use Rattle.gate_pages.specs.Journal.{page_count}
 use Rattle.run_ends.specs.Statuses.{refused_at, status_of}

@@ -1,6 +1,6 @@
 -- What a command did by how it ended, so by its code and place.
 use Rattle.std.proofs.Common.{◌≡◌, ℕ, zero, suc, ◌-◌, ◌<◌, ◌⊎◌, List, [], ◌∷◌, Option, Some, None, IfSome, refl, ap, arith}
-use Rattle.std.specs.Prelude.{Contains, ◌≢◌, ◌+◌, ◌*◌, ◌^◌}
+use Rattle.std.specs.Prelude.{Contains, ◌≢◌, ◌^◌}
 use Rattle.block_disk.specs.Counts.{HasRisen}
 use Rattle.block_disk.specs.View.{Honest, View}
 use Rattle.gate_pages.specs.Journal.{page_count}

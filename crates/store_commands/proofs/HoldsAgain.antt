@@ -16,8 +16,6 @@ use Rattle.chart_service.specs.State.{State}
 use Rattle.series_load.specs.Sets.{IsAfterSome}
 use Rattle.run_ends.specs.declared.ending.End.{End}
 use Rattle.run_ends.specs.declared.ending.End.TheVariants as ends
-use Rattle.demo_workload.specs.declared.demo_end.DemoEnd.{DemoEnd}
-use Rattle.demo_workload.specs.declared.demo_end.DemoEnd.TheVariants as demo_end
 use Rattle.demo_workload.specs.declared.summaries.Summary.{Summary}
 use Rattle.request_lines.specs.declared.requests.Request.{Request}
 use Rattle.demo_workload.specs.Replying.{Summarizes}
@@ -76,7 +74,7 @@ again_loaded name count old new t answer other s = λ total book holds.
 
 -- ---- a workload
 
-pub again_answered : (requests : List Request) (count : ℕ) (old new : View) (answer : Result Summary DemoEnd) → answer ≢ Err demo_end.DiskFault → Answered requests count old new answer → HoldsAgain count old new
+pub again_answered : (requests : List Request) (count : ℕ) (old new : View) (answer : Result Summary End) → answer ≢ Err ends.DiskFault → Answered requests count old new answer → HoldsAgain count old new
 again_answered requests count old new (Ok summary) other a = again_from count old new (λ start state. Summarizes requests start state summary) a.done
 again_answered requests count old new (Err end) other a = again_from count old new (AnswersFirst requests) (a.stopped (λ is. other (ap Err is)))
 

@@ -5,18 +5,16 @@ use Rattle.block_disk.specs.Streams.{sent_after}
 use Rattle.block_disk.specs.View.{Honest, Image, View, sent_now}
 use Rattle.chart_client.specs.declared.errors.ClientError.TheVariants as client
 use Rattle.chart_frames.specs.declared.frame.Frame.{Frame}
-use Rattle.chart_frames.specs.Frames.{key_number}
 use Rattle.gate_pages.specs.GatePages.{IsReadable}
 use Rattle.gate_pages.specs.Journal.{page_count}
 use Rattle.gate_pages.specs.Pages.{GoesOn}
-use Rattle.om3_coeff.specs.declared.key.Key.{Key}
 use Rattle.request_lines.specs.declared.requests.Request.{Request}
 use Rattle.stored_book.specs.Damage.{IsBadForRequest}
 use Rattle.stored_book.specs.Standing.{StandsForBook, KeepsOldStore, book_pages}
 use Rattle.chart_service.specs.Moments.{Since}
 use Rattle.chart_service.specs.State.{State}
 use Rattle.demo_workload.specs.declared.summaries.Summary.{Summary}
-use Rattle.demo_workload.specs.Ending.{MeetsError}
+use Rattle.demo_workload.specs.Ending.{MeetsKey}
 use Rattle.demo_workload.specs.Replying.{AnswersEach, Summarizes, IsPartWay}
 use Rattle.demo_workload.specs.Summaries.{summary_line}
 use Rattle.demo_workload.specs.Workload.{workload}
@@ -70,9 +68,9 @@ IsDemoEnd SendFault seed rounds old new before now sends sends_now =
 IsDemoEnd (DamagedPage page) seed rounds old new before now sends sends_now =
     IsDamagedLater IsBadForRequest (page_count old.size) new (block_of page) × Never (page_count old.size) old × (now ≡ before)
 IsDemoEnd (Missing number) seed rounds old new before now sends sends_now =
-    Never (page_count old.size) old × ((key : Key) × (number ≡ key_number key) × MeetsError (client.Missing key)) × (now ≡ before)
+    Never (page_count old.size) old × MeetsKey client.Missing number × (now ≡ before)
 IsDemoEnd (BadCoefficient number) seed rounds old new before now sends sends_now =
-    Never (page_count old.size) old × ((key : Key) × (number ≡ key_number key) × MeetsError (client.BadCoefficient key)) × (now ≡ before)
+    Never (page_count old.size) old × MeetsKey client.BadCoefficient number × (now ≡ before)
 IsDemoEnd end seed rounds old new before now sends sends_now = IsUnopenedEnd end old new × (now ≡ before)
 
 -- the same, and what it left
