@@ -1,5 +1,5 @@
 -- What a serving command says to the lines of its input, over the book that its disk holds, and what it leaves.
-use Rattle.std.specs.Prelude.{◌≡◌, ◌≢◌, ℕ, ◌+◌, ◌-◌, ◌^◌, ◌<◌, ◌≤◌, List, [], length, Option, IfSome, Result, Ok, Err, OnOk, IfErr, ⊤, All}
+use Rattle.std.specs.Prelude.{◌≡◌, ◌≢◌, ℕ, ◌+◌, ◌-◌, ◌^◌, ◌<◌, ◌≤◌, List, [], Option, IfSome, Result, Ok, Err, OnOk, IfErr, ⊤, All}
 use Rattle.block_disk.specs.Counts.{HasRisen}
 use Rattle.block_disk.specs.Streams.{sent_after}
 use Rattle.block_disk.specs.View.{Honest, Image, View, sent_now}

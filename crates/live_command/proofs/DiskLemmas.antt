@@ -1,5 +1,5 @@
 -- What is done over the store of a disk, in the words of the disk.
-use Rattle.std.proofs.Common.{◌≡◌, ◌≢◌, ◌∙◌, ℕ, ◌≤◌, ◌^◌, Bool, List, [], length, Option, Some, None, IfSome, ap, refl, sym, subst, arith}
+use Rattle.std.proofs.Common.{◌≡◌, ◌≢◌, ◌∙◌, ℕ, ◌≤◌, Bool, List, [], Option, Some, None, IfSome, ap, refl, sym, subst, arith}
 use Rattle.block_disk.specs.View.{Image, View, Honest, sent_now}
 use Rattle.block_disk.specs.SentLaws.{sent_none}
 use Rattle.chart_service.specs.MomentLaws.{since_both, since_none}

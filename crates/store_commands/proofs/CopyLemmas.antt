@@ -19,7 +19,7 @@ use Rattle.disk_store.specs.Held.{HoldsBook}
 use Rattle.store_commands.specs.Books.{HoldsPages}
 use Rattle.store_commands.specs.Copied.{IsCopied, HoldsRoomFor, EndsFitting, FitsInto}
 use Rattle.store_commands.specs.Exported.{ExportsAll}
-use Rattle.store_commands.specs.Loaded.{IsLoadEnd, LoadEnds, LoadsAll, LoadsToBad, LoadsWithin, RefusesRun}
+use Rattle.store_commands.specs.Loaded.{IsLoadEnd, LoadEnds, LoadsAll, LoadsToBad, RefusesRun}
 use Rattle.store_commands.specs.Traffic.{Traffic}
 use Rattle.run_ends.specs.declared.ending.End.{End}
 use Rattle.run_ends.specs.declared.ending.End.TheVariants.{Done, NoMemory, ReadFault, SendFault, DiskFault, DamagedBlock, DamagedPage}
