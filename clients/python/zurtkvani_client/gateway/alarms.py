@@ -144,10 +144,12 @@ class Alarms:
             self.task = asyncio.create_task(self._work())
 
     async def stop(self):
+        """Ends the looking and the telling. What was told is kept as told."""
         if self.task:
             self.task.cancel()
             await asyncio.wait({self.task})
-        await self.tellers.stop()
+            await self.tellers.stop()
+            await self._keep()
 
     def _read(self):
         """What the file has. One that is damaged is told and set aside, since no value is in it."""
@@ -255,4 +257,4 @@ class Alarms:
 async def listed(gateway, _request):
     """GET /alarms: those that have begun and not ended, and how much isn't told yet."""
     alarms = gateway.alarms
-    return web.Response(text=json.dumps({"alarms": alarms.listed(), "untold": len(alarms.tellers.untold())}) + "\n", content_type="application/json")
+    return web.Response(text=json.dumps({"alarms": alarms.listed(), "untold": alarms.tellers.waiting()}) + "\n", content_type="application/json")

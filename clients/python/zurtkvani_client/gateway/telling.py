@@ -56,6 +56,7 @@ class Teller:
         self.name, self.way, self.send = name, way, send
         self.given, self.counts, self.on_told = given, counts, on_told
         self.events, self.task = collections.deque(), None
+        self.is_told = False  # whether the first one is, and isn't kept as told yet
 
     def add(self, event):
         self.events.append(event)
@@ -70,8 +71,14 @@ class Teller:
     async def _work(self):
         while self.events:
             await self._told(self.events[0])
-            self.events.popleft()
+            self.is_told = True
             await self.on_told()
+            self.events.popleft()
+            self.is_told = False
+
+    def untold(self):
+        """What isn't told. What was told, which isn't kept yet, stands in front."""
+        return list(self.events)[self.is_told :]
 
     async def _told(self, event):
         begun, delay = time.monotonic(), FIRST_DELAY
@@ -122,7 +129,11 @@ class Tellers:
             teller.wake()
 
     def untold(self):
-        return [{"alarm": name, "way": way, "event": event} for (name, way), teller in self.all.items() for event in teller.events]
+        return [{"alarm": name, "way": way, "event": event} for (name, way), teller in self.all.items() for event in teller.untold()]
+
+    def waiting(self):
+        """How much isn't told yet, or isn't kept as told."""
+        return sum(len(teller.events) for teller in self.all.values())
 
     async def stop(self):
         await asyncio.gather(*(teller.stop() for teller in self.all.values()))
