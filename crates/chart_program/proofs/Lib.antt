@@ -34,3 +34,4 @@ pub mod StreamPages
 pub mod RetainEnds
 pub mod LiveEnds
 pub mod DeriveEnds
+pub mod ExactRuns

@@ -23,7 +23,8 @@ use Rattle.live_command.specs.Running.{IsAhead as IsAheadLive}
 
 -- ---- a run is a life
 
-begun_holds : (count total : ℕ) (book : List Series) (begins : Image) (old : View) → BeginsOn begins old → RecoversTo count begins total book → HoldsBook count total book old
+pub begun_holds : (count total : ℕ) (book : List Series) (begins : Image) (old : View) → BeginsOn begins old
+    → RecoversTo count begins total book → HoldsBook count total book old
 begun_holds count total book begins old b recovers =
     let P : Image → Type 0 = λ i. RecoversTo count i total book in
     record { honest = b.honest; images = λ image left. subst P (sym (b.only image left)) recovers }

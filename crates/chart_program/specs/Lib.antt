@@ -28,3 +28,4 @@ pub mod Live
 pub mod Derive
 pub mod Commands
 pub mod Ran
+pub mod Exact

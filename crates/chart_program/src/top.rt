@@ -18,6 +18,7 @@ ghost use Rattle.chart_program.specs.ListSeries.{OfList};
 ghost use Rattle.chart_program.specs.Plot.{OfPlot};
 ghost use Rattle.chart_program.specs.Retain.{OfRetain};
 ghost use Rattle.chart_program.specs.CommandStatuses.{all_codes, codes_of, TakesNone, BarsBy};
+ghost use Rattle.chart_program.specs.Exact.{BeginsRuns, DrawsFronts, MakesRuns, drawing_codes};
 ghost use Rattle.chart_program.specs.Live.{OfLive};
 ghost use Rattle.chart_program.specs.Lives.{IsLived};
 ghost use Rattle.chart_program.specs.Ran.{ForCommand, ForStreams, IsUnread, IsAwayFor, SendsAll, SendsPart, StopsWith, StopsAtDisk, IsBadInput, IsTooMuch, IsCutShort, IsInput, HasGoodInput, IsFree, IsWithin, LeavesDisk, LeavesTold, HoldsNow, IsDamaged, IsUndamaged, IsMade, IsTooSmall, IsThere, IsRefusedWith, IsUnknown, IsRefusedLine, TellsUnnamed, ReadsFew, ReadsByInput, SyncsByInput, Lacks, Misfits, NamesUnopened, DrawsReplies, IsOfReplies, IsCoverOfReplies, CoversBook, BeginStream};
@@ -36,7 +37,9 @@ use run_ends::codes::{
     WRONG_WORDS,
 };
 use run_ends::{End, Status, status_of};
+use served_fronts::laws::servings_are_exact;
 use std::alloc::Global;
+use stored_book::laws::empty_stores_have_no_series;
 
 /// Does the command of the words, with the world's input and output, and gives the world back.
 ///
@@ -98,6 +101,13 @@ pub fn chart<W: World>(alloc: Global, words: &[String], world: W) -> (Status, W)
     // so each run is a life, as the law on lists of lives has it
     ensures life { result.0.code ≢ WRONG_WORDS → IsUnread result.0 world result.1 ⊎ ForCommand words.now W.view W.left W.sent world result.1 IsLived }
 
+    // and one of those of which the law `charts_are_exact` speaks, where it serves lines or leaves the book alone
+    ensures exact { result.0.code ≢ WRONG_WORDS → IsUnread result.0 world result.1 ⊎ ForCommand words.now W.view W.left W.sent world result.1 (MakesRuns result.0.code (W.left result.1)) }
+    // the first one may begin on what `init` made
+    ensures begins { result.0.code ≡ DONE → ByCommand words.now (λ command. BeginsRuns command (W.view world) (W.view result.1)) }
+    // and what `draw` sends is what these laws take it for
+    ensures fronts { Contains drawing_codes result.0.code → ForCommand words.now W.view W.left W.sent world result.1 (DrawsFronts (W.left result.1)) }
+
     // with any status but 6 the disk holds a book again, where it held one
     ensures holds { result.0.code ≢ WRONG_WORDS → result.0.code ≢ DISK_FAULT → (result.1 ≡ world) ⊎ ForCommand words.now W.view W.left W.sent world result.1 HoldsNow }
 
@@ -135,6 +145,8 @@ pub fn chart<W: World>(alloc: Global, words: &[String], world: W) -> (Status, W)
     one_session_draws_the_book();
     replies_are_accepted();
     own_replies_are_accepted();
+    servings_are_exact();
+    empty_stores_have_no_series();
     match command_of(alloc, words) {
         Err(WordsEnd::Wrong { place }) => (status_of(End::WrongWords { word: place }), world),
         Err(WordsEnd::NoMemory) => (status_of(End::NoMemory), world),

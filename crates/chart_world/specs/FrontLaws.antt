@@ -1,11 +1,11 @@
 -- One line more of an input is read.
-use Rattle.std.proofs.Common.{◌≡◌, ◌≢◌, ◌≤◌, ℕ, zero, suc, ◌+◌, ◌⊎◌, Bool, true, false, cond, List, [], ◌∷◌, ◌++◌, length, Option, Some, None, IfSome, refl, ap, subst, inl, inr, sym, ◌∙◌, arith, append_assoc, length-append, length-drop}
+use Rattle.std.proofs.Common.{◌≡◌, ◌≢◌, ◌≤◌, ◌<◌, ℕ, zero, suc, ◌+◌, ◌⊎◌, Bool, true, false, cond, List, [], ◌∷◌, ◌++◌, length, Option, Some, None, IfSome, refl, ap, subst, inl, inr, sym, ◌∙◌, arith, append_assoc, length-append, length-drop}
 use Rattle.std.specs.List.{filter, before_first, after_first, position_or_len}
 use Rattle.std.proofs.lemmas.List.{append-nil}
 use Rattle.chart_world.specs.Fronts.{says, IsWhole, BeginsWith, first_piece, Gives}
 use Rattle.chart_world.specs.LineLaws.{lines_none, lines_first, no_rest, pieces, piece_ends, piece_line, said, told_behind}
 use Rattle.chart_world.specs.Lines.{is_line_feed, text_of, lines}
-use Rattle.chart_world.specs.Reading.{Reading, unread, told_lines, with_first, behind_first, input_length}
+use Rattle.chart_world.specs.Reading.{IsReadUp, Reading, unread, told_lines, with_first, behind_first, input_length}
 
 pub some_left : (rest : List ℕ) (line : Option (List ℕ)) (later : List (Option (List ℕ))) → lines rest ≡ line ∷ later → rest ≢ []
 some_left rest line later first none = let none_first : [] ≡ line ∷ later = sym lines_none ∙ ap lines (sym none) ∙ first in cc
@@ -94,6 +94,30 @@ read_whole (Some input) (Some l) r most none counted few whole =
     let sum : r.taken + length l ≡ 0 + length input = cc in
     omega (arith, sum, counted, few, ap length (no_rest (r.pending ++ l) none), length-append r.pending l)
 
+-- of no bytes both parts are none
+none_behind : (bytes front rest : List ℕ) → bytes ≡ front ++ rest → bytes ≡ [] → (front ≡ []) × (rest ≡ [])
+none_behind bytes [] rest split none = (refl, sym split ∙ none)
+none_behind bytes (b ∷ bs) rest split none = let e : [] ≡ b ∷ (bs ++ rest) = sym none ∙ split in cc
+
+-- an input of which more was taken than so many bytes has more
+pub longer : (o left : Option (List ℕ)) (taken most : ℕ) → most < taken → input_length taken left ≡ input_length 0 o → IfSome o (λ input. most < length input)
+longer None left taken most past whole = tt
+longer (Some input) None taken most past whole = cc
+longer (Some input) (Some l) taken most past whole =
+    let sum : taken + length l ≡ 0 + length input = cc in
+    omega (arith, sum, past)
+
+-- of an input whose lines were all given nothing is left
+pub read_up : (o left left' : Option (List ℕ)) (r r' : Reading) → IfSome (told_lines (unread r left)) (λ all. all ≡ []) → unread r' left' ≡ behind_first (unread r left) → input_length r'.taken left' ≡ input_length 0 o → IsReadUp o left'
+read_up None left left' r r' none rest whole = tt
+read_up (Some input) left None r r' none rest whole = cc
+read_up (Some input) None (Some l') r r' none rest whole = cc
+read_up (Some input) (Some l) (Some l') r r' none rest whole =
+    let nothing : r.pending ++ l ≡ [] = no_rest (r.pending ++ l) none in
+    let here : r'.pending ++ l' ≡ after_first is_line_feed (r.pending ++ l) = cc in
+    let behind : r'.pending ++ l' ≡ [] = here ∙ ap (after_first is_line_feed) nothing in
+    ap Some (none_behind (r'.pending ++ l') r'.pending l' refl behind).1
+
 -- some first of the lines that say something, and the bytes that they stand in
 pub record FrontOf (bytes : List ℕ) (first later : List (Option (List ℕ))) : Type 0 where
   pub front : List ℕ
@@ -101,11 +125,6 @@ pub record FrontOf (bytes : List ℕ) (first later : List (Option (List ℕ))) :
   pub begins : BeginsWith bytes front rest
   pub first_are : filter says (lines front) ≡ first
   pub later_are : filter says (lines rest) ≡ later
-
--- no bytes behind a piece that isn't whole
-none_behind : (bytes front rest : List ℕ) → bytes ≡ front ++ rest → bytes ≡ [] → (front ≡ []) × (rest ≡ [])
-none_behind bytes [] rest split none = (refl, sym split ∙ none)
-none_behind bytes (b ∷ bs) rest split none = let e : [] ≡ b ∷ (bs ++ rest) = sym none ∙ split in cc
 
 -- with the piece of the first line in front
 front_more : (bytes : List ℕ) (line : Option (List ℕ)) (first first' later : List (Option (List ℕ))) → lines bytes ≡ line ∷ lines (after_first is_line_feed bytes) → filter says (line ∷ []) ++ first ≡ first' → FrontOf (after_first is_line_feed bytes) first later → FrontOf bytes first' later

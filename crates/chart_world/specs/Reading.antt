@@ -77,3 +77,7 @@ HasFeed bytes = IfSome bytes (λ told. position_or_len is_line_feed told < lengt
 -- there is no byte, where these are told
 abbrev pub IsNone : Option (List ℕ) → Type 0
 IsNone bytes = IfSome bytes (λ told. told ≡ [])
+
+-- the input, where it is told, was read to its end: nothing is left
+abbrev pub IsReadUp : Option (List ℕ) → Option (List ℕ) → Type 0
+IsReadUp input left = IfSome input (λ bytes. left ≡ Some [])

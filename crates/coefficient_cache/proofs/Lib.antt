@@ -1,4 +1,5 @@
 pub mod Finds
+pub mod Written
 pub mod Moves
 pub mod Keys
 pub mod Steps

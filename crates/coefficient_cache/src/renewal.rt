@@ -32,23 +32,25 @@ pub(crate) fn renew_hits(
     let _length = pairs.len();
     let mut is_new = Vec::with_capacity(alloc, needed.len())?;
     for (key, coef) in needed {
-        is_new.push(!renew_hit(pairs, SeriesKey::new(series, *key), *coef)?)?;
+        is_new.push(!renew_hit(pairs, SeriesKey::new(series, *key), *coef))?;
     }
     Ok(is_new)
 }
 
 // Moves a key that is in the list to its front, with a coefficient, and says whether it is there.
-fn renew_hit(pairs: &mut Pairs, key: SeriesKey, coef: Coef) -> Result<bool, AllocError>
-    ensures there { IfOk result (λ is_there. is_there ≡ has pairs.old.entries key) }
-    ensures entries { OnOk result (pairs.new.entries ≡
-        (if has pairs.old.entries key then put_entries key_eq pairs.old key coef else pairs.old.entries)) }
+fn renew_hit(pairs: &mut Pairs, key: SeriesKey, coef: Coef) -> bool
+    ensures there { result ≡ has pairs.old.entries key }
+    ensures entries { pairs.new.entries ≡
+        (if has pairs.old.entries key then put_entries key_eq pairs.old key coef else pairs.old.entries) }
     ensures capacity { pairs.new.cap ≡ pairs.old.cap }
 {
-    let is_there = pairs.contains(&key);
-    if is_there {
-        pairs.put(key, coef)?;
+    match pairs.get_mut(&key) {
+        Some(held) => {
+            *held = coef;
+            true
+        }
+        None => false,
     }
-    Ok(is_there)
 }
 
 // Puts the needed keys that are new in front, in order. They are told by flags, since a hit may have

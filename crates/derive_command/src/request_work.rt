@@ -69,7 +69,7 @@ impl<P: PageWorld> LineWork<Store<P>, End> for RequestWork {
 
     ghost fit_taken = { λ work old new at takes. (P.take_keeps (shown.pages old) (shown.pages new) takes.pages_are).fit };
 
-    ghost stands_taken = { λ book work old new takes stands. stand_kept (shown.view old) (shown.view new) book (P.take_told (shown.pages old) (shown.pages new) takes.pages_are) (P.take_keeps (shown.pages old) (shown.pages new) takes.pages_are) stands };
+    ghost stands_taken = { λ book work old new takes sent stands. stand_kept (shown.view old) (shown.view new) book (P.take_told (shown.pages old) (shown.pages new) takes.pages_are) (P.take_keeps (shown.pages old) (shown.pages new) takes.pages_are) stands };
 
     ghost lasting_on = { λ book it text behind did lasting. lasting };
 

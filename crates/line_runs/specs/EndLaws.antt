@@ -36,6 +36,23 @@ came_to_end {T} {S} {Whole} cause old new (Err (stop.Work end)) never whole why 
     let C : End → Type 0 = λ e. cause e old new in
     absurd (never (subst C is why))
 
+-- a run that ended by its input's length has what is so of a longer input, where no work stops so
+pub input_long : {T S : Type 0} {Long : Type 0} (cause : End → S → S → Type 0) (old new : S) (answer : Result T (LinesStop End)) → (cause ends.InputTooLong old new → ⊥)
+    → (answer ≡ Err (stop.Fault fault.InputTooLong) → Long) → IfErr answer (cause_of cause old new) → run_end answer ≡ ends.InputTooLong → Long
+input_long {T} {S} {Long} cause old new (Ok done) never long why is = cc
+input_long {T} {S} {Long} cause old new (Err (stop.Fault fault.ReadFault)) never long why is = cc
+input_long {T} {S} {Long} cause old new (Err (stop.Fault fault.InputTooLong)) never long why is = long refl
+input_long {T} {S} {Long} cause old new (Err (stop.Work end)) never long why is =
+    let C : End → Type 0 = λ e. cause e old new in
+    absurd (never (subst C is why))
+
+-- what is so of each cause
+pub causes_so : {T S E : Type 0} (cause cause' : E → S → S → Type 0) (old new : S) (answer : Result T (LinesStop E)) → ((end : E) → cause end old new → cause' end old new)
+    → IfErr answer (cause_of cause old new) → IfErr answer (cause_of cause' old new)
+causes_so {T} {S} {E} cause cause' old new (Ok done) more why = tt
+causes_so {T} {S} {E} cause cause' old new (Err (stop.Fault why)) more is = tt
+causes_so {T} {S} {E} cause cause' old new (Err (stop.Work end)) more is = more end is
+
 -- a take that failed raised the count of such faults
 takes_risen : (old new : View) (reads reads' : ℕ) → old.beside.read_faults ≡ reads → new.beside.read_faults ≡ reads' → CountsFault (Some OfTake) old new → HasRisen reads reads'
 takes_risen old new reads reads' were are counts =

@@ -113,7 +113,7 @@ pub trait LineWork<S: Streams, E> {
     /// A take leaves the state and what a crash leaves.
     ghost fit_taken: { (work : Self) (old new : S) (at : ℕ) → S.takes old new → fit work old at → fit work new at };
 
-    ghost stands_taken: { (state : State) (work : Self) (old new : S) → S.takes old new → stands state work old → stands state work new };
+    ghost stands_taken: { (state : State) (work : Self) (old new : S) → S.takes old new → S.sent new ≡ S.sent old → stands state work old → stands state work new };
 
     /// It stays one of which that is told.
     ghost lasting_on: { (state : State) (it : Given) (text : List ℕ) (behind : State) → does state it text behind → lasting state → lasting behind };

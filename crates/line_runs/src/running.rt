@@ -1,7 +1,7 @@
 //! The lines of an input are given to a work.
-ghost use Rattle.std.specs.Prelude.{◌≡◌, ◌≤◌, ◌^◌, length, IfErr, IfSome, OnOk};
+ghost use Rattle.std.specs.Prelude.{◌≡◌, ◌≤◌, ◌<◌, ◌^◌, length, IfErr, IfSome, OnOk};
 ghost use Rattle.chart_world.specs.Faults.{CountsFault, fault_in};
-ghost use Rattle.chart_world.specs.Reading.{unread_input};
+ghost use Rattle.chart_world.specs.Reading.{IsReadUp, unread_input};
 ghost use Rattle.line_runs.specs.Runs.{cause_of, fault_of, harms_of};
 ghost use Rattle.line_runs.specs.Given.{Pause};
 ghost use Rattle.line_runs.specs.Shown.{LastsOn, LeavesOn, PausesOn, RunsAll, StopsOn};
@@ -9,7 +9,7 @@ ghost use Rattle.line_runs.specs.Shown.{LastsOn, LeavesOn, PausesOn, RunsAll, St
 use crate::line_work::LineWork;
 use crate::lines_stop::LinesStop;
 use block_disk::Streams;
-use chart_world::{LineAnswer, Lines, offset_of};
+use chart_world::{LineAnswer, LineFault, Lines, offset_of};
 
 /// Pauses the work, unless the next line stands ready.
 fn pause_for<S: Streams, E, W: LineWork<S, E>>(
@@ -51,6 +51,8 @@ pub fn run_lines<S: Streams, E, W: LineWork<S, E>>(
     // at each moment a crash leaves what some first lines left, or what the next one leaves on its way
     ensures crash { (state : W.State) → W.stands state work.old from.old → W.lasting state → LastsOn S.left S.sent W.view W.does W.rests W.leaves state from.old from.new }
     // whatever the state is
+    ensures whole { OnOk result (IsReadUp (S.left from.old) (S.left from.new)) }
+    ensures long { result ≡ Err (LinesStop.Fault LineFault.InputTooLong) → IfSome (S.left from.old) (λ input. 2 ^ 32 < length input) }
     ensures fit { OnOk result (W.fit work.new from.new (2 ^ 32)) }
     ensures fit_on_err { IfErr result (λ stop. (harms_of W.harms stop → ⊥) → W.fit work.new from.new (2 ^ 32)) }
     ensures goes { W.goes from.old from.new }

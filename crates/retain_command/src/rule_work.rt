@@ -68,7 +68,7 @@ impl<P: PageWorld> LineWork<Store<P>, End> for RuleWork {
 
     ghost fit_taken = { λ work old new at takes. (P.take_keeps (shown.pages old) (shown.pages new) takes.pages_are).fit };
 
-    ghost stands_taken = { λ held work old new takes stands. (P.take_told (shown.pages old) (shown.pages new) takes.pages_are stands.0, stands_kept held (shown.view old) (shown.view new) (P.take_keeps (shown.pages old) (shown.pages new) takes.pages_are) stands.1) };
+    ghost stands_taken = { λ held work old new takes sent stands. (P.take_told (shown.pages old) (shown.pages new) takes.pages_are stands.0, stands_kept held (shown.view old) (shown.view new) (P.take_keeps (shown.pages old) (shown.pages new) takes.pages_are) stands.1) };
 
     ghost lasting_on = { λ held it text behind did lasting. lasting };
 

@@ -63,7 +63,7 @@ impl<P: PageWorld> LineWork<Store<P>, LoadEnd> for Loader {
 
     ghost fit_taken = { λ loader old new at takes fit. ((P.take_keeps (shown.pages old) (shown.pages new) takes.pages_are).fit fit.0, fit.1, fit.2) };
 
-    ghost stands_taken = { λ held loader old new takes. stands_taken (shown.IsTold old) (shown.IsTold new) (shown.view old) (shown.view new) loader held (P.take_told (shown.pages old) (shown.pages new) takes.pages_are) (P.take_keeps (shown.pages old) (shown.pages new) takes.pages_are) (P.take_passes (shown.pages old) (shown.pages new) takes.pages_are) };
+    ghost stands_taken = { λ held loader old new takes sent. stands_taken (shown.IsTold old) (shown.IsTold new) (shown.view old) (shown.view new) loader held (P.take_told (shown.pages old) (shown.pages new) takes.pages_are) (P.take_keeps (shown.pages old) (shown.pages new) takes.pages_are) (P.take_passes (shown.pages old) (shown.pages new) takes.pages_are) };
 
     ghost lasting_on = { λ held it text behind did lasting. lasting };
 

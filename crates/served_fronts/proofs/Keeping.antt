@@ -24,7 +24,7 @@ use Rattle.served_fronts.proofs.Agreeing.{OneReply, first_frames}
 use Rattle.served_fronts.proofs.Books.{books_follow}
 use Rattle.served_fronts.proofs.Fronts.{high_of}
 
-told_join : (input front rest : List ℕ) → BeginsWith input front rest → told input ≡ told front ++ told rest
+pub told_join : (input front rest : List ℕ) → BeginsWith input front rest → told input ≡ told front ++ told rest
 told_join input front rest begins = (elim begins.whole as (λ _. told input ≡ told front ++ told rest) [
   | inl whole ↦ ap told begins.split ∙ told_behind front rest whole
   | inr none ↦
@@ -41,7 +41,7 @@ counted [] (f ∷ fs) old new replied = absurd replied
 counted (l ∷ ls) [] old new replied = absurd replied
 counted (l ∷ ls) (f ∷ fs) old new replied = ap suc (counted ls fs replied.0 new replied.2)
 
-abbrev texts : List Answer → List (List ℕ)
+abbrev pub texts : List Answer → List (List ℕ)
 texts answers = map (λ answer. answer.bytes) answers
 
 first_text : (x y : List ℕ) (xs ys : List (List ℕ)) → x ∷ xs ≡ y ∷ ys → x ≡ y
@@ -53,7 +53,7 @@ later_texts x y xs ys is = cc
 some_text : (x : List ℕ) (xs : List (List ℕ)) → x ∷ xs ≡ [] → ⊥
 some_text x xs is = cc
 
-all_bytes : (answers : List Answer) (frames : List Frame) → texts answers ≡ map spelling frames
+pub all_bytes : (answers : List Answer) (frames : List Frame) → texts answers ≡ map spelling frames
     → bytes_of answers ≡ flat_map spelling frames
 all_bytes [] [] same = refl
 all_bytes [] (f ∷ fs) same = absurd (some_text (spelling f) (map spelling fs) (sym same))
@@ -62,14 +62,14 @@ all_bytes (a ∷ as') (f ∷ fs) same =
     ap (λ x. x ++ bytes_of as') (first_text a.bytes (spelling f) (texts as') (map spelling fs) same)
     ∙ ap (λ l. spelling f ++ l) (all_bytes as' fs (later_texts a.bytes (spelling f) (texts as') (map spelling fs) same))
 
-as_many : (answers : List Answer) (frames : List Frame) → texts answers ≡ map spelling frames → length answers ≡ length frames
+pub as_many : (answers : List Answer) (frames : List Frame) → texts answers ≡ map spelling frames → length answers ≡ length frames
 as_many [] [] same = refl
 as_many [] (f ∷ fs) same = absurd (some_text (spelling f) (map spelling fs) (sym same))
 as_many (a ∷ as') [] same = absurd (some_text a.bytes (texts as') same)
 as_many (a ∷ as') (f ∷ fs) same = ap suc (as_many as' fs (later_texts a.bytes (spelling f) (texts as') (map spelling fs) same))
 
 -- the answers that stand whole are as many as the frames
-whole_many : (n : ℕ) (answers : List Answer) (frames : List Frame) → texts answers ≡ map spelling frames
+pub whole_many : (n : ℕ) (answers : List Answer) (frames : List Frame) → texts answers ≡ map spelling frames
     → length (whole_in n answers) ≡ length (whole_frames n frames)
 whole_many n [] [] same = refl
 whole_many n [] (f ∷ fs) same = absurd (some_text (spelling f) (map spelling fs) (sym same))
@@ -87,7 +87,7 @@ whole_many n (a ∷ as') (f ∷ fs) same =
     ]))
 
 -- frames of which all bytes are there stand whole
-all_whole : (n : ℕ) (frames more : List Frame) → length (flat_map spelling frames) ≤ n
+pub all_whole : (n : ℕ) (frames more : List Frame) → length (flat_map spelling frames) ≤ n
     → length frames ≤ length (whole_frames n (frames ++ more))
 all_whole n [] more low = omega arith
 all_whole n (f ∷ fs) more low =
@@ -104,17 +104,17 @@ all_whole n (f ∷ fs) more low =
 
 -- some first lines of the input are done, and so many bytes of what answers them were sent: all of the first frames
 pub record Done (image : Image) (total : ℕ) (old : State) (input : List ℕ) (n : ℕ) : Type 0 where
-  first : List Line
-  later : List Line
-  lines : told input ≡ first ++ later
-  acknowledged : List Frame
-  ahead : List Frame
-  new : State
-  replied : RepliesToAll old first (acknowledged ++ ahead) new
-  sent : length (flat_map spelling acknowledged) ≤ n
-  within : n ≤ length (flat_map spelling (acknowledged ++ ahead))
-  few : length ahead ≤ 64
-  stands : StandsForBook image total new.book
+  pub first : List Line
+  pub later : List Line
+  pub lines : told input ≡ first ++ later
+  pub acknowledged : List Frame
+  pub ahead : List Frame
+  pub new : State
+  pub replied : RepliesToAll old first (acknowledged ++ ahead) new
+  pub sent : length (flat_map spelling acknowledged) ≤ n
+  pub within : n ≤ length (flat_map spelling (acknowledged ++ ahead))
+  pub few : length ahead ≤ 64
+  pub stands : StandsForBook image total new.book
 
 keeps : OneReply → LinesAreAnswered → (image : Image) (total : ℕ) (old : State) (input : List ℕ) (n : ℕ) → IsSound old → old.sessions ≡ []
     → old.total ≡ total
@@ -219,6 +219,14 @@ done_ahead image total old input from count a d =
       few = omega (arith, many, next.few);
       stands = d.stands;
     }
+
+-- what a crash left, by how far it is ahead
+pub done_by : (image : Image) (total : ℕ) (old : State) (input : List ℕ) (from count : ℕ)
+    → IsAhead AreSpelled input total old from image count → Done image total old input (count - from)
+done_by image total old input from count a = (elim a.state as (λ _. Done image total old input (count - from)) [
+  | inl is ↦ done_all image total old input from count a is.0 is.1
+  | inr next ↦ done_ahead image total old input from count a next
+])
 
 pub crashes_keep : OneReply → LinesAreAnswered → CrashesKeepTheLines
 crashes_keep one answered image total old input from count sound alone same a =

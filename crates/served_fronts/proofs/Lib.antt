@@ -9,3 +9,5 @@ pub mod Showing
 pub mod Owning
 pub mod Keeping
 pub mod Starts
+pub mod Exact
+pub mod Witness

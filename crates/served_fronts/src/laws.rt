@@ -3,6 +3,9 @@
 ghost use Rattle.served_fronts.specs.Laws.{FrontsDrawTheBook, OwnFrontsDrawTheBook, DrawnFrontsAreTheBook, BooksFollowTheLines};
 ghost use Rattle.served_fronts.specs.Laws.{DrawnOwnFrontsAreTheBook, LinesAreAnswered, CrashesKeepTheLines};
 ghost use Rattle.served_fronts.specs.Laws.{FirstBytesAgree, ChartsHaveOnePicture, StoresBeginSound};
+ghost use Rattle.served_fronts.specs.Headline.{ChartsAreExact};
+ghost use Rattle.served_fronts.specs.Servings.{ServingsAreExact};
+ghost use Rattle.served_fronts.specs.Witness.{StoresCanBe, DisksInMemoryAreHonest};
 
 use chart_frames::laws::{
     length_is_told, more_bytes_mend_nothing, one_frame_a_spelling, spellings_are_good,
@@ -11,6 +14,7 @@ use chart_service::laws::{replies_are_one, sessions_stand_alone};
 use drawn_replies::laws::{
     clients_draw_the_book, one_session_draws_the_book, replies_are_accepted, replies_draw_the_book,
 };
+use stored_book::laws::empty_stores_have_no_series;
 use value_filter::laws::a_text_is_read_in_one_way;
 use view_keys::laws::keys_of_a_view_are_few;
 
@@ -109,4 +113,34 @@ pub fn charts_have_one_picture()
 /// reads give recovers to it.
 pub fn stores_begin_sound()
     ensures { StoresBeginSound }
+{}
+
+/// Over a disk that stands for a book, and whatever runs of `chart` follow, each begun on what a crash at some moment of the one
+/// before left: the bytes that a run of `serve` sent begin those of answers to its lines over the book at its start; the next
+/// book is that one after some first lines, among them all whose answers stand whole in the bytes sent by the crash; and of any
+/// front of the bytes of these answers, cut anywhere, or of those of one session, `draw` sends the pictures of all views that
+/// stand whole in it, each the raster of the points that the view keeps of the book at its line.
+pub fn charts_are_exact()
+    ensures { ChartsAreExact }
+{}
+
+/// What a serving says of its frames and of the moments of its run makes the run exact.
+pub fn servings_are_exact()
+    ensures { ServingsAreExact }
+{
+    first_bytes_agree();
+    lines_have_their_answers();
+}
+
+/// That what is asked of a disk can be met: of each size from 128 blocks on there is one with a store without a series, where
+/// nothing is pending.
+pub fn stores_can_be()
+    ensures { StoresCanBe }
+{
+    empty_stores_have_no_series();
+}
+
+/// What reads give of a disk in memory is always one of the images that a crash now may leave.
+pub fn disks_in_memory_are_honest()
+    ensures { DisksInMemoryAreHonest }
 {}

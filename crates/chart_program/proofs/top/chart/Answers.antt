@@ -4,8 +4,10 @@ use Rattle.chart_world.specs.FaultLaws.{counts_none}
 use Rattle.store_commands.specs.Faulting.{counts_as}
 use Rattle.run_ends.specs.Statuses.{status}
 use Rattle.store_commands.specs.Status.{code_fault}
+use Rattle.chart_program.specs.Exact.{drawing_codes}
 use Rattle.chart_program.proofs.Apart.{apart}
 use Rattle.chart_program.proofs.CommandCodes.{never}
+use Rattle.chart_program.proofs.ExactRuns.{drawings_told, runs_begun, runs_made}
 use Rattle.chart_program.proofs.LivesLemmas.{lives_told}
 use Rattle.chart_program.proofs.Parsing.{told_good, replies_good, covers_book}
 use Rattle.chart_program.proofs.Codes.{told_both}
@@ -463,6 +465,47 @@ returns-in-Err-Wrong-clause-life g c = λ other. absurd (other c.status_of.ensur
 
 pub returns-in-Err-NoMemory-clause-life : goal.returns-in-Err-NoMemory-clause-life
 returns-in-Err-NoMemory-clause-life g c = λ other. inl (c.status_of-in-Err-NoMemory.ensures.code, refl)
+
+pub returns-in-Ok-clause-exact : goal.returns-in-Ok-clause-exact
+returns-in-Ok-clause-exact g c =
+    let view = g.W.Disk.view in
+    let left = g.W.Streams.left in
+    let sent = g.W.Streams.sent in
+    let old = c.args.world in
+    let new = c.status_of_command.result.1 in
+    let e = c.status_of_command.ensures.ends in
+    λ other. inr (of_command _ c.in-Ok.command c.in-Ok.command _ refl c.in-Ok.ensures.command
+    (runs_made c.servings_are_exact.ensures c.in-Ok.command (view old) (view new) (left old) (left new) (sent old) (sent new) _ _ _ e))
+
+pub returns-in-Err-Wrong-clause-exact : goal.returns-in-Err-Wrong-clause-exact
+returns-in-Err-Wrong-clause-exact g c = λ other. absurd (other c.status_of.ensures.code)
+
+pub returns-in-Err-NoMemory-clause-exact : goal.returns-in-Err-NoMemory-clause-exact
+returns-in-Err-NoMemory-clause-exact g c = λ other. inl (c.status_of-in-Err-NoMemory.ensures.code, refl)
+
+pub returns-in-Ok-clause-begins : goal.returns-in-Ok-clause-begins
+returns-in-Ok-clause-begins g c =
+    let e = c.status_of_command.ensures.ends in
+    λ is. of_command _ c.in-Ok.command c.in-Ok.command _ refl c.in-Ok.ensures.command
+    (runs_begun c.empty_stores_have_no_series.ensures.disk c.in-Ok.command _ _ _ _ _ _ _ _ _ e is)
+
+pub returns-in-Err-Wrong-clause-begins : goal.returns-in-Err-Wrong-clause-begins
+returns-in-Err-Wrong-clause-begins g c = λ is. apart (sym c.status_of.ensures.code ∙ is) refl
+
+pub returns-in-Err-NoMemory-clause-begins : goal.returns-in-Err-NoMemory-clause-begins
+returns-in-Err-NoMemory-clause-begins g c = λ is. apart (sym c.status_of-in-Err-NoMemory.ensures.code ∙ is) refl
+
+pub returns-in-Ok-clause-fronts : goal.returns-in-Ok-clause-fronts
+returns-in-Ok-clause-fronts g c =
+    let e = c.status_of_command.ensures.ends in
+    λ is. of_command _ c.in-Ok.command c.in-Ok.command _ refl c.in-Ok.ensures.command
+    (drawings_told c.in-Ok.command _ _ _ _ _ _ _ _ _ e is)
+
+pub returns-in-Err-Wrong-clause-fronts : goal.returns-in-Err-Wrong-clause-fronts
+returns-in-Err-Wrong-clause-fronts g c = λ is. absurd (never drawing_codes _ 2 is refl c.status_of.ensures.code)
+
+pub returns-in-Err-NoMemory-clause-fronts : goal.returns-in-Err-NoMemory-clause-fronts
+returns-in-Err-NoMemory-clause-fronts g c = λ is. absurd (never drawing_codes _ 3 is refl c.status_of-in-Err-NoMemory.ensures.code)
 
 pub returns-in-Ok-clause-unknown : goal.returns-in-Ok-clause-unknown
 returns-in-Ok-clause-unknown g c =

@@ -12,8 +12,8 @@ loop-key-init c = record {
 
 pub loop-key-preserved : goal.loop-key-preserved
 loop-key-preserved c =
-    let was = c.loop-key.invariant in let turn = c.in_ok-renew_hit.ensures in record {
+    let was = c.loop-key.invariant in let turn = c.renew_hit.ensures in record {
       moved = hits-step c.args.series c.args.needed.now c.loop-key.key-index _ c.requires c.loop-key-test.true c.args.pairs.now.entries c.loop-key.pairs c.new.result _ c.len-length.ensures.valid.0 was.moved c.new.ensures turn.entries;
-      flags = c.in_ok-push.ensures.items ∙ flags-step c.args.series c.args.needed.now c.loop-key.key-index _ c.requires c.loop-key-test.true c.args.pairs.now.entries c.loop-key.pairs c.new.result c.in_ok-renew_hit.field-0 c.loop-key.is_new.items was.moved c.new.ensures turn.there was.flags;
+      flags = c.in_ok-push.ensures.items ∙ flags-step c.args.series c.args.needed.now c.loop-key.key-index _ c.requires c.loop-key-test.true c.args.pairs.now.entries c.loop-key.pairs c.new.result c.renew_hit.result c.loop-key.is_new.items was.moved c.new.ensures turn.there was.flags;
       capacity = turn.capacity ∙ was.capacity;
     }

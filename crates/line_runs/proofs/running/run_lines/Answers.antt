@@ -1,14 +1,14 @@
 use Rattle.std.proofs.Common.{◌≡◌, ◌∙◌, ℕ, ◌+◌, ◌≤◌, List, Option, None, Some, Ok, Err, IsTrue, ◌^◌, length, refl, ap, sym, subst, arith}
 use Rattle.chart_world.specs.FaultLaws.{counts_then, counts_kept}
-use Rattle.chart_world.specs.FrontLaws.{gives_by, same_line}
+use Rattle.chart_world.specs.FrontLaws.{gives_by, longer, read_up, same_line}
 use Rattle.chart_world.specs.Fronts.{Gives}
-use Rattle.chart_world.specs.Reading.{IsNone, Reading, input_length}
+use Rattle.chart_world.specs.Reading.{IsNone, IsReadUp, Reading, input_length}
 use Rattle.chart_world.specs.StandsLaws.{stands_beside, stands_first}
 use Rattle.line_runs.specs.CarriedLaws.{carries_on}
 use Rattle.line_runs.specs.Given.{Line, Pause, End}
 use Rattle.line_runs.specs.Runs.{AreAll}
 use Rattle.line_runs.proofs.GoingLemmas.{Going, Stands, Waiting, end_all, end_next, fault_stops, few_left, few_line, few_stands, going_first, going_one, lasts_first, lasts_one, lasts_take, line_at, line_next, one_stops, pause_next, waiting}
-use Rattle.line_runs.proofs.Outcomes.{ok_err}
+use Rattle.line_runs.proofs.Outcomes.{fault_same, ok_err}
 use Rattle.line_runs.proofs.running.run_lines.Goals as goal
 
 later_pieces : (a b c : ℕ) → a ≤ b → b ≤ c → a ≤ c
@@ -117,7 +117,7 @@ returns-in-Err-next-clause-stops g c = λ state stands.
     let next = c.next.ensures in
     let here = waiting w.does w.rests w.leaves state (left first) (λ s. w.stands s c.lines.work mid) (λ s. w.stands s work paused)
     (λ s. w.stands s work taken) r (left mid) (left paused) (pieces first) (pieces mid) (pieces paused) (sent first) (sent mid)
-    (sent paused) (sent taken) pausing.left pausing.pieces (λ s. laws.stands_taken s work paused taken takes) next.sent
+    (sent paused) (sent taken) pausing.left pausing.pieces (λ s. laws.stands_taken s work paused taken takes next.sent) next.sent
     (inv.far state stands) (pauses.does (inv.far state stands).done.behind (inv.far state stands).stands) in
     fault_stops w.does w.rests w.leaves state (left first) (λ s it end before. w.stops s it end work taken before) (λ s. w.stands s work taken) (sent first) (sent taken) r r' (left paused) (left taken) (pieces first)
     (pieces paused) (pieces taken) c.in-Err-next.fault (λ h. inv.stands_in.whole (c.in-Err-next.ensures.not_ended (ap Err h)))
@@ -159,6 +159,14 @@ returns-in-Err-next-clause-crash g c = λ state stands lasting.
     (carries_on w.does w.lasting laws.lasting_on ready.done.given state ready.done.text ready.done.behind ready.done.carries lasting))
     (laws.take_passes paused taken takes) lasts_paused in
     so_far
+
+pub returns-in-Err-next-clause-long : goal.returns-in-Err-next-clause-long
+returns-in-Err-next-clause-long g c = λ same.
+    let left = g.S.Streams.left in
+    let inv = c.lines.invariant in
+    let no = c.in-Err-next.ensures in
+    longer (left c.args.from.now) (left c.next.new.from) c.next.new.self.taken (2 ^ 32) (no.past (ap Err (fault_same c.in-Err-next.fault same)))
+    (no.total ∙ ap (input_length c.lines.lines.taken) c.pause_for.ensures.left ∙ inv.whole)
 
 pub returns-in-Err-next-clause-fit_on_err : goal.returns-in-Err-next-clause-fit_on_err
 returns-in-Err-next-clause-fit_on_err g c =
@@ -208,11 +216,23 @@ returns-in-Ok-finish-clause-done g c = λ state stands.
     let none = e.end (ap Ok c.in-End.is) in
     let here = waiting w.does w.rests w.leaves state (left first) (λ s. w.stands s c.lines.work mid) (λ s. w.stands s work paused)
     (λ s. w.stands s work taken) r (left mid) (left paused) (pieces first) (pieces mid) (pieces paused) (sent first) (sent mid)
-    (sent paused) (sent taken) pausing.left pausing.pieces (λ s. laws.stands_taken s work paused taken takes) next.sent
+    (sent paused) (sent taken) pausing.left pausing.pieces (λ s. laws.stands_taken s work paused taken takes next.sent) next.sent
     (inv.far state stands) (pauses.does (inv.far state stands).done.behind (inv.far state stands).stands) in
     going_one w.does w.rests w.leaves state (left first) (Waiting r (left paused) (pieces first) (pieces paused)) (λ s. w.stands s work taken) (sent first) (sent taken) here (AreAll (pieces first) (pieces c.finish.new.from))
     (λ s. w.stands s c.finish.new.self c.finish.new.from) End (sent c.finish.new.from) (end_all here.done.given r (left paused) (pieces first) (pieces paused) (pieces c.finish.new.from) (later_pieces (pieces paused) (pieces taken) (pieces c.finish.new.from) next.pieces c.finish.ensures.pieces) none)
     (c.in-Ok-finish.ensures.does here.done.behind here.stands)
+
+pub returns-in-Ok-finish-clause-whole : goal.returns-in-Ok-finish-clause-whole
+returns-in-Ok-finish-clause-whole g c =
+    let left = g.S.Streams.left in
+    let first = left c.args.from.now in
+    let taken = left c.next.new.from in
+    let r = c.lines.lines in
+    let e = c.in-Ok-next.ensures in
+    let U : Option (List ℕ) → Type 0 = λ l. IsReadUp first l in
+    subst U (sym c.finish.ensures.left)
+    (read_up first (left c.pause_for.new.from) taken r c.next.new.self (e.end (ap Ok c.in-End.is)) e.rest
+    (e.total ∙ ap (input_length r.taken) c.pause_for.ensures.left ∙ c.lines.invariant.whole))
 
 pub returns-in-Ok-finish-clause-crash : goal.returns-in-Ok-finish-clause-crash
 returns-in-Ok-finish-clause-crash g c = λ state stands lasting.
@@ -240,7 +260,7 @@ returns-in-Ok-finish-clause-crash g c = λ state stands lasting.
     (pauses.does (inv.far state stands).done.behind (inv.far state stands).stands) in
     let here = waiting w.does w.rests w.leaves state (left first) (λ s. w.stands s c.lines.work mid) (λ s. w.stands s work paused)
     (λ s. w.stands s work taken) r (left mid) (left paused) (pieces first) (pieces mid) (pieces paused) (sent first) (sent mid)
-    (sent paused) (sent taken) pausing.left pausing.pieces (λ s. laws.stands_taken s work paused taken takes) next.sent
+    (sent paused) (sent taken) pausing.left pausing.pieces (λ s. laws.stands_taken s work paused taken takes next.sent) next.sent
     (inv.far state stands) (pauses.does (inv.far state stands).done.behind (inv.far state stands).stands) in
     let lasting_far = carries_on w.does w.lasting laws.lasting_on (inv.far state stands).done.given state (inv.far state stands).done.text
     (inv.far state stands).done.behind (inv.far state stands).done.carries lasting in
@@ -286,7 +306,7 @@ returns-in-Err-finish-clause-crash g c = λ state stands lasting.
     (pauses.does (inv.far state stands).done.behind (inv.far state stands).stands) in
     let here = waiting w.does w.rests w.leaves state (left first) (λ s. w.stands s c.lines.work mid) (λ s. w.stands s work paused)
     (λ s. w.stands s work taken) r (left mid) (left paused) (pieces first) (pieces mid) (pieces paused) (sent first) (sent mid)
-    (sent paused) (sent taken) pausing.left pausing.pieces (λ s. laws.stands_taken s work paused taken takes) next.sent
+    (sent paused) (sent taken) pausing.left pausing.pieces (λ s. laws.stands_taken s work paused taken takes next.sent) next.sent
     (inv.far state stands) (pauses.does (inv.far state stands).done.behind (inv.far state stands).stands) in
     let lasting_far = carries_on w.does w.lasting laws.lasting_on (inv.far state stands).done.given state (inv.far state stands).done.text
     (inv.far state stands).done.behind (inv.far state stands).done.carries lasting in
@@ -328,7 +348,7 @@ returns-in-Err-finish-clause-stops g c = λ state stands.
     let none = e.end (ap Ok c.in-End.is) in
     let here = waiting w.does w.rests w.leaves state (left first) (λ s. w.stands s c.lines.work mid) (λ s. w.stands s work paused)
     (λ s. w.stands s work taken) r (left mid) (left paused) (pieces first) (pieces mid) (pieces paused) (sent first) (sent mid)
-    (sent paused) (sent taken) pausing.left pausing.pieces (λ s. laws.stands_taken s work paused taken takes) next.sent
+    (sent paused) (sent taken) pausing.left pausing.pieces (λ s. laws.stands_taken s work paused taken takes next.sent) next.sent
     (inv.far state stands) (pauses.does (inv.far state stands).done.behind (inv.far state stands).stands) in
     one_stops w.does w.rests w.leaves state (left first) (Waiting r (left paused) (pieces first) (pieces paused)) (λ s. w.stands s work taken) (sent first) (sent taken) here
     (λ s it end before. w.stops s it end c.finish.new.self c.finish.new.from before) (λ s. w.stands s c.finish.new.self c.finish.new.from) End
@@ -420,7 +440,7 @@ lines-preserved-in-Ok-long_line g c =
       far = λ state stands.
           let here = waiting w.does w.rests w.leaves state (left first) (λ s. w.stands s c.lines.work mid) (λ s. w.stands s work paused)
           (λ s. w.stands s work taken) r (left mid) (left paused) (pieces first) (pieces mid) (pieces paused) (sent first) (sent mid)
-          (sent paused) (sent taken) pausing.left pausing.pieces (λ s. laws.stands_taken s work paused taken takes) next.sent
+          (sent paused) (sent taken) pausing.left pausing.pieces (λ s. laws.stands_taken s work paused taken takes next.sent) next.sent
           (inv.far state stands) (pauses.does (inv.far state stands).done.behind (inv.far state stands).stands) in
           let G : Option (List ℕ) → Type 0 = λ l. Going w.does w.rests w.leaves state (left first)
           (Stands r' l (pieces first) (pieces c.long_line.new.from)) (λ s. w.stands s c.long_line.new.self c.long_line.new.from) (sent first) (sent c.long_line.new.from) in
@@ -433,7 +453,7 @@ lines-preserved-in-Ok-long_line g c =
       lasts = λ state stands lasting.
           let here = waiting w.does w.rests w.leaves state (left first) (λ s. w.stands s c.lines.work mid) (λ s. w.stands s work paused)
           (λ s. w.stands s work taken) r (left mid) (left paused) (pieces first) (pieces mid) (pieces paused) (sent first) (sent mid)
-          (sent paused) (sent taken) pausing.left pausing.pieces (λ s. laws.stands_taken s work paused taken takes) next.sent
+          (sent paused) (sent taken) pausing.left pausing.pieces (λ s. laws.stands_taken s work paused taken takes next.sent) next.sent
           (inv.far state stands) (pauses.does (inv.far state stands).done.behind (inv.far state stands).stands) in
           let ready = waiting w.does w.rests w.leaves state (left first) (λ s. w.stands s c.lines.work mid) (λ s. w.stands s work paused)
           (λ s. w.stands s work paused) r (left mid) (left paused) (pieces first) (pieces mid) (pieces paused) (sent first) (sent mid)
@@ -485,7 +505,7 @@ returns-in-Err-long_line-clause-stops g c = λ state stands.
     let at_long_is : at_long ≡ r.given = c.offset_of.ensures ∙ e.offset_too_long is_long in
     let here = waiting w.does w.rests w.leaves state (left first) (λ s. w.stands s c.lines.work mid) (λ s. w.stands s work paused)
     (λ s. w.stands s work taken) r (left mid) (left paused) (pieces first) (pieces mid) (pieces paused) (sent first) (sent mid)
-    (sent paused) (sent taken) pausing.left pausing.pieces (λ s. laws.stands_taken s work paused taken takes) next.sent
+    (sent paused) (sent taken) pausing.left pausing.pieces (λ s. laws.stands_taken s work paused taken takes next.sent) next.sent
     (inv.far state stands) (pauses.does (inv.far state stands).done.behind (inv.far state stands).stands) in
     one_stops w.does w.rests w.leaves state (left first) (Waiting r (left paused) (pieces first) (pieces paused)) (λ s. w.stands s work taken) (sent first) (sent taken) here
     (λ s it end before. w.stops s it end c.long_line.new.self c.long_line.new.from before) (λ s. w.stands s c.long_line.new.self c.long_line.new.from) (Line at_long None)
@@ -525,7 +545,7 @@ returns-in-Err-long_line-clause-crash g c = λ state stands lasting.
     (pauses.does (inv.far state stands).done.behind (inv.far state stands).stands) in
     let here = waiting w.does w.rests w.leaves state (left first) (λ s. w.stands s c.lines.work mid) (λ s. w.stands s work paused)
     (λ s. w.stands s work taken) r (left mid) (left paused) (pieces first) (pieces mid) (pieces paused) (sent first) (sent mid)
-    (sent paused) (sent taken) pausing.left pausing.pieces (λ s. laws.stands_taken s work paused taken takes) next.sent
+    (sent paused) (sent taken) pausing.left pausing.pieces (λ s. laws.stands_taken s work paused taken takes next.sent) next.sent
     (inv.far state stands) (pauses.does (inv.far state stands).done.behind (inv.far state stands).stands) in
     let lasting_far = carries_on w.does w.lasting laws.lasting_on (inv.far state stands).done.given state (inv.far state stands).done.text
     (inv.far state stands).done.behind (inv.far state stands).done.carries lasting in
@@ -644,7 +664,7 @@ lines-preserved g c =
       far = λ state stands.
           let here = waiting w.does w.rests w.leaves state (left first) (λ s. w.stands s c.lines.work mid) (λ s. w.stands s work paused)
           (λ s. w.stands s work taken) r (left mid) (left paused) (pieces first) (pieces mid) (pieces paused) (sent first) (sent mid)
-          (sent paused) (sent taken) pausing.left pausing.pieces (λ s. laws.stands_taken s work paused taken takes) next.sent
+          (sent paused) (sent taken) pausing.left pausing.pieces (λ s. laws.stands_taken s work paused taken takes next.sent) next.sent
           (inv.far state stands) (pauses.does (inv.far state stands).done.behind (inv.far state stands).stands) in
           let G : Option (List ℕ) → Type 0 = λ l. Going w.does w.rests w.leaves state (left first)
           (Stands r' l (pieces first) (pieces c.line-in-Line.new.from)) (λ s. w.stands s c.line-in-Line.new.self c.line-in-Line.new.from) (sent first) (sent c.line-in-Line.new.from) in
@@ -657,7 +677,7 @@ lines-preserved g c =
       lasts = λ state stands lasting.
           let here = waiting w.does w.rests w.leaves state (left first) (λ s. w.stands s c.lines.work mid) (λ s. w.stands s work paused)
           (λ s. w.stands s work taken) r (left mid) (left paused) (pieces first) (pieces mid) (pieces paused) (sent first) (sent mid)
-          (sent paused) (sent taken) pausing.left pausing.pieces (λ s. laws.stands_taken s work paused taken takes) next.sent
+          (sent paused) (sent taken) pausing.left pausing.pieces (λ s. laws.stands_taken s work paused taken takes next.sent) next.sent
           (inv.far state stands) (pauses.does (inv.far state stands).done.behind (inv.far state stands).stands) in
           let ready = waiting w.does w.rests w.leaves state (left first) (λ s. w.stands s c.lines.work mid) (λ s. w.stands s work paused)
           (λ s. w.stands s work paused) r (left mid) (left paused) (pieces first) (pieces mid) (pieces paused) (sent first) (sent mid)
@@ -711,7 +731,7 @@ returns-in-Err-line-clause-stops g c = λ state stands.
     let at_line_is : at_line ≡ r.given = c.offset_of-in-Line.ensures ∙ e.offset is_line in
     let here = waiting w.does w.rests w.leaves state (left first) (λ s. w.stands s c.lines.work mid) (λ s. w.stands s work paused)
     (λ s. w.stands s work taken) r (left mid) (left paused) (pieces first) (pieces mid) (pieces paused) (sent first) (sent mid)
-    (sent paused) (sent taken) pausing.left pausing.pieces (λ s. laws.stands_taken s work paused taken takes) next.sent
+    (sent paused) (sent taken) pausing.left pausing.pieces (λ s. laws.stands_taken s work paused taken takes next.sent) next.sent
     (inv.far state stands) (pauses.does (inv.far state stands).done.behind (inv.far state stands).stands) in
     one_stops w.does w.rests w.leaves state (left first) (Waiting r (left paused) (pieces first) (pieces paused)) (λ s. w.stands s work taken) (sent first) (sent taken) here
     (λ s it end before. w.stops s it end c.line-in-Line.new.self c.line-in-Line.new.from before) (λ s. w.stands s c.line-in-Line.new.self c.line-in-Line.new.from) (Line at_line (Some text))
@@ -753,7 +773,7 @@ returns-in-Err-line-clause-crash g c = λ state stands lasting.
     (pauses.does (inv.far state stands).done.behind (inv.far state stands).stands) in
     let here = waiting w.does w.rests w.leaves state (left first) (λ s. w.stands s c.lines.work mid) (λ s. w.stands s work paused)
     (λ s. w.stands s work taken) r (left mid) (left paused) (pieces first) (pieces mid) (pieces paused) (sent first) (sent mid)
-    (sent paused) (sent taken) pausing.left pausing.pieces (λ s. laws.stands_taken s work paused taken takes) next.sent
+    (sent paused) (sent taken) pausing.left pausing.pieces (λ s. laws.stands_taken s work paused taken takes next.sent) next.sent
     (inv.far state stands) (pauses.does (inv.far state stands).done.behind (inv.far state stands).stands) in
     let lasting_far = carries_on w.does w.lasting laws.lasting_on (inv.far state stands).done.given state (inv.far state stands).done.text
     (inv.far state stands).done.behind (inv.far state stands).done.carries lasting in

@@ -1,0 +1,225 @@
+-- What a call makes is a run.
+use Rattle.std.proofs.Common.{◌≡◌, ◌≢◌, ℕ, zero, suc, ◌<◌, ◌≤◌, ◌^◌, inl, inr, List, [], ◌++◌, take}
+use Rattle.std.proofs.Common.{drop, Option, None, Some, IfSome, refl, sym, subst, ap, ◌∙◌, arith}
+use Rattle.std.specs.Prelude.{Contains}
+use Rattle.std.proofs.lemmas.List.{append_cancel_left, append-nil, take-append-drop}
+use Rattle.block_disk.specs.Streams.{sent_after}
+use Rattle.block_disk.specs.View.{Image, View, sent_now}
+use Rattle.chart_world.specs.Fronts.{BeginsWith}
+use Rattle.chart_service.specs.State.{State}
+use Rattle.chart_service.specs.Serving.{told, Answers, AreSpelled, SendsFirst}
+use Rattle.disk_store.specs.Held.{HoldsBook}
+use Rattle.draw_command.specs.declared.draw_end.DrawEnd.TheVariants as draw_end
+use Rattle.empty_store.specs.Stores.{IsNewStore}
+use Rattle.gate_pages.specs.Journal.{page_count}
+use Rattle.program_words.specs.declared.words.Command.{Command}
+use Rattle.program_words.specs.declared.words.Command.TheVariants.{Plot, Load, Demo, Run, Serve, Draw, Init}
+use Rattle.program_words.specs.declared.words.Command.TheVariants.{Check, ListSeries, Export, Retain, Cover, Live, Derive}
+use Rattle.series_book.specs.declared.one_series.Series.{Series}
+use Rattle.served_fronts.specs.Fronts.{Draws}
+use Rattle.served_fronts.specs.Headline.{IsRun}
+use Rattle.served_fronts.specs.Headline.Task.{serves, looks}
+use Rattle.served_fronts.specs.Servings.{SendsFirstBytes, ServingsAreExact}
+use Rattle.served_fronts.proofs.Keeping.{told_join}
+use Rattle.served_fronts.proofs.Starts.{begin_sound}
+use Rattle.stored_book.specs.Standing.{RecoversTo, book_pages}
+use Rattle.store_commands.specs.Books.{begun, LeavesSame}
+use Rattle.chart_program.specs.CommandStatuses.{codes_of}
+use Rattle.chart_program.specs.Exact.{run_of, task_of, drawing_codes, MakesRuns, BeginsRuns, DrawsFronts}
+use Rattle.chart_program.specs.Lives.{BeginsOn, IsLeftAt}
+use Rattle.chart_program.specs.Ran.{CommandEnds}
+use Rattle.chart_program.specs.Served.{Faults}
+use Rattle.chart_program.proofs.CommandsEnd.{small_never}
+use Rattle.chart_program.proofs.LivesLemmas.{begun_holds}
+
+-- ---- what was sent
+
+same_sent : (was sent text : List ℕ) → Some (was ++ sent) ≡ Some (was ++ text) → sent ≡ text
+same_sent was sent text same = let inner : was ++ sent ≡ was ++ text = cc in append_cancel_left was sent text inner
+
+-- some first lines were answered, and a front of their text was sent
+sent_front : (old between : State) (input front rest text sent unsent : List ℕ) (status : ℕ) → BeginsWith input front rest
+    → Answers AreSpelled front text old between → text ≡ sent ++ unsent → status ≢ 0 → SendsFirstBytes old input status sent
+sent_front old between input front rest text sent unsent status begins answers is other = record {
+  lines = told front;
+  later = told rest;
+  split = told_join input front rest begins;
+  frames = answers.frames;
+  new = between;
+  replied = answers.replied;
+  unsent = unsent;
+  bytes = sym answers.texts ∙ is;
+  all = λ done. absurd (other done);
+}
+
+-- their whole text was
+sent_first : (old between : State) (input rest was sent : List ℕ) (status : ℕ)
+    → SendsFirst AreSpelled input rest old between (Some was) (Some (was ++ sent)) → status ≢ 0 → SendsFirstBytes old input status sent
+sent_first old between input rest was sent status first other =
+    sent_front old between input first.front rest first.text sent [] status first.begins first.answers
+    (sym (same_sent was sent first.text first.sent) ∙ sym (append-nil sent)) other
+
+-- all lines were answered
+sent_all : (old new : State) (input text was sent : List ℕ) (status : ℕ) → Answers AreSpelled input text old new
+    → Some (was ++ sent) ≡ sent_after text (Some was) → SendsFirstBytes old input status sent
+sent_all old new input text was sent status answers is = record {
+  lines = told input;
+  later = [];
+  split = sym (append-nil (told input));
+  frames = answers.frames;
+  new = new;
+  replied = answers.replied;
+  unsent = [];
+  bytes = sym answers.texts ∙ sym (same_sent was sent text is) ∙ sym (append-nil sent);
+  all = λ done. (refl, refl);
+}
+
+-- ---- a serving
+
+module _ (old new : View) (input was sent bytes : List ℕ) (faults : Faults) (code place : ℕ)
+    (e : CommandEnds Serve old new (Some input) (Some bytes) (Some was) (Some (was ++ sent)) faults code place) where
+  other_than : (some : ℕ) → code ≡ suc some → code ≢ 0
+  other_than some is zero_is = let never : suc some ≡ 0 = sym is ∙ zero_is in omega (arith, never)
+
+  serve_sent : (total : ℕ) (book : List Series) → HoldsBook (page_count old.size) total book old → Contains (codes_of Serve) code
+      → SendsFirstBytes (begun total book) input code sent
+  serve_sent total book holds (zero, inside, is) =
+      let done = e.done (sym is) total book holds in
+      sent_all (begun total book) done.0 input done.1.text was sent code done.1.answers done.1.sent
+  serve_sent total book holds (suc zero, inside, is) =
+      let some = e.memory (sym is) total book holds in
+      sent_first (begun total book) some.1.between input some.1.rest was sent code some.1.first (other_than 2 (sym is))
+  serve_sent total book holds (suc (suc zero), inside, is) =
+      let taken = e.stopped (sym is) total book holds in
+      sent_first (begun total book) taken.0 input taken.1.rest was sent code taken.1.first (other_than 3 (sym is))
+  serve_sent total book holds (suc (suc (suc zero)), inside, is) =
+      let part = (e.part (sym is) total book holds).1 in
+      sent_front (begun total book) part.between input part.front part.rest part.text sent (drop part.count part.text) code
+      part.begins part.answers (sym (take-append-drop part.count part.text)
+      ∙ ap (λ l. l ++ drop part.count part.text) (sym (same_sent was sent (take part.count part.text) part.sent)))
+      (other_than 4 (sym is))
+  serve_sent total book holds (suc (suc (suc (suc zero))), inside, is) =
+      let lines = e.faulted (sym is) total book holds in
+      sent_first (begun total book) lines.between input lines.rest was sent code lines.first (other_than 5 (sym is))
+  serve_sent total book holds (suc (suc (suc (suc (suc zero)))), inside, is) = absurd (e.undamaged (sym is) total book holds)
+  serve_sent total book holds (suc (suc (suc (suc (suc (suc zero))))), inside, is) =
+      let within = (e.much (sym is)).1 total book holds in
+      sent_first (begun total book) within.0 input within.1.rest was sent code within.1.first (other_than 8 (sym is))
+  serve_sent total book holds (suc (suc (suc (suc (suc (suc (suc zero)))))), inside, is) =
+      absurd (small_never old total book holds (omega (arith, (e.small (sym is)).1)))
+  serve_sent total book holds (suc (suc (suc (suc (suc (suc (suc (suc k))))))), inside, is) = absurd (omega (arith, inside))
+
+  serve_run : ServingsAreExact → (begins after : Image) (at : ℕ) → BeginsOn begins old → IsLeftAt old new at after
+      → IsRun (page_count old.size) (run_of serves begins input sent code old new at after)
+  serve_run law begins after at b is total book recovers =
+      let count = page_count old.size in
+      let holds = begun_holds count total book begins old b recovers in
+      let there = (e.crash total book holds).here at after is.0 is.1.0 is.1.1 in
+      let run = run_of serves begins input sent code old new at after in
+      let exact = law total book run (book_pages count after) (sent_now old) (new.sent_by at)
+      (begin_sound count total begins book recovers) (serve_sent total book holds e.own) there.ahead refl in
+      (exact.0, exact.1, record { readable = there.readable; within = there.within; old = there.old; stands = exact.2 })
+
+-- ---- a look
+
+look_run : (old new : View) (input sent : List ℕ) (code : ℕ) → LeavesSame (page_count old.size) old new → (begins after : Image) (at : ℕ)
+    → BeginsOn begins old → IsLeftAt old new at after → IsRun (page_count old.size) (run_of looks begins input sent code old new at after)
+look_run old new input sent code leaves begins after at b is total book recovers =
+    (book, refl, (leaves total book (begun_holds (page_count old.size) total book begins old b recovers)).here at after is.0 is.1.0 is.1.1)
+
+-- ---- any command
+
+command_run : ServingsAreExact → (command : Command) (old new : View) (input was sent bytes : List ℕ) (faults : Faults) (code place : ℕ)
+    → CommandEnds command old new (Some input) (Some bytes) (Some was) (Some (was ++ sent)) faults code place
+    → (begins after : Image) (at : ℕ) → BeginsOn begins old → IsLeftAt old new at after
+    → IfSome (task_of command) (λ task. IsRun (page_count old.size) (run_of task begins input sent code old new at after))
+command_run law (Plot w h) old new input was sent bytes faults code place e = look_run old new input sent code e.crash
+command_run law Draw old new input was sent bytes faults code place e = look_run old new input sent code e.crash
+command_run law (Cover every) old new input was sent bytes faults code place e = look_run old new input sent code e.crash
+command_run law Init old new input was sent bytes faults code place e = look_run old new input sent code e.crash
+command_run law Check old new input was sent bytes faults code place e = look_run old new input sent code e.crash
+command_run law ListSeries old new input was sent bytes faults code place e = look_run old new input sent code e.crash
+command_run law (Export name window) old new input was sent bytes faults code place e = look_run old new input sent code e.crash
+command_run law Derive old new input was sent bytes faults code place e = look_run old new input sent code e.crash
+command_run law Serve old new input was sent bytes faults code place e = serve_run old new input was sent bytes faults code place e law
+command_run law Run old new input was sent bytes faults code place e = λ begins after at b is. tt
+command_run law (Load name) old new input was sent bytes faults code place e = λ begins after at b is. tt
+command_run law (Demo seed rounds) old new input was sent bytes faults code place e = λ begins after at b is. tt
+command_run law Retain old new input was sent bytes faults code place e = λ begins after at b is. tt
+command_run law Live old new input was sent bytes faults code place e = λ begins after at b is. tt
+
+-- where the input is told
+pub runs_made : ServingsAreExact → (command : Command) (old new : View) (left left' before now : Option (List ℕ)) (faults : Faults)
+    (code place : ℕ) → CommandEnds command old new left left' before now faults code place
+    → IfSome left (λ input. MakesRuns code left' command old new input before now)
+runs_made law command old new None left' before now faults code place e = tt
+runs_made law command old new (Some input) left' before now faults code place e =
+    λ begins after at was sent bytes b is left_is before_is now_is.
+    let L : Option (List ℕ) → Type 0 = λ l. CommandEnds command old new (Some input) l before now faults code place in
+    let B : Option (List ℕ) → Type 0 = λ o. CommandEnds command old new (Some input) (Some bytes) o now faults code place in
+    let N : Option (List ℕ) → Type 0 = λ o. CommandEnds command old new (Some input) (Some bytes) (Some was) o faults code place in
+    command_run law command old new input was sent bytes faults code place (subst N now_is (subst B before_is (subst L left_is e)))
+    begins after at b is
+
+-- ---- the first run
+
+abbrev pub NewStoresRecover : Type 0
+NewStoresRecover = (count : ℕ) (image : Image) → 62 ≤ count → count < 2 ^ 32 → IsNewStore count image → RecoversTo count image count []
+
+pub runs_begun : NewStoresRecover → (command : Command) (old new : View) (left left' before now : Option (List ℕ)) (faults : Faults)
+    (code place : ℕ) → CommandEnds command old new left left' before now faults code place → code ≡ 0 → BeginsRuns command old new
+runs_begun recovers Init old new left left' before now faults code place e is = λ honest.
+    let made = e.made is in (
+      record { honest = e.disk.honest honest; only = made.rests },
+      recovers (page_count old.size) new.image (omega (arith, made.large)) (omega arith) (made.store honest),
+    )
+runs_begun recovers (Plot w h) old new left left' before now faults code place e is = tt
+runs_begun recovers Draw old new left left' before now faults code place e is = tt
+runs_begun recovers (Cover every) old new left left' before now faults code place e is = tt
+runs_begun recovers Check old new left left' before now faults code place e is = tt
+runs_begun recovers ListSeries old new left left' before now faults code place e is = tt
+runs_begun recovers (Export name window) old new left left' before now faults code place e is = tt
+runs_begun recovers Derive old new left left' before now faults code place e is = tt
+runs_begun recovers Serve old new left left' before now faults code place e is = tt
+runs_begun recovers Run old new left left' before now faults code place e is = tt
+runs_begun recovers (Load name) old new left left' before now faults code place e is = tt
+runs_begun recovers (Demo seed rounds) old new left left' before now faults code place e is = tt
+runs_begun recovers Retain old new left left' before now faults code place e is = tt
+runs_begun recovers Live old new left left' before now faults code place e is = tt
+
+-- ---- drawings
+
+drawing : (old new : View) (input : List ℕ) (left' before now : Option (List ℕ)) (faults : Faults) (code place : ℕ)
+    → CommandEnds Draw old new (Some input) left' before now faults code place → Contains drawing_codes code → Draws input left' before now
+drawing old new input left' before now faults code place e (zero, inside, is) = inl (e.done (sym is))
+drawing old new input left' before now faults code place e (suc zero, inside, is) = inr (draw_end.BadFrame place, tt, e.bad (sym is))
+drawing old new input left' before now faults code place e (suc (suc zero), inside, is) =
+    inr (draw_end.InputTooLong, tt, (e.much (sym is)).1)
+drawing old new input left' before now faults code place e (suc (suc (suc zero)), inside, is) =
+    let lacks = e.missing (sym is) in inr (draw_end.Missing lacks.0, tt, lacks.2)
+drawing old new input left' before now faults code place e (suc (suc (suc (suc zero))), inside, is) =
+    let misfits = e.misfit (sym is) in inr (draw_end.BadCoefficient misfits.0, tt, misfits.2)
+drawing old new input left' before now faults code place e (suc (suc (suc (suc (suc zero)))), inside, is) =
+    inr (draw_end.UnknownSession place, tt, e.unopened (sym is))
+drawing old new input left' before now faults code place e (suc (suc (suc (suc (suc (suc k))))), inside, is) =
+    absurd (omega (arith, inside))
+
+pub drawings_told : (command : Command) (old new : View) (left left' before now : Option (List ℕ)) (faults : Faults) (code place : ℕ)
+    → CommandEnds command old new left left' before now faults code place → Contains drawing_codes code
+    → IfSome left (λ input. DrawsFronts left' command old new input before now)
+drawings_told command old new None left' before now faults code place e is = tt
+drawings_told Draw old new (Some input) left' before now faults code place e is =
+    drawing old new input left' before now faults code place e is
+drawings_told Init old new (Some input) left' before now faults code place e is = tt
+drawings_told (Plot w h) old new (Some input) left' before now faults code place e is = tt
+drawings_told (Cover every) old new (Some input) left' before now faults code place e is = tt
+drawings_told Check old new (Some input) left' before now faults code place e is = tt
+drawings_told ListSeries old new (Some input) left' before now faults code place e is = tt
+drawings_told (Export name window) old new (Some input) left' before now faults code place e is = tt
+drawings_told Derive old new (Some input) left' before now faults code place e is = tt
+drawings_told Serve old new (Some input) left' before now faults code place e is = tt
+drawings_told Run old new (Some input) left' before now faults code place e is = tt
+drawings_told (Load name) old new (Some input) left' before now faults code place e is = tt
+drawings_told (Demo seed rounds) old new (Some input) left' before now faults code place e is = tt
+drawings_told Retain old new (Some input) left' before now faults code place e is = tt
+drawings_told Live old new (Some input) left' before now faults code place e is = tt

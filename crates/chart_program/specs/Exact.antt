@@ -1,0 +1,58 @@
+-- What a call of the program is in lists of runs: which run it makes, what it leaves for the first one, and what it draws.
+use Rattle.std.specs.Prelude.{⊤, ◌≡◌, ℕ, ◌-◌, ◌++◌, List, [], ◌∷◌, Option, None, Some, IfSome}
+use Rattle.block_disk.specs.View.{Image, View, Honest, sent_now}
+use Rattle.gate_pages.specs.Journal.{page_count}
+use Rattle.program_words.specs.declared.words.Command.{Command}
+use Rattle.program_words.specs.declared.words.Command.TheVariants.{Plot, Serve, Draw, Init, Check, ListSeries, Export, Cover, Derive}
+use Rattle.served_fronts.specs.Fronts.{Draws}
+use Rattle.served_fronts.specs.Headline.{Task, Run, IsRun}
+use Rattle.served_fronts.specs.Headline.Task.{serves, looks}
+use Rattle.stored_book.specs.Standing.{RecoversTo}
+use Rattle.chart_program.specs.Lives.{BeginsOn, IsLeftAt}
+
+-- What a command is for. A store that is there is left alone by `init`; of the commands that aren't named the lists don't speak.
+abbrev pub task_of : Command → Option Task
+task_of Serve = Some serves
+task_of Check = Some looks
+task_of ListSeries = Some looks
+task_of (Export name window) = Some looks
+task_of Derive = Some looks
+task_of (Plot w h) = Some looks
+task_of Draw = Some looks
+task_of (Cover every) = Some looks
+task_of Init = Some looks
+task_of command = None
+
+-- the run of a call from one disk to another that sent these bytes, and a crash at a moment of it
+abbrev pub run_of : Task → Image → List ℕ → List ℕ → ℕ → View → View → ℕ → Image → Run
+run_of task begins input sent status old new at after = record {
+  task = task;
+  begins = begins;
+  input = input;
+  sent = sent;
+  status = status;
+  by_then = new.sent_by at - sent_now old;
+  left = after;
+}
+
+-- Where the disk has an image with nothing pending, and the world tells its bytes: whatever moment a crash comes at, and whatever
+-- it leaves, this is a run.
+abbrev pub MakesRuns : ℕ → Option (List ℕ) → Command → View → View → List ℕ → Option (List ℕ) → Option (List ℕ) → Type 0
+MakesRuns status left command old new input before now =
+    (begins after : Image) (at : ℕ) (was sent bytes : List ℕ) → BeginsOn begins old → IsLeftAt old new at after
+    → left ≡ Some bytes → before ≡ Some was → now ≡ Some (was ++ sent)
+    → IfSome (task_of command) (λ task. IsRun (page_count old.size) (run_of task begins input sent status old new at after))
+
+-- what `init` made stands for the book without a series, with nothing pending
+abbrev pub BeginsRuns : Command → View → View → Type 0
+BeginsRuns Init old new = Honest old → BeginsOn new.image new × RecoversTo (page_count old.size) new.image (page_count old.size) []
+BeginsRuns command old new = ⊤
+
+-- the codes of a drawing that had memory, where no stream failed
+abbrev pub drawing_codes : List ℕ
+drawing_codes = 0 ∷ 8 ∷ 9 ∷ 10 ∷ 11 ∷ 15 ∷ []
+
+-- what `draw` sends is what the laws on fronts take it for
+abbrev pub DrawsFronts : Option (List ℕ) → Command → View → View → List ℕ → Option (List ℕ) → Option (List ℕ) → Type 0
+DrawsFronts left Draw old new input before now = Draws input left before now
+DrawsFronts left command old new input before now = ⊤

@@ -1,0 +1,90 @@
+-- What is promised of served charts: over any list of runs, each begun on what a crash of the one before left, no acknowledged
+-- edit is lost, and of any front of the bytes that were sent `draw` sends the pictures of the book. Books.antt has the book after
+-- lines, Answers.antt what is said to lines and what is drawn of it; this is the rest, in the order in which it is needed.
+use Rattle.std.specs.Prelude.{⊤, ◌≡◌, ℕ, ◌+◌, ◌≤◌, List, [], ◌∷◌, ◌++◌, length, take}
+use Rattle.series_book.specs.declared.one_series.Series.{Series}
+use Rattle.block_disk.specs.View.{Image}
+use Rattle.stored_book.specs.Standing.{RecoversTo}
+use Rattle.chart_service.specs.Serving.{told}
+use Rattle.served_fronts.specs.Books.{Line, after_lines}
+use Rattle.served_fronts.specs.Answers.{Answer, AreAnswers, FrontsAreDrawn, bytes_of, whole_in}
+
+-- ---- runs
+
+-- what a run is for: it serves lines, or it leaves the book alone
+pub data Task : Type 0 where
+  serves : Task
+  looks : Task
+
+-- A run over a disk, and a crash at a moment of it or at its end: what stood on the disk at first, the input, all bytes that the
+-- run sent, its status, how many bytes were sent by the crash, and what the crash left.
+pub record Run : Type 0 where
+  pub task : Task
+  pub begins : Image
+  pub input : List ℕ
+  pub sent : List ℕ
+  pub status : ℕ
+  pub by_then : ℕ
+  pub left : Image
+
+-- ---- what is promised of a run
+
+-- These are answers to some first lines of the input, over a book and with no session open. Of each front of their bytes, or of
+-- those of one session, `draw` sends the pictures of all views that stand whole in it.
+pub record AnswersFirst (total : ℕ) (book : List Series) (input : List ℕ) (lines : List Line) (answers : List Answer) : Type 0 where
+  pub later : List Line
+  pub split : told input ≡ lines ++ later
+  pub fit : AreAnswers total book [] lines answers
+  pub drawn : FrontsAreDrawn answers
+
+-- The bytes that were sent begin those of such answers; with status 0 they are those of the answers to all lines.
+pub record Says (total : ℕ) (book : List Series) (run : Run) : Type 0 where
+  pub lines : List Line
+  pub answers : List Answer
+  pub first : AnswersFirst total book run.input lines answers
+  pub unsent : List ℕ
+  pub bytes : bytes_of answers ≡ run.sent ++ unsent
+  pub all : run.status ≡ 0 → (lines ≡ told run.input) × (unsent ≡ [])
+
+-- The crash left the book after some first lines. All bytes that were sent by then are of the answers to these: so each edit is in
+-- the book whose answer stands whole in them. At most 64 of these lines have answers that don't.
+pub record LeavesBook (total : ℕ) (book : List Series) (run : Run) (next : List Series) : Type 0 where
+  pub lines : List Line
+  pub answers : List Answer
+  pub first : AnswersFirst total book run.input lines answers
+  pub unsent : List ℕ
+  pub bytes : bytes_of answers ≡ take run.by_then run.sent ++ unsent
+  pub few : length answers ≤ length (whole_in run.by_then answers) + 64
+  pub next_is : next ≡ after_lines total book lines
+
+-- from one book to the next a run was exact
+abbrev pub IsExact : Task → ℕ → List Series → Run → List Series → Type 0
+IsExact serves total book run next = Says total book run × LeavesBook total book run next
+IsExact looks total book run next = next ≡ book
+
+-- ---- what a run of the program is, as the clause `exact` of its call has it
+
+-- Where the disk stood for a book, this is so, and what the crash left stands for the next one.
+abbrev pub IsRun : ℕ → Run → Type 0
+IsRun count run =
+    (total : ℕ) (book : List Series) → RecoversTo count run.begins total book
+    → (next : List Series) × IsExact run.task total book run next × RecoversTo count run.left total next
+
+-- ---- many runs
+
+-- each run begins on what a crash of the one before left
+abbrev pub AreRuns : ℕ → Image → List Run → Type 0
+AreRuns count image [] = ⊤
+AreRuns count image (run ∷ later) = (run.begins ≡ image) × IsRun count run × AreRuns count run.left later
+
+-- from book to book each run was exact
+abbrev pub AreExact : ℕ → List Series → List Run → Type 0
+AreExact total book [] = ⊤
+AreExact total book (run ∷ later) = (next : List Series) × IsExact run.task total book run next × AreExact total next later
+
+-- Over a disk that stands for a book, whatever runs follow and wherever they crash, each of them is exact from the book that the
+-- one before left.
+abbrev pub ChartsAreExact : Type 0
+ChartsAreExact =
+    (count total : ℕ) (book : List Series) (image : Image) (list : List Run)
+    → RecoversTo count image total book → AreRuns count image list → AreExact total book list
