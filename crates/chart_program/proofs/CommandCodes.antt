@@ -88,20 +88,3 @@ lines_codes code (suc (suc (suc (suc (suc (suc (suc (suc zero))))))), inside, is
 lines_codes code (suc (suc (suc (suc (suc (suc (suc (suc (suc zero)))))))), inside, is) = (10, omega arith, is)
 lines_codes code (suc (suc (suc (suc (suc (suc (suc (suc (suc (suc zero))))))))), inside, is) = (13, omega arith, is)
 lines_codes code (suc (suc (suc (suc (suc (suc (suc (suc (suc (suc (suc k)))))))))), inside, is) = absurd (omega (arith, inside))
-
--- codes of the command `load` are codes of a command
-abbrev pub of_load : List ℕ
-of_load = 0 ∷ 3 ∷ 4 ∷ 5 ∷ 6 ∷ 7 ∷ 8 ∷ 9 ∷ 12 ∷ 14 ∷ []
-
-pub load_codes : (code : ℕ) → Contains of_load code → Contains (0 ∷ 3 ∷ 4 ∷ 5 ∷ 6 ∷ 7 ∷ 8 ∷ 9 ∷ 10 ∷ 11 ∷ 12 ∷ 13 ∷ 14 ∷ 15 ∷ 16 ∷ 17 ∷ []) code
-load_codes code (zero, inside, is) = (0, omega arith, is)
-load_codes code (suc zero, inside, is) = (1, omega arith, is)
-load_codes code (suc (suc zero), inside, is) = (2, omega arith, is)
-load_codes code (suc (suc (suc zero)), inside, is) = (3, omega arith, is)
-load_codes code (suc (suc (suc (suc zero))), inside, is) = (4, omega arith, is)
-load_codes code (suc (suc (suc (suc (suc zero)))), inside, is) = (5, omega arith, is)
-load_codes code (suc (suc (suc (suc (suc (suc zero))))), inside, is) = (6, omega arith, is)
-load_codes code (suc (suc (suc (suc (suc (suc (suc zero)))))), inside, is) = (7, omega arith, is)
-load_codes code (suc (suc (suc (suc (suc (suc (suc (suc zero))))))), inside, is) = (10, omega arith, is)
-load_codes code (suc (suc (suc (suc (suc (suc (suc (suc (suc zero)))))))), inside, is) = (12, omega arith, is)
-load_codes code (suc (suc (suc (suc (suc (suc (suc (suc (suc (suc k))))))))), inside, is) = absurd (omega (arith, inside))

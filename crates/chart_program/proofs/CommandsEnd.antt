@@ -1,24 +1,20 @@
--- Each command ends as its own clauses say.
+-- The commands that serve lines end as their own clauses say.
 use Rattle.std.proofs.Common.{◌≡◌, ℕ, ◌<◌, ◌≤◌, zero, suc, List, Option, Some, None, IfSome, refl, sym, arith}
-use Rattle.std.specs.Prelude.{Contains, ◌≢◌}
+use Rattle.std.specs.Prelude.{Contains}
 use Rattle.block_disk.specs.View.{View}
 use Rattle.disk_store.specs.Held.{HoldsBook}
 use Rattle.disk_store.proofs.Opened.{is_large}
 use Rattle.series_book.specs.declared.one_series.Series.{Series}
 use Rattle.gate_pages.specs.Journal.{page_count}
-use Rattle.store_commands.specs.Loaded.{LoadEnds, RefusesSet, Unnamed}
-use Rattle.program_words.specs.declared.words.Command.TheVariants.{Load, Run, Serve}
+use Rattle.program_words.specs.declared.words.Command.TheVariants.{Run, Serve}
 use Rattle.chart_program.specs.Served.{Says, Faults, Spelled, AreTexts}
 use Rattle.store_commands.specs.Away.{IsTurnedAway}
-use Rattle.store_commands.specs.Books.{HoldsAgain}
 use Rattle.chart_program.specs.CommandStatuses.{codes_of, IsBarred}
 use Rattle.chart_program.specs.Ended.{EndsBy}
-use Rattle.chart_program.specs.Ran.{CommandEnds, AreLines, AreReadings, IsRefused, of_done}
-use Rattle.chart_program.proofs.Codes.{told_all, told_both}
-use Rattle.chart_program.proofs.Counts.{told_any}
-use Rattle.chart_program.proofs.CommandCodes.{never, of_lines, lines_codes, of_load, load_codes}
+use Rattle.chart_program.specs.Ran.{CommandEnds, AreLines, of_done}
+use Rattle.chart_program.proofs.CommandCodes.{never, of_lines, lines_codes}
 
-both_told : (o b : Option (List ℕ)) (P : List ℕ → Type 0) (Q : Type 0) → IfSome o P → Q → IfSome o (λ input. IfSome b (λ bytes. P input × Q))
+pub both_told : (o b : Option (List ℕ)) (P : List ℕ → Type 0) (Q : Type 0) → IfSome o P → Q → IfSome o (λ input. IfSome b (λ bytes. P input × Q))
 both_told None b P Q first second = tt
 both_told (Some input) None P Q first second = tt
 both_told (Some input) (Some bytes) P Q first second = (first, second)
@@ -47,27 +43,9 @@ lines_completed IsText CanShow old new input left' before now faults code place 
 lines_completed IsText CanShow old new input left' before now faults code place r e (suc (suc (suc (suc (suc (suc (suc (suc (suc (suc zero))))))))), inside, is) = absurd (e.opened (sym is))
 lines_completed IsText CanShow old new input left' before now faults code place r e (suc (suc (suc (suc (suc (suc (suc (suc (suc (suc (suc k)))))))))), inside, is) = absurd (omega (arith, inside))
 
--- with a good input it is done, a stream fails, or there is no memory
-load_completed : (name : List ℕ) (old new : View) (input : List ℕ) (left' before now : Option (List ℕ)) (faults : Faults) (code place : ℕ) → AreReadings name old new input → LoadEnds name old new (Some input) left' before now faults.reads faults.reads_now faults.sends faults.sends_now code place → Contains of_load code → Contains of_done code
-load_completed name old new input left' before now faults code place r e (zero, inside, is) = (0, omega arith, is)
-load_completed name old new input left' before now faults code place r e (suc zero, inside, is) = (1, omega arith, is)
-load_completed name old new input left' before now faults code place r e (suc (suc zero), inside, is) = (2, omega arith, is)
-load_completed name old new input left' before now faults code place r e (suc (suc (suc zero)), inside, is) = (3, omega arith, is)
-load_completed name old new input left' before now faults code place r e (suc (suc (suc (suc zero))), inside, is) = absurd (r.whole (e.fault (sym is)))
-load_completed name old new input left' before now faults code place r e (suc (suc (suc (suc (suc zero)))), inside, is) = absurd (e.undamaged (sym is) r.total r.book r.holds)
-load_completed name old new input left' before now faults code place r e (suc (suc (suc (suc (suc (suc zero))))), inside, is) = absurd (r.none_bad place _ (e.bad (sym is) r.total r.book r.holds r.series r.named).on.so)
-load_completed name old new input left' before now faults code place r e (suc (suc (suc (suc (suc (suc (suc zero)))))), inside, is) = absurd (omega (arith, r.short, (e.past (sym is) r.total r.book r.holds r.series r.named).on.so.past))
-load_completed name old new input left' before now faults code place r e (suc (suc (suc (suc (suc (suc (suc (suc zero))))))), inside, is) = absurd (small_never old r.total r.book r.holds (omega (arith, (e.small (sym is)).1)))
-load_completed name old new input left' before now faults code place r e (suc (suc (suc (suc (suc (suc (suc (suc (suc zero)))))))), inside, is) = let refused = e.refused (sym is) r.total r.book r.holds r.series r.named in absurd (r.none_refused refused.0 refused.1 _ refused.3.on.so)
-load_completed name old new input left' before now faults code place r e (suc (suc (suc (suc (suc (suc (suc (suc (suc (suc k))))))))), inside, is) = absurd (omega (arith, inside))
-
 lines_complete : (IsText : Says) (CanShow : Type 0) (old new : View) (left left' before now : Option (List ℕ)) (faults : Faults) (code place : ℕ) → EndsBy IsText CanShow old new left left' before now faults code place → IfSome left (λ input. AreLines old new input → Contains of_done code)
 lines_complete IsText CanShow old new None left' before now faults code place e = tt
 lines_complete IsText CanShow old new (Some input) left' before now faults code place e = λ good. lines_completed IsText CanShow old new input left' before now faults code place good e e.codes
-
-load_complete : (name : List ℕ) (old new : View) (left left' before now : Option (List ℕ)) (faults : Faults) (code place : ℕ) → LoadEnds name old new left left' before now faults.reads faults.reads_now faults.sends faults.sends_now code place → IfSome left (λ input. AreReadings name old new input → Contains of_done code)
-load_complete name old new None left' before now faults code place e = tt
-load_complete name old new (Some input) left' before now faults code place e = λ good. load_completed name old new input left' before now faults code place good e e.codes
 
 pub run_ends : (old new : View) (left left' before now : Option (List ℕ)) (faults : Faults) (code place : ℕ) → EndsBy AreTexts (Unit {0}) old new left left' before now faults code place → Contains (codes_of Run) code → (old.size < 128 → IsTurnedAway left left' before now code) → (code ≡ 7 → IsBarred (page_count old.size) new left left' before now place) → CommandEnds Run old new left left' before now faults code place
 run_ends old new left left' before now faults code place e own away bars = record {
@@ -155,56 +133,6 @@ serve_ends old new left left' before now faults code place e own away bars = rec
   disk = e.goes_on;
   made = λ is. tt;
   complete = lines_complete Spelled ⊥ old new left left' before now faults code place e;
-  drawn = λ command. cc;
-  ready = λ command. cc;
-}
-
-refused_told : (name : List ℕ) (old new : View) (left left' : Option (List ℕ)) (place : ℕ) → IfSome left (λ input. RefusesSet name (page_count old.size) old new input place)
-    → Unnamed (page_count old.size) old name (λ total book. (place ≡ 8) × (left' ≡ left) × HoldsBook (page_count old.size) total book new) → IfSome left (λ input. IsRefused (Load name) old new input left' place)
-refused_told name old new None left' place refused unknown = tt
-refused_told name old new (Some input) left' place refused unknown = (refused, unknown)
-
-pub load_ends : (name : List ℕ) (old new : View) (left left' before now : Option (List ℕ)) (faults : Faults) (code place : ℕ) → LoadEnds name old new left left' before now faults.reads faults.reads_now faults.sends faults.sends_now code place → (old.size < 128 → IsTurnedAway left left' before now code) → (code ≢ 6 → HoldsAgain (page_count old.size) old new) → CommandEnds (Load name) old new left left' before now faults code place
-load_ends name old new left left' before now faults code place e away holds = record {
-  codes = load_codes code e.codes;
-  own = e.codes;
-  away = λ over. away;
-  untaken = λ none. absurd none;
-  bars = λ is. e.nothing (omega (arith, is)) (omega (arith, is));
-  reads = tt;
-  reads_lines = told_any left;
-  syncs = told_any left;
-  unsent = λ is. e.nothing (omega (arith, is)) (omega (arith, is));
-  read = e.read;
-  stopped = e.stopped;
-  send = e.send;
-  bad = e.bad;
-  much = λ is. told_both left _ _ (e.much is) (e.past is);
-  missing = λ is. absurd (never of_load code 10 e.codes refl is);
-  misfit = λ is. absurd (never of_load code 11 e.codes refl is);
-  unopened = λ is. absurd (never of_load code 15 e.codes refl is);
-  memory = e.memory;
-  within = e.within;
-  fault = e.fault;
-  faulted = λ is. told_all left _ (e.nothing (omega (arith, is)) (omega (arith, is)));
-  damaged = e.damaged;
-  undamaged = λ is. told_all left _ (e.undamaged is);
-  small = e.small;
-  there = λ is. absurd (never of_load code 13 e.codes refl is);
-  refused = λ is. refused_told name old new left left' place (e.refused is) (e.unknown is);
-  unnamed = λ total book holds none. (e.unnamed total book holds none).codes;
-  unknown = λ is. absurd (never of_load code 17 e.codes refl is);
-  refused_line = λ is. absurd (never of_load code 16 e.codes refl is);
-  zero_place = e.zero_place;
-  done = e.done;
-  part = e.part;
-  nothing = λ some unsent quiet. e.nothing some unsent;
-  pictures = λ is command. cc;
-  holds = λ other. told_all left _ (holds other);
-  crash = both_told left before _ _ e.crash (λ total book holds none. (e.unnamed total book holds none).moments);
-  disk = e.goes_on;
-  made = λ is. tt;
-  complete = load_complete name old new left left' before now faults code place e;
   drawn = λ command. cc;
   ready = λ command. cc;
 }

@@ -1,9 +1,9 @@
 -- The command `derive` ends as its own clauses say.
-use Rattle.std.proofs.Common.{ℕ, ◌+◌, ◌*◌, ◌<◌, List, Option, Some, None, IfSome, refl, ap, arith, inl, inr}
+use Rattle.std.proofs.Common.{ℕ, ◌<◌, List, Option, Some, None, IfSome, refl, ap, arith, inl, inr}
 use Rattle.std.specs.Prelude.{Contains}
 use Rattle.block_disk.specs.View.{View}
 use Rattle.gate_pages.specs.Journal.{page_count}
-use Rattle.run_ends.specs.Statuses.{code_of, place_of}
+use Rattle.run_ends.specs.Statuses.{code_of, place_of, refused_at}
 use Rattle.run_ends.specs.declared.ending.End.{End}
 use Rattle.run_ends.specs.declared.ending.End.TheVariants.{Done, NoMemory, ReadFault, SendFault, DiskFault, DamagedBlock, DamagedPage}
 use Rattle.run_ends.specs.declared.ending.End.TheVariants.{BadInput, InputTooLong, TooSmall, RefusedLine}
@@ -12,36 +12,15 @@ use Rattle.store_commands.specs.Books.{OfBook}
 use Rattle.store_commands.specs.Traffic.{Traffic}
 use Rattle.derive_command.specs.Derived.{DeriveEnds, DerivesTaken, DerivesToRefused, IsDeriveCause}
 use Rattle.derive_command.specs.Lines.{DrawsToNumber, EndsSo}
-use Rattle.derive_command.proofs.GoodLemmas.{bad_never, refused_never}
 use Rattle.program_words.specs.declared.words.Command.TheVariants.{Derive}
 use Rattle.chart_program.specs.CommandStatuses.{codes_of}
 use Rattle.chart_program.specs.Served.{Faults}
-use Rattle.chart_program.specs.Ran.{AreDerived, CommandEnds, of_done}
+use Rattle.chart_program.specs.Ran.{AreDerived, CommandEnds}
 use Rattle.chart_program.proofs.Codes.{told_all, told_both}
 use Rattle.chart_program.proofs.CommandsEnd.{all_told}
 use Rattle.chart_program.proofs.Counts.{told_any}
-use Rattle.chart_program.proofs.EndsByCode.{Came, by_code}
-
--- with good input it is done, a stream fails, or there is no memory
-completed : (old new : View) (input : List ℕ) (left' before now : Option (List ℕ)) (t : Traffic) → AreDerived old new input → (end : End) → IsDeriveCause end old new t → OfBook (page_count old.size) old (λ total book. EndsSo book input left' before now end)
-    → Contains of_done (code_of end)
-completed old new input left' before now t r Done cause sent = (0, omega arith, refl)
-completed old new input left' before now t r NoMemory cause sent = (1, omega arith, refl)
-completed old new input left' before now t r ReadFault cause sent = (2, omega arith, refl)
-completed old new input left' before now t r SendFault cause sent = (3, omega arith, refl)
-completed old new input left' before now t r DiskFault cause sent = absurd (r.whole cause)
-completed old new input left' before now t r (DamagedBlock block) cause sent = absurd (sent r.total r.book r.holds)
-completed old new input left' before now t r (DamagedPage page) cause sent = absurd (sent r.total r.book r.holds)
-completed old new input left' before now t r (BadInput at) cause sent = absurd (bad_never r.book input before now at r.text r.answers (sent r.total r.book r.holds))
-completed old new input left' before now t r InputTooLong cause sent = absurd (omega (arith, r.short, (sent r.total r.book r.holds).past))
-completed old new input left' before now t r (TooSmall blocks) cause sent = absurd (sent r.total r.book r.holds)
-completed old new input left' before now t r (RefusedLine at number) cause sent = let is = sent r.total r.book r.holds in absurd (refused_never r.book input before now at is.why r.text r.answers is.draws)
-completed old new input left' before now t r end cause sent = absurd cause
-
-complete : (old new : View) (left left' before now : Option (List ℕ)) (t : Traffic) (end : End) → IsDeriveCause end old new t → IfSome left (λ input. OfBook (page_count old.size) old (λ total book. EndsSo book input left' before now end))
-    → IfSome left (λ input. AreDerived old new input → Contains of_done (code_of end))
-complete old new None left' before now t end cause sent = tt
-complete old new (Some input) left' before now t end cause sent = λ good. completed old new input left' before now t good end cause sent
+use Rattle.chart_program.proofs.EndsByCode.{Came, by_code, completes}
+use Rattle.chart_program.proofs.DerivePage.{of_derive}
 
 taken : (old : View) (left left' before now : Option (List ℕ)) → IfSome left (λ input. DerivesTaken (page_count old.size) old input left' before now) → IfSome left (λ input. IfSome left' (λ bytes. DerivesTaken (page_count old.size) old input (Some bytes) before now))
 taken old None left' before now all = tt
@@ -50,11 +29,11 @@ taken old (Some input) (Some bytes) before now all = all
 
 -- a line that is refused, by its place
 refused : (old : View) (left before now : Option (List ℕ)) (at number : ℕ) → IfSome left (λ input. OfBook (page_count old.size) old (λ total book. DrawsToNumber book input before now at number))
-    → IfSome left (λ input. DerivesToRefused (page_count old.size) old input (256 * at + number) before now)
+    → IfSome left (λ input. DerivesToRefused (page_count old.size) old input (refused_at at number) before now)
 refused old None before now at number all = tt
 refused old (Some input) before now at number all = λ total book holds.
     let is = all total book holds in
-    record { at = at; refusal = is.why; place_is = ap (λ n. 256 * at + n) is.number_is; draws = is.draws }
+    record { at = at; refusal = is.why; place_is = ap (λ n. refused_at at n) is.number_is; draws = is.draws }
 
 module _ (old new : View) (left left' before now : Option (List ℕ)) (faults : Faults) where
   abbrev passed : Traffic
@@ -103,7 +82,7 @@ module _ (old new : View) (left left' before now : Option (List ℕ)) (faults : 
     holds = λ other. told_all left _ (λ total book held. (book, e.holds total book held));
     crash = all_told left before _ e.crash;
     disk = e.goes_on;
-    complete = complete old new left left' before now passed end e.cause e.sent;
+    complete = completes left (λ input. AreDerived old new input) end (of_derive old new passed end e away).good;
     drawn = λ command. cc;
     ready = λ command. cc;
   })

@@ -1,12 +1,12 @@
 -- The command `derive` did as its page says.
-use Rattle.std.proofs.Common.{ℕ, ◌+◌, ◌*◌, ◌<◌, List, Option, Some, None, IfSome, ap, arith}
+use Rattle.std.proofs.Common.{ℕ, List, IfSome, ap, arith}
 use Rattle.block_disk.specs.View.{View}
 use Rattle.chart_world.specs.LineLaws.{told_so}
 use Rattle.derive_command.specs.Derived.{DeriveEnds, DerivesToRefused, IsDeriveCause}
-use Rattle.derive_command.specs.Lines.{DrawsToNumber, EndsSo}
+use Rattle.derive_command.specs.Lines.{EndsSo}
 use Rattle.derive_command.proofs.GoodLemmas.{bad_never, refused_never}
 use Rattle.gate_pages.specs.Journal.{page_count}
-use Rattle.run_ends.specs.Statuses.{status_of}
+use Rattle.run_ends.specs.Statuses.{refused_at, status_of}
 use Rattle.run_ends.specs.declared.ending.End.{End}
 use Rattle.run_ends.specs.declared.ending.End.TheVariants.{Done, NoMemory, ReadFault, SendFault, DiskFault, DamagedBlock, DamagedPage}
 use Rattle.run_ends.specs.declared.ending.End.TheVariants.{BadInput, InputTooLong, TooSmall, RefusedLine}
@@ -25,10 +25,10 @@ module _ (old new : View) (t : Traffic) where
   Sends end input = OfBook (page_count old.size) old (λ total book. EndsSo book input t.left_now t.sent t.sent_now end)
 
   -- a line that is refused, by its place
-  refused : (offset number : ℕ) (input : List ℕ) → Sends (RefusedLine offset number) input → DerivesToRefused (page_count old.size) old input (256 * offset + number) t.sent t.sent_now
+  refused : (offset number : ℕ) (input : List ℕ) → Sends (RefusedLine offset number) input → DerivesToRefused (page_count old.size) old input (refused_at offset number) t.sent t.sent_now
   refused offset number input sent = λ total book holds.
       let is = sent total book holds in
-      record { at = offset; refusal = is.why; place_is = ap (λ n. 256 * offset + n) is.number_is; draws = is.draws }
+      record { at = offset; refusal = is.why; place_is = ap (λ n. refused_at offset n) is.number_is; draws = is.draws }
 
   derive_does : (end : End) → IsDeriveCause end old new t → IfSome t.left (Sends end) → DeriveDoes at end
   derive_does Done cause sent = (cause, sent)
@@ -42,7 +42,7 @@ module _ (old new : View) (t : Traffic) where
   derive_does InputTooLong cause sent = sent
   derive_does (TooSmall blocks) cause sent = cause
   derive_does (RefusedLine offset number) cause sent =
-      told_so (Sends (RefusedLine offset number)) (λ input. DerivesToRefused (page_count old.size) old input (256 * offset + number) t.sent t.sent_now) t.left (refused offset number) sent
+      told_so (Sends (RefusedLine offset number)) (λ input. DerivesToRefused (page_count old.size) old input (refused_at offset number) t.sent t.sent_now) t.left (refused offset number) sent
   derive_does end cause sent = absurd cause
 
   -- with good input it is done, a stream fails, or there is no memory

@@ -1,12 +1,12 @@
 -- What a command did by how it ended, so by its code and place.
-use Rattle.std.proofs.Common.{◌≡◌, ℕ, ◌-◌, ◌<◌, ◌⊎◌, List, [], ◌∷◌, Option, IfSome, refl, arith}
-use Rattle.std.specs.Prelude.{Contains, ◌≢◌, ◌+◌, ◌*◌, ◌^◌}
+use Rattle.std.proofs.Common.{◌≡◌, ℕ, zero, suc, ◌-◌, ◌<◌, ◌⊎◌, List, [], ◌∷◌, Option, Some, None, IfSome, refl, ap, arith}
+use Rattle.std.specs.Prelude.{Contains, ◌≢◌, ◌^◌}
 use Rattle.block_disk.specs.Counts.{HasRisen}
 use Rattle.block_disk.specs.View.{View}
 use Rattle.gate_pages.specs.Journal.{page_count}
 use Rattle.program_words.specs.declared.words.Command.{Command}
 use Rattle.program_words.specs.declared.words.Command.TheVariants.{Init, Draw}
-use Rattle.run_ends.specs.Statuses.{code_of, place_of}
+use Rattle.run_ends.specs.Statuses.{block_of, code_of, place_of, refused_at}
 use Rattle.run_ends.specs.declared.ending.End.{End}
 use Rattle.run_ends.specs.declared.ending.End.TheVariants.{Done, WrongWords, NoMemory, ReadFault, SendFault, DiskFault, DamagedBlock, DamagedPage}
 use Rattle.run_ends.specs.declared.ending.End.TheVariants.{BadInput, InputTooLong, TooManySlots, Missing, BadCoefficient, TooSmall, IsStore}
@@ -14,11 +14,33 @@ use Rattle.run_ends.specs.declared.ending.End.TheVariants.{UnknownSeries, Refuse
 use Rattle.store_commands.specs.Away.{IsTurnedAway}
 use Rattle.store_commands.specs.Books.{HoldsAgain}
 use Rattle.store_commands.specs.Codes.{low_code}
+use Rattle.store_commands.specs.Loaded.{unnamed_ends}
 use Rattle.chart_program.specs.CommandStatuses.{codes_of, IsOverStore, TakesNone, Bars}
+use Rattle.chart_program.specs.Course.{IsDoneOrCut}
 use Rattle.chart_program.specs.Served.{Faults}
 use Rattle.chart_program.specs.Ran.{CommandEnds, DrawsReplies, IsBadInput, IsCutShort, IsDamaged, IsFree, IsInput, IsMade, IsOfReplies, IsRefused, IsRefusedLine}
 use Rattle.chart_program.specs.Ran.{IsStreaming, IsThere, IsTooMuch, IsTooSmall, IsUndamaged, IsUnknown, IsWithin, Lacks, LeavesDisk, LeavesTold, Misfits}
 use Rattle.chart_program.specs.Ran.{NamesUnopened, ReadsByInput, ReadsFew, SendsAll, SendsPart, StopsAtDisk, StopsBefore, SyncsByInput, TellsUnnamed, of_done}
+
+-- the codes of the ends that come where no series has the name
+pub unnamed_codes : (end : End) → Contains unnamed_ends end → Contains (3 ∷ 6 ∷ 14 ∷ []) (code_of end)
+unnamed_codes end (zero, inside, is) = (0, omega arith, ap (λ (x : End). code_of x) is)
+unnamed_codes end (suc zero, inside, is) = (1, omega arith, ap (λ (x : End). code_of x) is)
+unnamed_codes end (suc (suc zero), inside, is) = (2, omega arith, ap (λ (x : End). code_of x) is)
+unnamed_codes end (suc (suc (suc k)), inside, is) = absurd (omega (arith, inside))
+
+-- the codes of an end that is done or cut
+pub done_codes : (end : End) → IsDoneOrCut end → Contains of_done (code_of end)
+done_codes Done is = (0, omega arith, refl)
+done_codes NoMemory is = (1, omega arith, refl)
+done_codes ReadFault is = (2, omega arith, refl)
+done_codes SendFault is = (3, omega arith, refl)
+done_codes end is = absurd is
+
+-- with good input they are these
+pub completes : (left : Option (List ℕ)) (IsGood : List ℕ → Type 0) (end : End) → IfSome left (λ input. IsGood input → IsDoneOrCut end) → IfSome left (λ input. IsGood input → Contains of_done (code_of end))
+completes None IsGood end good = tt
+completes (Some input) IsGood end good = λ is. done_codes end (good is)
 
 -- of a command over these disks and streams
 module _ (command : Command) (old new : View) (left left' before now : Option (List ℕ)) (faults : Faults) where
@@ -38,7 +60,7 @@ module _ (command : Command) (old new : View) (left left' before now : Option (L
   Came SendFault = HasRisen faults.sends faults.sends_now × IfSome left (λ input. SendsPart command old new input before now)
   Came DiskFault = HasRisen old.faults new.faults × IfSome left (λ input. StopsAtDisk command old input before now)
   Came (DamagedBlock block) = Damages block
-  Came (DamagedPage page) = Damages (66 + page)
+  Came (DamagedPage page) = Damages (block_of page)
   Came (BadInput at) = IfSome left (λ input. IsBadInput command old new input at before now)
   Came InputTooLong = IfSome left (λ input. IsTooMuch command old new input (2 ^ 32) before now)
   Came (TooManySlots most) = IfSome left (λ input. IsTooMuch command old new input most before now)
@@ -47,9 +69,9 @@ module _ (command : Command) (old new : View) (left left' before now : Option (L
   Came (TooSmall blocks) = IsTooSmall command old blocks
   Came IsStore = IsThere command old 66
   Came UnknownSeries = Refuses 8
-  Came (Refused at refusal) = Refuses (256 * at + refusal)
+  Came (Refused at refusal) = Refuses (refused_at at refusal)
   Came (UnknownSession session) = IfSome left (λ input. NamesUnopened command old input session before now)
-  Came (RefusedLine at refusal) = IfSome left (λ input. IsRefusedLine command old input (256 * at + refusal) before now)
+  Came (RefusedLine at refusal) = IfSome left (λ input. IsRefusedLine command old input (refused_at at refusal) before now)
   Came (NoSeries at) = IfSome left (λ input. IsUnknown command old new input at before now)
 
   on_done : (end : End) → Came end → code_of end ≡ 0 → Came Done

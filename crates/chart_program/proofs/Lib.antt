@@ -31,6 +31,8 @@ pub mod RetainPage
 pub mod LivePage
 pub mod StorePages
 pub mod StreamPages
+pub mod LoadPage
+pub mod LoadEnds
 pub mod RetainEnds
 pub mod LiveEnds
 pub mod DeriveEnds

@@ -13,36 +13,18 @@ use Rattle.live_command.specs.Ended.{DoesLive, IsLiveCause, LiveEnds, LivesTaken
 use Rattle.program_words.specs.declared.words.Command.TheVariants.{Live}
 use Rattle.chart_program.specs.CommandStatuses.{codes_of}
 use Rattle.chart_program.specs.Served.{Faults}
-use Rattle.chart_program.specs.Ran.{AreLines, CommandEnds, of_done}
+use Rattle.chart_program.specs.Ran.{AreLines, CommandEnds}
 use Rattle.chart_program.proofs.Codes.{told_both}
-use Rattle.chart_program.proofs.EndsByCode.{Came, by_code}
+use Rattle.chart_program.proofs.EndsByCode.{Came, by_code, completes}
+use Rattle.chart_program.proofs.LivePage.{of_live}
 
 abbrev passed : (left left' before now : Option (List ℕ)) → Faults → Traffic
 passed left left' before now faults = record { left = left; left_now = left'; sent = before; sent_now = now; reads = faults.reads; reads_now = faults.reads_now; sends = faults.sends; sends_now = faults.sends_now }
-
--- with good input it is done, a stream fails, or there is no memory
-completed : (old new : View) (input : List ℕ) (left' before now : Option (List ℕ)) (faults : Faults) → AreLines old new input → (end : End)
-    → IsLiveCause end old new (passed (Some input) left' before now faults) → DoesLive (page_count old.size) old new (passed (Some input) left' before now faults) end → Contains of_done (code_of end)
-completed old new input left' before now faults r Done cause does = (0, omega arith, refl)
-completed old new input left' before now faults r NoMemory cause does = (1, omega arith, refl)
-completed old new input left' before now faults r ReadFault cause does = (2, omega arith, refl)
-completed old new input left' before now faults r SendFault cause does = (3, omega arith, refl)
-completed old new input left' before now faults r DiskFault cause does = absurd (r.whole cause)
-completed old new input left' before now faults r (DamagedBlock block) cause does = absurd (does r.total r.book r.holds)
-completed old new input left' before now faults r (DamagedPage page) cause does = absurd (does r.total r.book r.holds)
-completed old new input left' before now faults r InputTooLong cause does = absurd (omega (arith, r.short, (does r.total r.book r.holds).past))
-completed old new input left' before now faults r (TooSmall blocks) cause does = absurd (does r.total r.book r.holds)
-completed old new input left' before now faults r end cause does = absurd cause
 
 taken : (old new : View) (left left' before now : Option (List ℕ)) → IfSome left (λ input. LivesTaken (page_count old.size) old new input left' before now) → IfSome left (λ input. IfSome left' (λ bytes. LivesTaken (page_count old.size) old new input (Some bytes) before now))
 taken old new None left' before now all = tt
 taken old new (Some input) None before now all = tt
 taken old new (Some input) (Some bytes) before now all = all
-
-complete : (old new : View) (left left' before now : Option (List ℕ)) (faults : Faults) (end : End) → IsLiveCause end old new (passed left left' before now faults) → DoesLive (page_count old.size) old new (passed left left' before now faults) end
-    → IfSome left (λ input. AreLines old new input → Contains of_done (code_of end))
-complete old new None left' before now faults end cause does = tt
-complete old new (Some input) left' before now faults end cause does = λ good. completed old new input left' before now faults good end cause does
 
 module _ (old new : View) (left left' before now : Option (List ℕ)) (faults : Faults) where
   live_came : (end : End) → IsLiveCause end old new (passed left left' before now faults) → DoesLive (page_count old.size) old new (passed left left' before now faults) end → Came Live old new left left' before now faults end
@@ -84,7 +66,7 @@ module _ (old new : View) (left left' before now : Option (List ℕ)) (faults : 
     holds = λ other. e.holds (λ is. other (ap (λ (end : End). code_of end) is));
     crash = e.crash;
     disk = e.goes_on;
-    complete = complete old new left left' before now faults end e.cause e.does;
+    complete = completes left (λ input. AreLines old new input) end (of_live old new (passed left left' before now faults) end e away reads syncs).good;
     drawn = λ command. cc;
     ready = λ command. cc;
   })

@@ -12,35 +12,14 @@ use Rattle.store_commands.specs.Books.{Holds, OfBook}
 use Rattle.store_commands.specs.Traffic.{Traffic}
 use Rattle.retain_command.specs.Retained.{IsRetainCause, RetainEnds, RetainsTaken}
 use Rattle.retain_command.specs.Sweeping.{EndsSo}
-use Rattle.retain_command.proofs.GoodLemmas.{bad_never, unknown_never}
 use Rattle.program_words.specs.declared.words.Command.TheVariants.{Retain}
 use Rattle.chart_program.specs.CommandStatuses.{codes_of}
 use Rattle.chart_program.specs.Served.{Faults}
-use Rattle.chart_program.specs.Ran.{AreRetained, CommandEnds, of_done}
+use Rattle.chart_program.specs.Ran.{AreRetained, CommandEnds}
 use Rattle.chart_program.proofs.Codes.{told_both}
 use Rattle.chart_program.proofs.Counts.{told_any}
-use Rattle.chart_program.proofs.EndsByCode.{Came, by_code}
-
--- with good input it is done, a stream fails, or there is no memory
-completed : (old new : View) (input : List ℕ) (left' before now : Option (List ℕ)) (t : Traffic) → AreRetained old new input → (end : End) → IsRetainCause end old new t → OfBook (page_count old.size) old (λ total book. EndsSo (Holds (page_count old.size) total new) total book input left' before now end)
-    → Contains of_done (code_of end)
-completed old new input left' before now t r Done cause does = (0, omega arith, refl)
-completed old new input left' before now t r NoMemory cause does = (1, omega arith, refl)
-completed old new input left' before now t r ReadFault cause does = (2, omega arith, refl)
-completed old new input left' before now t r SendFault cause does = (3, omega arith, refl)
-completed old new input left' before now t r DiskFault cause does = absurd (r.whole cause)
-completed old new input left' before now t r (DamagedBlock block) cause does = absurd (does r.total r.book r.holds)
-completed old new input left' before now t r (DamagedPage page) cause does = absurd (does r.total r.book r.holds)
-completed old new input left' before now t r (BadInput at) cause does = absurd (bad_never _ r.total r.book input before now at r.rules r.are (does r.total r.book r.holds))
-completed old new input left' before now t r InputTooLong cause does = absurd (omega (arith, r.short, (does r.total r.book r.holds).past))
-completed old new input left' before now t r (TooSmall blocks) cause does = absurd (does r.total r.book r.holds)
-completed old new input left' before now t r (NoSeries at) cause does = absurd (unknown_never _ r.total r.book input before now at r.rules r.are (does r.total r.book r.holds))
-completed old new input left' before now t r end cause does = absurd cause
-
-complete : (old new : View) (left left' before now : Option (List ℕ)) (t : Traffic) (end : End) → IsRetainCause end old new t → IfSome left (λ input. OfBook (page_count old.size) old (λ total book. EndsSo (Holds (page_count old.size) total new) total book input left' before now end))
-    → IfSome left (λ input. AreRetained old new input → Contains of_done (code_of end))
-complete old new None left' before now t end cause does = tt
-complete old new (Some input) left' before now t end cause does = λ good. completed old new input left' before now t good end cause does
+use Rattle.chart_program.proofs.EndsByCode.{Came, by_code, completes}
+use Rattle.chart_program.proofs.RetainPage.{of_retain}
 
 taken : (old new : View) (left left' before now : Option (List ℕ)) → IfSome left (λ input. RetainsTaken (page_count old.size) old new input left' before now) → IfSome left (λ input. IfSome left' (λ bytes. RetainsTaken (page_count old.size) old new input (Some bytes) before now))
 taken old new None left' before now all = tt
@@ -97,7 +76,7 @@ module _ (old new : View) (left left' before now : Option (List ℕ)) (faults : 
     holds = λ other. e.holds (λ is. other (ap (λ (end : End). code_of end) is));
     crash = e.crash;
     disk = e.goes_on;
-    complete = complete old new left left' before now passed end e.cause e.does;
+    complete = completes left (λ input. AreRetained old new input) end (of_retain old new passed end e away).good;
     drawn = λ command. cc;
     ready = λ command. cc;
   })

@@ -24,7 +24,7 @@ use Rattle.chart_program.proofs.CommandsEnd.{small_never}
 use Rattle.chart_program.proofs.InitLemmas.{init_keeps, init_leaves}
 
 -- with good input it is done, a stream fails, or there is no memory: so where no store is opened
-unopened_good : (old new : View) → StandsOn old new → (end : End) → IsUnopenedEnd end old new → IsDoneOrCut end
+pub unopened_good : (old new : View) → StandsOn old new → (end : End) → IsUnopenedEnd end old new → IsDoneOrCut end
 unopened_good old new r NoMemory is = tt
 unopened_good old new r DiskFault is = absurd (r.whole is)
 unopened_good old new r (DamagedBlock block) is = absurd (is.1 r.total r.book r.holds)
@@ -50,7 +50,7 @@ module _ (c : Course) (sends sends_now : ℕ) where
   list_does took (TooSmall blocks) is = is.0
   list_does took end is = absurd is.0
 
-  list_good : StandsOn c.old c.new → (end : End) → IsListEnd end c.old c.new c.sent c.sent_now sends sends_now → IsDoneOrCut end
+  pub list_good : StandsOn c.old c.new → (end : End) → IsListEnd end c.old c.new c.sent c.sent_now sends sends_now → IsDoneOrCut end
   list_good r Done is = tt
   list_good r SendFault is = tt
   list_good r end is = unopened_good c.old c.new r end is.0
@@ -77,7 +77,7 @@ module _ (c : Course) (sends sends_now : ℕ) where
   check_does took (TooSmall blocks) is = is.0
   check_does took end is = absurd is.0
 
-  check_good : StandsOn c.old c.new → (end : End) → IsCheckEnd end c.old c.new c.sent c.sent_now sends sends_now → IsDoneOrCut end
+  pub check_good : StandsOn c.old c.new → (end : End) → IsCheckEnd end c.old c.new c.sent c.sent_now sends sends_now → IsDoneOrCut end
   check_good r Done is = tt
   check_good r SendFault is = tt
   check_good r (DamagedPage page) is = absurd (is.1 r.total r.book r.holds)
@@ -107,7 +107,7 @@ module _ (c : Course) (sends sends_now : ℕ) where
     demo_does took (TooSmall blocks) is = is.0
     demo_does took end is = absurd is.0
 
-    demo_good : StandsOn c.old c.new → (end : End) → IsDemoEnd end seed rounds c.old c.new c.sent c.sent_now sends sends_now → IsDoneOrCut end
+    pub demo_good : StandsOn c.old c.new → (end : End) → IsDemoEnd end seed rounds c.old c.new c.sent c.sent_now sends sends_now → IsDoneOrCut end
     demo_good r Done is = tt
     demo_good r NoMemory is = tt
     demo_good r SendFault is = tt
@@ -139,7 +139,7 @@ module _ (c : Course) (sends sends_now : ℕ) where
     export_does took UnknownSeries is part = is
     export_does took end is part = absurd is.0
 
-    export_good : HoldsNamed name c.old c.new → (end : End) → IsExportEnd end name window c.old c.new c.sent c.sent_now sends sends_now → IsDoneOrCut end
+    pub export_good : HoldsNamed name c.old c.new → (end : End) → IsExportEnd end name window c.old c.new c.sent c.sent_now sends sends_now → IsDoneOrCut end
     export_good r Done is = tt
     export_good r NoMemory is = tt
     export_good r SendFault is = tt

@@ -1,5 +1,5 @@
 -- The commands that take no input, but `init`, end as their own clauses say.
-use Rattle.std.proofs.Common.{◌≡◌, ◌≢◌, ℕ, zero, suc, ◌<◌, List, [], ◌∷◌, Option, refl, ap, arith, inl, inr}
+use Rattle.std.proofs.Common.{◌≡◌, ◌≢◌, ℕ, ◌<◌, List, [], Option, refl, ap, arith, inl, inr}
 use Rattle.std.specs.Prelude.{Contains}
 use Rattle.block_disk.specs.View.{View}
 use Rattle.gate_pages.specs.Journal.{page_count}
@@ -12,27 +12,23 @@ use Rattle.store_commands.specs.Away.{IsTurnedAway}
 use Rattle.store_commands.specs.Books.{HoldsAgain}
 use Rattle.store_commands.specs.Checked.{CheckEnds, IsCheckEnd}
 use Rattle.store_commands.specs.Demonstrated.{DemoEnds, IsDemoEnd}
-use Rattle.store_commands.specs.Exported.{ExportEnds, ExportsPart, IsExportEnd, unnamed_ends}
+use Rattle.store_commands.specs.Exported.{ExportEnds, ExportsPart, IsExportEnd}
 use Rattle.store_commands.specs.Listed.{IsListEnd, ListEnds}
-use Rattle.store_commands.specs.Unopened.{IsUnopenedEnd}
 use Rattle.program_words.specs.declared.words.Command.TheVariants.{Check, Demo, Export, ListSeries}
 use Rattle.chart_program.specs.CommandStatuses.{codes_of}
+use Rattle.chart_program.specs.Course.{Course}
 use Rattle.chart_program.specs.Served.{Faults}
-use Rattle.chart_program.specs.Ran.{CommandEnds, HoldsNamed, StandsOn, of_done}
+use Rattle.chart_program.specs.Ran.{CommandEnds}
 use Rattle.chart_program.proofs.Codes.{told_all}
-use Rattle.chart_program.proofs.CommandsEnd.{all_told, small_never}
+use Rattle.chart_program.proofs.CommandsEnd.{all_told}
 use Rattle.chart_program.proofs.Counts.{told_any}
-use Rattle.chart_program.proofs.EndsByCode.{Came, by_code}
-
--- with a good input it is done, a stream fails, or there is no memory: so where no store is opened
-unopened_completes : (old new : View) → StandsOn old new → (end : End) → IsUnopenedEnd end old new → Contains of_done (code_of end)
-unopened_completes old new r NoMemory is = (1, omega arith, refl)
-unopened_completes old new r DiskFault is = absurd (r.whole is)
-unopened_completes old new r (DamagedBlock block) is = absurd (is.1 r.total r.book r.holds)
-unopened_completes old new r (TooSmall blocks) is = absurd (small_never old r.total r.book r.holds (omega (arith, is.1)))
-unopened_completes old new r end is = absurd is
+use Rattle.chart_program.proofs.EndsByCode.{Came, by_code, done_codes, unnamed_codes}
+use Rattle.chart_program.proofs.StorePages.{check_good, demo_good, export_good, list_good}
 
 module _ (old new : View) (left left' before now : Option (List ℕ)) (faults : Faults) where
+  abbrev at : Course
+  at = record { old = old; new = new; left = left; left_now = left'; sent = before; sent_now = now }
+
   -- ---- `list`
 
   list_came : (end : End) → IsListEnd end old new before now faults.sends faults.sends_now → Came ListSeries old new left left' before now faults end
@@ -58,11 +54,6 @@ module _ (old new : View) (left left' before now : Option (List ℕ)) (faults : 
   list_unsent SendFault is whole part = absurd (part refl)
   list_unsent end is whole part = is.1
 
-  list_completes : StandsOn old new → (end : End) → IsListEnd end old new before now faults.sends faults.sends_now → Contains of_done (code_of end)
-  list_completes r Done is = (0, omega arith, refl)
-  list_completes r SendFault is = (3, omega arith, refl)
-  list_completes r end is = unopened_completes old new r end is.0
-
   pub list_ends : (end : End) → ListEnds old new before now faults.sends faults.sends_now end → (old.size < 128 → IsTurnedAway left left' before now (code_of end)) → left' ≡ left → CommandEnds ListSeries old new left left' before now faults (code_of end) (place_of end)
   list_ends end e away untaken = by_code ListSeries old new left left' before now faults end (record {
     came = list_came end e.is;
@@ -78,7 +69,7 @@ module _ (old new : View) (left left' before now : Option (List ℕ)) (faults : 
     holds = λ other. told_all left _ (λ total book held. (book, e.holds total book held));
     crash = all_told left before _ e.crash;
     disk = e.goes_on;
-    complete = told_all left _ (λ good. list_completes good end e.is);
+    complete = told_all left _ (λ good. done_codes end (list_good at faults.sends faults.sends_now good end e.is));
     drawn = λ command. cc;
     ready = λ command. cc;
   })
@@ -111,12 +102,6 @@ module _ (old new : View) (left left' before now : Option (List ℕ)) (faults : 
   check_unsent (DamagedPage page) is whole part = is.2
   check_unsent end is whole part = is.1
 
-  check_completes : StandsOn old new → (end : End) → IsCheckEnd end old new before now faults.sends faults.sends_now → Contains of_done (code_of end)
-  check_completes r Done is = (0, omega arith, refl)
-  check_completes r SendFault is = (3, omega arith, refl)
-  check_completes r (DamagedPage page) is = absurd (is.1 r.total r.book r.holds)
-  check_completes r end is = unopened_completes old new r end is.0
-
   pub check_ends : (end : End) → CheckEnds old new before now faults.sends faults.sends_now end → (old.size < 128 → IsTurnedAway left left' before now (code_of end)) → left' ≡ left → CommandEnds Check old new left left' before now faults (code_of end) (place_of end)
   check_ends end e away untaken = by_code Check old new left left' before now faults end (record {
     came = check_came end e.is;
@@ -132,7 +117,7 @@ module _ (old new : View) (left left' before now : Option (List ℕ)) (faults : 
     holds = λ other. told_all left _ (λ total book held. (book, e.holds total book held));
     crash = all_told left before _ e.crash;
     disk = e.goes_on;
-    complete = told_all left _ (λ good. check_completes good end e.is);
+    complete = told_all left _ (λ good. done_codes end (check_good at faults.sends faults.sends_now good end e.is));
     drawn = λ command. cc;
     ready = λ command. cc;
   })
@@ -172,15 +157,6 @@ module _ (old new : View) (left left' before now : Option (List ℕ)) (faults : 
     demo_unsent (BadCoefficient key) is whole part = is.2
     demo_unsent end is whole part = is.1
 
-    demo_completes : StandsOn old new → (end : End) → IsDemoEnd end seed rounds old new before now faults.sends faults.sends_now → Contains of_done (code_of end)
-    demo_completes r Done is = (0, omega arith, refl)
-    demo_completes r NoMemory is = (1, omega arith, refl)
-    demo_completes r SendFault is = (3, omega arith, refl)
-    demo_completes r (DamagedPage page) is = absurd (is.1 r.total r.book r.holds)
-    demo_completes r (Missing key) is = absurd (is.0 r.total r.book r.holds)
-    demo_completes r (BadCoefficient key) is = absurd (is.0 r.total r.book r.holds)
-    demo_completes r end is = unopened_completes old new r end is.0
-
     pub demo_ends : (end : End) → DemoEnds seed rounds old new before now faults.sends faults.sends_now end → (old.size < 128 → IsTurnedAway left left' before now (code_of end)) → left' ≡ left → (end ≢ DiskFault → HoldsAgain (page_count old.size) old new) → CommandEnds (Demo seed rounds) old new left left' before now faults (code_of end) (place_of end)
     demo_ends end e away untaken holds = by_code (Demo seed rounds) old new left left' before now faults end (record {
       came = demo_came end e.is;
@@ -196,7 +172,7 @@ module _ (old new : View) (left left' before now : Option (List ℕ)) (faults : 
       holds = λ other. told_all left _ (holds (λ is. other (ap (λ (x : End). code_of x) is)));
       crash = all_told left before _ e.crash;
       disk = e.goes_on;
-      complete = told_all left _ (λ good. demo_completes good end e.is);
+      complete = told_all left _ (λ good. done_codes end (demo_good at faults.sends faults.sends_now seed rounds good end e.is));
       drawn = λ command. cc;
       ready = λ command. cc;
     })
@@ -226,21 +202,6 @@ module _ (old new : View) (left left' before now : Option (List ℕ)) (faults : 
     export_own UnknownSeries is = (6, omega arith, refl)
     export_own end is = absurd is.0
 
-    unnamed_codes : (end : End) → Contains unnamed_ends end → Contains (3 ∷ 6 ∷ 14 ∷ []) (code_of end)
-    unnamed_codes end (zero, inside, is) = (0, omega arith, ap (λ (x : End). code_of x) is)
-    unnamed_codes end (suc zero, inside, is) = (1, omega arith, ap (λ (x : End). code_of x) is)
-    unnamed_codes end (suc (suc zero), inside, is) = (2, omega arith, ap (λ (x : End). code_of x) is)
-    unnamed_codes end (suc (suc (suc k)), inside, is) = absurd (omega (arith, inside))
-
-    export_completes : HoldsNamed name old new → (end : End) → IsExportEnd end name window old new before now faults.sends faults.sends_now → Contains of_done (code_of end)
-    export_completes r Done is = (0, omega arith, refl)
-    export_completes r NoMemory is = (1, omega arith, refl)
-    export_completes r SendFault is = (3, omega arith, refl)
-    export_completes r DiskFault is = absurd (r.whole is)
-    export_completes r (DamagedPage page) is = absurd (is.1 r.total r.book r.holds)
-    export_completes r UnknownSeries is = absurd (is.0 r.total r.book r.holds r.series r.named)
-    export_completes r end is = unopened_completes old new (record { total = r.total; book = r.book; holds = r.holds; whole = r.whole }) end is.0
-
     pub export_ends : (end : End) → ExportEnds name window old new before now faults.sends faults.sends_now end → (old.size < 128 → IsTurnedAway left left' before now (code_of end)) → left' ≡ left → CommandEnds (Export name window) old new left left' before now faults (code_of end) (place_of end)
     export_ends end e away untaken = by_code (Export name window) old new left left' before now faults end (record {
       came = export_came end e.is e.part;
@@ -256,7 +217,7 @@ module _ (old new : View) (left left' before now : Option (List ℕ)) (faults : 
       holds = λ other. told_all left _ (λ total book held. (book, e.holds total book held));
       crash = all_told left before _ e.crash;
       disk = e.goes_on;
-      complete = told_all left _ (λ good. export_completes good end e.is);
+      complete = told_all left _ (λ good. done_codes end (export_good at faults.sends faults.sends_now name window good end e.is));
       drawn = λ command. cc;
       ready = λ command. cc;
     })

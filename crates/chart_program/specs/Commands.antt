@@ -4,7 +4,7 @@ use Rattle.block_disk.specs.View.{View}
 use Rattle.chart_grid.specs.Limits.{IsSide}
 use Rattle.program_words.specs.Words.{AreWordsOf, IsEvery}
 use Rattle.program_words.specs.declared.words.Command.{Command}
-use Rattle.program_words.specs.declared.words.Command.TheVariants.{Plot, Demo, Draw, Init, Check, ListSeries, Export, Retain}
+use Rattle.program_words.specs.declared.words.Command.TheVariants.{Plot, Load, Demo, Draw, Init, Check, ListSeries, Export, Retain}
 use Rattle.program_words.specs.declared.words.Command.TheVariants.{Cover, Live, Derive}
 use Rattle.run_ends.specs.Statuses.{status_of}
 use Rattle.run_ends.specs.declared.ending.End.{End}
@@ -19,6 +19,7 @@ use Rattle.chart_program.specs.Export.{OfExport}
 use Rattle.chart_program.specs.Init.{OfInit}
 use Rattle.chart_program.specs.ListSeries.{OfList}
 use Rattle.chart_program.specs.Live.{OfLive}
+use Rattle.chart_program.specs.Load.{OfLoad}
 use Rattle.chart_program.specs.Plot.{OfPlot}
 use Rattle.chart_program.specs.Retain.{OfRetain}
 
@@ -41,6 +42,7 @@ EndsSo status IsSo = (end : End) × (status ≡ status_of end) × IsSo end
 -- what a command did, by its page
 abbrev pub Does : Command → Course → Status → Type 0
 Does (Plot w h) c status = EndsSo status (OfPlot w h c)
+Does (Load name) c status = EndsSo status (OfLoad name c)
 Does (Demo seed rounds) c status = EndsSo status (OfDemo seed rounds c)
 Does Draw c status = EndsSo status (OfDraw c)
 Does Init c status = EndsSo status (OfInit c)

@@ -1,11 +1,11 @@
 -- What a run of a command began with and what it left, of which the command's page speaks, and what pages have in common.
-use Rattle.std.specs.Prelude.{ℕ, ◌≡◌, ◌+◌, ◌<◌, ◌≤◌, ◌^◌, List, length, Option, IfSome, ⊤}
+use Rattle.std.specs.Prelude.{ℕ, ◌≡◌, ◌<◌, ◌≤◌, ◌^◌, List, length, Option, IfSome, ⊤}
 use Rattle.block_disk.specs.Counts.{HasRisen}
 use Rattle.block_disk.specs.View.{Image, View}
 use Rattle.disk_store.specs.Held.{HoldsBook}
 use Rattle.gate_pages.specs.Journal.{page_count}
 use Rattle.gate_pages.specs.Pages.{GoesOn}
-use Rattle.run_ends.specs.Statuses.{code_of}
+use Rattle.run_ends.specs.Statuses.{block_of, code_of}
 use Rattle.run_ends.specs.declared.ending.End.{End}
 use Rattle.run_ends.specs.declared.ending.End.TheVariants.{Done, NoMemory, ReadFault, SendFault}
 use Rattle.series_book.specs.declared.one_series.Series.{Series}
@@ -80,7 +80,7 @@ pub record FoundDamaged (c : Course) (block : ℕ) : Type 0 where
 
 -- this page of an open store is damaged, by what is bad of the pages of this disk
 abbrev pub FoundPage : (ℕ → Image → ℕ → Type 0) → Course → View → ℕ → Type 0
-FoundPage IsBad c disk page = IsDamagedLater IsBad (count c) disk (66 + page)
+FoundPage IsBad c disk page = IsDamagedLater IsBad (count c) disk (block_of page)
 
 -- the disk has too few blocks for a store: so many
 abbrev pub HasFewBlocks : Course → ℕ → Type 0

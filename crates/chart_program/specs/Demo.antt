@@ -1,11 +1,8 @@
 -- The page of `demo SEED N`: the workload of the seed, of so many rounds, is answered over the store's book, and summed up.
-use Rattle.std.specs.Prelude.{ℕ, ◌≡◌}
-use Rattle.chart_client.specs.declared.errors.ClientError.{ClientError}
+use Rattle.std.specs.Prelude.{ℕ}
 use Rattle.chart_client.specs.declared.errors.ClientError.TheVariants as client
-use Rattle.chart_frames.specs.Frames.{key_number}
-use Rattle.demo_workload.specs.Ending.{MeetsError}
+use Rattle.demo_workload.specs.Ending.{MeetsKey}
 use Rattle.demo_workload.specs.Workload.{workload}
-use Rattle.om3_coeff.specs.declared.key.Key.{Key}
 use Rattle.run_ends.specs.declared.ending.End.{End}
 use Rattle.run_ends.specs.declared.ending.End.TheVariants.{Done, NoMemory, SendFault, DiskFault, DamagedBlock, DamagedPage, Missing}
 use Rattle.run_ends.specs.declared.ending.End.TheVariants.{BadCoefficient, TooSmall}
@@ -14,10 +11,6 @@ use Rattle.store_commands.specs.Books.{FromBook}
 use Rattle.store_commands.specs.Demonstrated.{AnswersFirst, LeavesDemo, SendsSummary, SendsSummaryPart}
 use Rattle.chart_program.specs.Course.{Course, FoundDamaged, FoundPage, HasFewBlocks, HeldNoBook, IsDoneOrCut, OverStore, SentNothing}
 use Rattle.chart_program.specs.Course.{StandsOn, TookNothing, count}
-
--- the client met such an error for the key of this number
-abbrev pub MeetsKey : (Key → ClientError) → ℕ → Type 0
-MeetsKey why number = (key : Key) × (number ≡ key_number key) × MeetsError (why key)
 
 -- what it did and sent, by how it ended
 abbrev pub DemoDoes : ℕ → ℕ → Course → End → Type 0

@@ -1,5 +1,5 @@
 -- The page of `derive`: each line of the input asks for a picture of a sum of two series of the store's book, and it is sent.
-use Rattle.std.specs.Prelude.{ℕ, ◌+◌, ◌*◌, ◌≤◌, ◌^◌, List, length}
+use Rattle.std.specs.Prelude.{ℕ, ◌≤◌, ◌^◌, List, length}
 use Rattle.block_disk.specs.Counts.{HasRisen}
 use Rattle.block_disk.specs.View.{View}
 use Rattle.chart_service.specs.Serving.{told}
@@ -7,6 +7,7 @@ use Rattle.derive_command.specs.Derived.{DerivesAll, DerivesFirst, DerivesPart, 
 use Rattle.derive_command.specs.Lines.{AreAnswers}
 use Rattle.disk_store.specs.Held.{HoldsBook}
 use Rattle.gate_pages.specs.Journal.{page_count}
+use Rattle.run_ends.specs.Statuses.{refused_at}
 use Rattle.run_ends.specs.declared.ending.End.{End}
 use Rattle.run_ends.specs.declared.ending.End.TheVariants.{Done, NoMemory, ReadFault, SendFault, DiskFault, DamagedBlock, DamagedPage}
 use Rattle.run_ends.specs.declared.ending.End.TheVariants.{BadInput, InputTooLong, TooSmall, RefusedLine}
@@ -27,7 +28,7 @@ DeriveDoes c (DamagedPage page) = FoundPage IsBadForRequest c c.new page × OfIn
 DeriveDoes c (BadInput at) = Told c (λ count old new input. DerivesToBad count old input at)
 DeriveDoes c InputTooLong = Told c (λ count old new. DerivesWithin count old)
 DeriveDoes c (TooSmall blocks) = HasFewBlocks c blocks
-DeriveDoes c (RefusedLine at refusal) = Told c (λ count old new input. DerivesToRefused count old input (256 * at + refusal))
+DeriveDoes c (RefusedLine at refusal) = Told c (λ count old new input. DerivesToRefused count old input (refused_at at refusal))
 DeriveDoes c end = ⊥
 
 -- The lines are no more than it takes, the disk holds a book, each line that isn't empty is a request with an answer, and no

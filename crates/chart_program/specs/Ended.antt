@@ -1,5 +1,5 @@
 -- How a serving command ends, by its status.
-use Rattle.std.specs.Prelude.{◌≡◌, ◌≢◌, ℕ, ◌+◌, ◌<◌, ◌≤◌, ◌^◌, List, [], ◌∷◌, length, Contains, Option, IfSome, Result, Ok, Err, ⊤}
+use Rattle.std.specs.Prelude.{◌≡◌, ◌≢◌, ℕ, ◌<◌, ◌≤◌, ◌^◌, List, [], ◌∷◌, length, Contains, Option, IfSome, Result, Ok, Err, ⊤}
 use Rattle.block_disk.specs.Counts.{HasRisen}
 use Rattle.block_disk.specs.View.{View}
 use Rattle.chart_client.specs.Accepting.{HasNumber}
@@ -15,7 +15,7 @@ use Rattle.chart_program.specs.declared.lines_end.LinesEnd.{LinesEnd}
 use Rattle.chart_program.specs.declared.lines_end.LinesEnd.TheVariants as lines_end
 use Rattle.chart_program.specs.declared.run_end.RunEnd.TheVariants as run_end
 use Rattle.run_ends.specs.declared.status.Status.{Status}
-use Rattle.run_ends.specs.Statuses.{status}
+use Rattle.run_ends.specs.Statuses.{block_of, status}
 use Rattle.store_commands.specs.Status.{opening_status}
 use Rattle.chart_program.specs.Served.{Says, Faults, AnswersAll, AnswersFront, AnswersTaken, AnswersWithin, AnswersSome, AnswersLines, LeavesBooks, IsRejected, ReadsServing, SyncsServing}
 use Rattle.stored_book.specs.Damage.{IsBadForRequest}
@@ -27,7 +27,7 @@ abbrev pub serve_end_status : ServeEnd → Status
 serve_end_status serve_end.ReadFault = status 4 0
 serve_end_status serve_end.SendFault = status 5 0
 serve_end_status serve_end.DiskFault = status 6 0
-serve_end_status (serve_end.Damaged page) = status 7 (66 + page)
+serve_end_status (serve_end.Damaged page) = status 7 (block_of page)
 serve_end_status serve_end.InputTooLong = status 9 (2 ^ 32)
 serve_end_status serve_end.NoMemory = status 3 0
 

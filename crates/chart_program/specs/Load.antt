@@ -1,5 +1,5 @@
 -- The page of `load NAME`: the rows of the input are stored in the series of this name of the store's book, and counted.
-use Rattle.std.specs.Prelude.{ℕ, ◌+◌, ◌*◌, ◌≤◌, ◌^◌, List, length, Contains}
+use Rattle.std.specs.Prelude.{ℕ, ◌≤◌, ◌^◌, List, length, Contains}
 use Rattle.block_disk.specs.Counts.{HasRisen}
 use Rattle.block_disk.specs.View.{Image, View}
 use Rattle.disk_store.specs.Held.{HoldsBook}
@@ -12,12 +12,10 @@ use Rattle.series_book.specs.declared.refusals.Refusal.{Refusal}
 use Rattle.series_load.specs.Ends.{IsAtBad, IsAtRefusal}
 use Rattle.series_load.specs.Sets.{IsNamed}
 use Rattle.stored_book.specs.Damage.{IsBadForEdit}
-use Rattle.store_commands.specs.Exported.{HasNone, unnamed_ends}
-use Rattle.store_commands.specs.Loaded.{LeavesLoads, LeavesUnnamed, LoadsAll, LoadsAndSendsPart, LoadsSome, LoadsTaken, LoadsToBad}
-use Rattle.store_commands.specs.Loaded.{LoadsWithin, RefusesSet, Unnamed}
-use Rattle.store_commands.specs.Damaged.{IsDamagedAtFirst}
-use Rattle.chart_program.specs.Course.{AtEachMoment, Course, FoundPage, HasFewBlocks, HeldNoBook, IsDoneOrCut, IsShort, OfInput, OfLeft}
-use Rattle.chart_program.specs.Course.{OverStore, SentNothing, Told, TookNothing, count}
+use Rattle.store_commands.specs.Loaded.{HasNone, LeavesLoads, LeavesUnnamed, LoadsAll, LoadsAndSendsPart, LoadsSome, LoadsTaken, LoadsToBad}
+use Rattle.store_commands.specs.Loaded.{LoadsWithin, RefusesRun, Unnamed, unnamed_ends}
+use Rattle.chart_program.specs.Course.{AtEachMoment, Course, FoundDamaged, FoundPage, HasFewBlocks, HeldNoBook, IsDoneOrCut, IsShort}
+use Rattle.chart_program.specs.Course.{KeptBook, OfInput, OfLeft, OverStore, SentNothing, Told, TookNothing, count}
 
 -- what it did and sent, by how it ended; at a fault of the disk what that holds is said by the moments
 abbrev pub LoadDoes : List ℕ → Course → End → Type 0
@@ -26,15 +24,13 @@ LoadDoes name c NoMemory = OfInput c (LoadsSome name (count c) c.old c.new) × S
 LoadDoes name c ReadFault = OfInput c (λ input. OfLeft c (LoadsTaken name (count c) c.old c.new input)) × SentNothing c
 LoadDoes name c SendFault = Told c (LoadsAndSendsPart name)
 LoadDoes name c DiskFault = SentNothing c
-LoadDoes name c (DamagedBlock block) = IsDamagedAtFirst c.old block × HeldNoBook c × SentNothing c
+LoadDoes name c (DamagedBlock block) = FoundDamaged c block × HeldNoBook c
 LoadDoes name c (DamagedPage page) = FoundPage IsBadForEdit c c.new page × HeldNoBook c × SentNothing c
 LoadDoes name c (BadInput at) = OfInput c (λ input. LoadsToBad name (count c) c.old c.new input at) × SentNothing c
 LoadDoes name c InputTooLong = OfInput c (LoadsWithin name (count c) c.old c.new) × SentNothing c
 LoadDoes name c (TooSmall blocks) = HasFewBlocks c blocks
-LoadDoes name c UnknownSeries =
-    HasNone (count c) c.old name × Unnamed (count c) c.old name (λ total book. HoldsBook (count c) total book c.new) × TookNothing c × SentNothing c
-LoadDoes name c (Refused at refusal) =
-    OfInput c (λ input. RefusesSet name (count c) c.old c.new input (256 * at + refusal)) × SentNothing c
+LoadDoes name c UnknownSeries = HasNone (count c) c.old name × KeptBook c × TookNothing c × SentNothing c
+LoadDoes name c (Refused at refusal) = OfInput c (λ input. RefusesRun name (count c) c.old c.new input at refusal) × SentNothing c
 LoadDoes name c end = ⊥
 
 -- The lines are no more than it takes, the disk's book has a series of the name, no line is bad and no set of the runs is

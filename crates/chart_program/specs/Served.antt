@@ -31,6 +31,7 @@ use Rattle.stored_book.specs.Damage.{IsBadForRequest}
 use Rattle.store_commands.specs.Damaged.{IsDamagedLater}
 use Rattle.store_commands.specs.Books.{begun, OfBook, FromBook, HoldsAgain, Never}
 use Rattle.chart_program.specs.Texts.{texts_of}
+use Rattle.run_ends.specs.Statuses.{block_of}
 
 -- what is said to lines by the frames that answer them from a state on
 abbrev pub Says : Type 1
@@ -147,7 +148,7 @@ abbrev pub IsLinesCause : Type 0 → ℕ → View → View → Faults → RunEnd
 IsLinesCause CanShow count old new faults (run_end.Serve serve_end.ReadFault) = HasRisen faults.reads faults.reads_now
 IsLinesCause CanShow count old new faults (run_end.Serve serve_end.SendFault) = HasRisen faults.sends faults.sends_now
 IsLinesCause CanShow count old new faults (run_end.Serve serve_end.DiskFault) = HasRisen old.faults new.faults
-IsLinesCause CanShow count old new faults (run_end.Serve (serve_end.Damaged page)) = IsDamagedLater IsBadForRequest count new (66 + page)
+IsLinesCause CanShow count old new faults (run_end.Serve (serve_end.Damaged page)) = IsDamagedLater IsBadForRequest count new (block_of page)
 IsLinesCause CanShow count old new faults (run_end.Serve serve_end.InputTooLong) = ⊤
 IsLinesCause CanShow count old new faults (run_end.Serve serve_end.NoMemory) = ⊤
 IsLinesCause CanShow count old new faults (run_end.Show (client.Missing key)) = CanShow × (key.index < 2 ^ 40) × IsRejected (client.Missing key)

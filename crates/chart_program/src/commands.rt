@@ -58,7 +58,10 @@ pub(crate) fn status_of_command<W: World>(
             let status = plot_status(alloc, w, h, &mut world);
             (status, world)
         }
-        Command::Load { name } => load_series(alloc, &name, world),
+        Command::Load { name } => {
+            let (end, world) = load_series(alloc, &name, world);
+            (status_of(end), world)
+        }
         Command::Demo { seed, count } => {
             let (end, world) = run_demo(alloc, seed, count, world);
             (status_of(end), world)

@@ -2,7 +2,7 @@ ghost use Rattle.std.specs.Prelude.{◌≡◌, ◌≢◌, ◌⊎◌, ℕ, List, 
 ghost use Rattle.block_disk.specs.Counts.{HasRisen};
 ghost use Rattle.chart_world.specs.Faults.{CountsFault};
 ghost use Rattle.program_words.specs.CommandLine.{plain_words};
-ghost use Rattle.program_words.specs.declared.words.Command.TheVariants.{Check, Cover, Demo, Derive, Draw, Export, Init, ListSeries, Live, Plot, Retain};
+ghost use Rattle.program_words.specs.declared.words.Command.TheVariants.{Check, Cover, Demo, Derive, Draw, Export, Init, ListSeries, Live, Load, Plot, Retain};
 ghost use Rattle.program_words.specs.Words.{AreCommand, AreWordsOf, ByCommand, Spells, IsWrong};
 ghost use Rattle.store_commands.specs.Status.{code_fault};
 ghost use Rattle.series_export.specs.declared.window.Window.{Window};
@@ -15,6 +15,7 @@ ghost use Rattle.chart_program.specs.Draw.{OfDraw};
 ghost use Rattle.chart_program.specs.Export.{OfExport};
 ghost use Rattle.chart_program.specs.Init.{OfInit};
 ghost use Rattle.chart_program.specs.ListSeries.{OfList};
+ghost use Rattle.chart_program.specs.Load.{OfLoad};
 ghost use Rattle.chart_program.specs.Plot.{OfPlot};
 ghost use Rattle.chart_program.specs.Retain.{OfRetain};
 ghost use Rattle.chart_program.specs.CommandStatuses.{all_codes, codes_of, TakesNone, BarsBy};
@@ -127,6 +128,7 @@ pub fn chart<W: World>(alloc: Global, words: &[String], world: W) -> (Status, W)
 
     // what each command did, sent and left, by how it ended: a page of specs/ for each
     ensures plot { (w h : ℕ) → ByPage words.now W.view W.left W.sent world result.1 result.0 (Plot w h) (OfPlot w h) }
+    ensures load { (name : List ℕ) → ByPage words.now W.view W.left W.sent world result.1 result.0 (Load name) (OfLoad name) }
     ensures demo { (seed rounds : ℕ) → ByPage words.now W.view W.left W.sent world result.1 result.0 (Demo seed rounds) (OfDemo seed rounds) }
     ensures draw { ByPage words.now W.view W.left W.sent world result.1 result.0 Draw OfDraw }
     ensures init { ByPage words.now W.view W.left W.sent world result.1 result.0 Init OfInit }

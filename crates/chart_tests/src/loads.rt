@@ -1,6 +1,7 @@
 //! A load whose input fails in mid-stream.
 
 use crate::worlds::{behind, world_of};
+use run_ends::status_of;
 use series_book::Name;
 use std::alloc::Global;
 use std::test::Fail;
@@ -25,9 +26,9 @@ fn is_loaded(alloc: Global, take: u64, code: u8, text: &[u8]) -> Result<bool, Fa
     let input = rows(alloc)?;
     let world = world_of(alloc, behind(alloc, CREATED)?, input.as_slice(), &[take])?;
     let name = Name::new(alloc, b"a")?;
-    let (status, world) = load_series(alloc, &name, world);
+    let (end, world) = load_series(alloc, &name, world);
     let (_, world) = check_store(alloc, world);
-    Ok(status.code == code && world.sent().starts_with(text))
+    Ok(status_of(end).code == code && world.sent().starts_with(text))
 }
 
 /// The runs of 256 rows that ended before the fault are stored, and the open one isn't.
@@ -45,8 +46,8 @@ fn an_input_fails_in_mid_stream(rt: HostRuntime) -> Result<(), Fail> {
 fn syncs_of(alloc: Global, input: &[u8]) -> Result<u64, Fail> {
     let disk = behind(alloc, CREATED)?;
     let world = world_of(alloc, disk, input, &[])?;
-    let (status, world) = load_series(alloc, &Name::new(alloc, b"a")?, world);
-    if status.code != 0 {
+    let (end, world) = load_series(alloc, &Name::new(alloc, b"a")?, world);
+    if status_of(end).code != 0 {
         return Err(Fail::new("not loaded"));
     }
     let loaded = world.into_disk().syncs();

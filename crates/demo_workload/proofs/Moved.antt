@@ -9,15 +9,19 @@ use Rattle.gate_pages.specs.Pages.{Quiet}
 use Rattle.gate_pages.proofs.Moving.{time_then}
 use Rattle.request_lines.specs.declared.requests.Request.{Request}
 use Rattle.zoom_session.specs.declared.session.Session.{Session}
+use Rattle.chart_client.specs.Accepting.{Rejects}
+use Rattle.chart_client.specs.declared.errors.ClientError.{ClientError}
+use Rattle.chart_client.specs.declared.errors.ClientError.TheVariants as client
 use Rattle.chart_client.specs.declared.holding.Holding.{Holding}
+use Rattle.chart_frames.specs.declared.frame.Frame.{Frame}
 use Rattle.chart_service.proofs.DiskKept.{risen_since}
 use Rattle.chart_service.specs.State.{State}
 use Rattle.chart_service.specs.Stepping.{RepliedTo, IsBeforeOrAfter, Steps}
 use Rattle.demo_workload.specs.declared.summaries.Summary.{Summary}
 use Rattle.demo_workload.specs.Replying.{IsPartWay}
-use Rattle.demo_workload.specs.declared.demo_end.DemoEnd.{DemoEnd}
-use Rattle.demo_workload.specs.declared.demo_end.DemoEnd.TheVariants.{DiskFault, Damaged, Missing, BadCoefficient, NoMemory}
-use Rattle.demo_workload.specs.Ending.{Runs, IsCause}
+use Rattle.run_ends.specs.declared.ending.End.{End}
+use Rattle.run_ends.specs.declared.ending.End.TheVariants.{DiskFault, Missing, BadCoefficient}
+use Rattle.demo_workload.specs.Ending.{Runs, IsCause, MeetsError}
 use Rattle.demo_workload.specs.Answering.{HasAccepted, IsOneCause, Reaches}
 use Rattle.demo_workload.proofs.Replies.{next_part}
 
@@ -43,27 +47,24 @@ moments_more requests left request total state old mid new sessions holdings sum
     (λ image way. next_part requests left request total state mid.image image sessions holdings summary r way) (λ count quiet. quiet) second)
 
 -- why the requests end
-pub cause_on : (end : DemoEnd) (holdings : List Holding) (told : Type 0) (old mid new : View) → HasAccepted holdings
+met : (error : ClientError) (holdings : List Holding) → HasAccepted holdings → (frame : Frame) → Rejects frame error holdings → MeetsError error
+met error holdings accepted frame rejected = record {
+  frames = accepted.frames;
+  drawings = accepted.drawings;
+  holdings = holdings;
+  accepted = accepted.accepted;
+  frame = frame;
+  rejected = rejected;
+}
+
+pub cause_on : (end : End) (holdings : List Holding) (told : Type 0) (old mid new : View) → HasAccepted holdings
     → CountsFault None old mid → IsOneCause end holdings told mid new → IsCause end told old new
 cause_on DiskFault holdings told old mid new accepted faults cause = risen_since old.faults mid.faults new.faults (disk_stays old mid faults) cause
-cause_on (Damaged page) holdings told old mid new accepted faults cause = cause
-cause_on (Missing key) holdings told old mid new accepted faults cause = record {
-  frames = accepted.frames;
-  drawings = accepted.drawings;
-  holdings = holdings;
-  accepted = accepted.accepted;
-  frame = cause.0;
-  rejected = cause.1;
-}
-cause_on (BadCoefficient key) holdings told old mid new accepted faults cause = record {
-  frames = accepted.frames;
-  drawings = accepted.drawings;
-  holdings = holdings;
-  accepted = accepted.accepted;
-  frame = cause.0;
-  rejected = cause.1;
-}
-cause_on NoMemory holdings told old mid new accepted faults cause = tt
+cause_on (Missing number) holdings told old mid new accepted faults cause =
+    (cause.1.0, cause.1.1, met (client.Missing cause.1.0) holdings accepted cause.0 cause.1.2)
+cause_on (BadCoefficient number) holdings told old mid new accepted faults cause =
+    (cause.1.0, cause.1.1, met (client.BadCoefficient cause.1.0) holdings accepted cause.0 cause.1.2)
+cause_on end holdings told old mid new accepted faults cause = cause
 
 -- ---- what a call answered
 

@@ -15,8 +15,8 @@ use Rattle.chart_service.specs.declared.failure.ServiceError.{ServiceError}
 use Rattle.chart_service.specs.Stepping.{StandsAfter, state_of, RepliedTo, IsBeforeOrAfter, IsOutside as IsStepOutside}
 use Rattle.drawn_replies.specs.Mirrors.{Mirrors, DrawsTheBook, OnlyLacksMemory}
 use Rattle.demo_workload.specs.declared.summaries.Summary.{Summary}
-use Rattle.demo_workload.specs.declared.demo_end.DemoEnd.{DemoEnd}
-use Rattle.demo_workload.specs.declared.demo_end.DemoEnd.TheVariants.{DiskFault, Damaged, Missing, BadCoefficient, NoMemory}
+use Rattle.run_ends.specs.declared.ending.End.{End}
+use Rattle.run_ends.specs.declared.ending.End.TheVariants.{NoMemory, Missing, BadCoefficient}
 use Rattle.demo_workload.specs.Summaries.{summary_of}
 use Rattle.demo_workload.specs.Ending.{end_of_step, IsOutside}
 use Rattle.demo_workload.specs.Answering.{AnswersOne, RejectsAs}
@@ -47,19 +47,18 @@ answered_one draws request frame picture total book image sessions sessions' hol
 
 -- where pages stand for a book the client rejects nothing
 pub outside_frame : Accepted → (request : Request) (frame : Frame) (total : ℕ) (book : List Series) (image : Image) (sessions sessions' : List Session)
-    (holdings : List Holding) (end : DemoEnd) → IsSound (state_of book total sessions) → Mirrors sessions holdings
+    (holdings : List Holding) (end : End) → IsSound (state_of book total sessions) → Mirrors sessions holdings
     → StandsAfter total image sessions' (λ new. RepliedTo request frame (state_of book total sessions) new) → RejectsAs frame holdings end → IsOutside end
-outside_frame lacks request frame total book image sessions sessions' holdings DiskFault sound mirrors reply rejected = absurd rejected
-outside_frame lacks request frame total book image sessions sessions' holdings (Damaged page) sound mirrors reply rejected = absurd rejected
-outside_frame lacks request frame total book image sessions sessions' holdings (Missing key) sound mirrors reply rejected =
-    let never : client.Missing key ≡ client.NoMemory =
-    lacks request frame (state_of book total sessions) (state_of reply.book total sessions') holdings sound reply.so.0 mirrors (client.Missing key) rejected in
-    cc
-outside_frame lacks request frame total book image sessions sessions' holdings (BadCoefficient key) sound mirrors reply rejected =
-    let never : client.BadCoefficient key ≡ client.NoMemory =
-    lacks request frame (state_of book total sessions) (state_of reply.book total sessions') holdings sound reply.so.0 mirrors (client.BadCoefficient key) rejected in
-    cc
 outside_frame lacks request frame total book image sessions sessions' holdings NoMemory sound mirrors reply rejected = inr refl
+outside_frame lacks request frame total book image sessions sessions' holdings (Missing number) sound mirrors reply rejected =
+    let never : client.Missing rejected.0 ≡ client.NoMemory =
+    lacks request frame (state_of book total sessions) (state_of reply.book total sessions') holdings sound reply.so.0 mirrors (client.Missing rejected.0) rejected.2 in
+    cc
+outside_frame lacks request frame total book image sessions sessions' holdings (BadCoefficient number) sound mirrors reply rejected =
+    let never : client.BadCoefficient rejected.0 ≡ client.NoMemory =
+    lacks request frame (state_of book total sessions) (state_of reply.book total sessions') holdings sound reply.so.0 mirrors (client.BadCoefficient rejected.0) rejected.2 in
+    cc
+outside_frame lacks request frame total book image sessions sessions' holdings end sound mirrors reply rejected = absurd rejected
 
 pub outside_step : (error : ServiceError) → IsStepOutside error → IsOutside (end_of_step error)
 outside_step error (inl is) = inl (ap end_of_step is)

@@ -7,11 +7,14 @@ use Rattle.line_raster.specs.Canvas.{Canvas}
 use Rattle.request_lines.specs.declared.requests.Request.{Request}
 use Rattle.series_book.specs.declared.one_series.Series.{Series}
 use Rattle.stored_book.specs.Standing.{StandsForBook}
+use Rattle.chart_frames.specs.Frames.{key_number}
 use Rattle.chart_frames.specs.declared.frame.Frame.{Frame}
 use Rattle.zoom_session.specs.declared.session.Session.{Session}
 use Rattle.zoom_session.specs.Sessions.{is_open}
 use Rattle.chart_client.specs.declared.holding.Holding.{Holding}
+use Rattle.chart_client.specs.declared.errors.ClientError.{ClientError}
 use Rattle.chart_client.specs.declared.errors.ClientError.TheVariants as client
+use Rattle.om3_coeff.specs.declared.key.Key.{Key}
 use Rattle.chart_client.specs.Holdings.{holding_of}
 use Rattle.chart_client.specs.Accepting.{Accepts, Rejects}
 use Rattle.gate_pages.specs.declared.pages.Pages.{Ghosts}
@@ -22,8 +25,8 @@ use Rattle.chart_service.specs.Stepping.{RepliedTo, IsBadPage, state_of}
 use Rattle.drawn_replies.specs.Mirrors.{Mirrors, IsPictureOf}
 use Rattle.drawn_replies.specs.Pictures.{AcceptsAll}
 use Rattle.demo_workload.specs.declared.summaries.Summary.{Summary}
-use Rattle.demo_workload.specs.declared.demo_end.DemoEnd.{DemoEnd}
-use Rattle.demo_workload.specs.declared.demo_end.DemoEnd.TheVariants.{DiskFault, Damaged, Missing, BadCoefficient, NoMemory}
+use Rattle.run_ends.specs.declared.ending.End.{End}
+use Rattle.run_ends.specs.declared.ending.End.TheVariants.{NoMemory, DiskFault, DamagedPage, Missing, BadCoefficient}
 use Rattle.demo_workload.specs.Summaries.{summary_of, AddsReply}
 use Rattle.demo_workload.specs.Replying.{PicturesEach}
 
@@ -52,21 +55,25 @@ pub record AcceptsOne (old new : List Holding) : Type 0 where
   pub drawing : Option Canvas
   pub accepted : Accepts frame drawing old new
 
+-- a client rejects the frame for such an error of the key with this number
+abbrev pub RejectsKey : (Key → ClientError) → ℕ → Frame → List Holding → Type 0
+RejectsKey why number frame old = (key : Key) × (number ≡ key_number key) × Rejects frame (why key) old
+
 -- why a client doesn't accept a frame
-abbrev pub RejectsAs : Frame → List Holding → DemoEnd → Type 0
-RejectsAs frame old DiskFault = ⊥
-RejectsAs frame old (Damaged page) = ⊥
-RejectsAs frame old (Missing key) = Rejects frame (client.Missing key) old
-RejectsAs frame old (BadCoefficient key) = Rejects frame (client.BadCoefficient key) old
+abbrev pub RejectsAs : Frame → List Holding → End → Type 0
 RejectsAs frame old NoMemory = ⊤
+RejectsAs frame old (Missing number) = RejectsKey client.Missing number frame old
+RejectsAs frame old (BadCoefficient number) = RejectsKey client.BadCoefficient number frame old
+RejectsAs frame old end = ⊥
 
 -- why a request has no reply that the client accepts
-abbrev pub IsOneCause : DemoEnd → List Holding → Type 0 → View → View → Type 0
-IsOneCause DiskFault holdings told old new = HasRisen old.faults new.faults
-IsOneCause (Damaged page) holdings told old new = IsBadPage told new.size new.image page
-IsOneCause (Missing key) holdings told old new = (frame : Frame) × Rejects frame (client.Missing key) holdings
-IsOneCause (BadCoefficient key) holdings told old new = (frame : Frame) × Rejects frame (client.BadCoefficient key) holdings
+abbrev pub IsOneCause : End → List Holding → Type 0 → View → View → Type 0
 IsOneCause NoMemory holdings told old new = ⊤
+IsOneCause DiskFault holdings told old new = HasRisen old.faults new.faults
+IsOneCause (DamagedPage page) holdings told old new = IsBadPage told new.size new.image page
+IsOneCause (Missing number) holdings told old new = (frame : Frame) × RejectsKey client.Missing number frame holdings
+IsOneCause (BadCoefficient number) holdings told old new = (frame : Frame) × RejectsKey client.BadCoefficient number frame holdings
+IsOneCause end holdings told old new = ⊥
 
 -- the client accepted frames one after the other since it had nothing
 pub record HasAccepted (holdings : List Holding) : Type 0 where

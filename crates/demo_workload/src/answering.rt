@@ -2,6 +2,7 @@
 ghost use Rattle.std.specs.Prelude.{◌≡◌, ◌≢◌, ◌+◌, ◌<◌, ◌^◌, ℕ, None, Some, IfOk, IfErr, OnOk, Err};
 ghost use Rattle.chart_world.specs.Faults.{CountsFault, fault_in};
 ghost use Rattle.gate_pages.specs.Pages.{GoesOn};
+ghost use Rattle.run_ends.specs.Faults.{end_fault};
 ghost use Rattle.request_lines.specs.Requests.{IsInRange};
 ghost use Rattle.chart_frames.specs.Frames.{Fits};
 ghost use Rattle.chart_client.specs.Holdings.{holding_of};
@@ -9,12 +10,11 @@ ghost use Rattle.chart_client.specs.Accepting.{Accepts, session_in};
 ghost use Rattle.chart_service.specs.Shown as shown;
 ghost use Rattle.chart_service.specs.Stepping.{RepliedTo, IsBeforeOrAfter, Steps};
 ghost use Rattle.demo_workload.specs.Summaries.{IsSmall};
-ghost use Rattle.demo_workload.specs.Ending.{IfStopped, IsOutside, demo_fault, end_of_step};
+ghost use Rattle.demo_workload.specs.Ending.{IfStopped, IsOutside, end_of_step};
 ghost use Rattle.demo_workload.specs.Answering.{ForMirrored, KnowsOpen, AnswersOne, AcceptsOne, RejectsAs, IsOneCause};
 
-use crate::demo_end::DemoEnd;
 use crate::summaries::Summary;
-use chart_client::laws::frames_change_one_session;
+use chart_client::laws::{frames_change_one_session, frames_have_one_answer};
 use chart_client::{Client, ClientError};
 use chart_frames::laws::frames_are_limited;
 use chart_frames::{Frame, encode};
@@ -23,6 +23,7 @@ use drawn_replies::laws::clients_draw_requests;
 use gate_pages::Pages;
 use line_raster::Bitmap;
 use request_lines::Request;
+use run_ends::End;
 use std::alloc::Global;
 
 /// Answers a request, gives the frame to the client, and adds both to the summary. The client holds what
@@ -33,7 +34,7 @@ pub(crate) fn answer<P: Pages>(
     request: &Request,
     client: &mut Client,
     summary: &mut Summary,
-) -> Result<(), DemoEnd>
+) -> Result<(), End>
     requires fit { (shown.view service.old).fit }
     requires range { IsInRange request.now }
     requires known { KnowsOpen (shown.sessions service.old) client.old }
@@ -47,10 +48,10 @@ pub(crate) fn answer<P: Pages>(
     ensures known { OnOk result (KnowsOpen (shown.sessions service.new) client.new) }
     ensures accepts { OnOk result (AcceptsOne client.old client.new) }
     ensures cause { IfErr result (λ end. IsOneCause end client.old (shown.IsTold service.new) (shown.view service.old) (shown.view service.new)) }
-    ensures faults { CountsFault (fault_in demo_fault result) (shown.view service.old) (shown.view service.new) }
+    ensures faults { CountsFault (fault_in end_fault result) (shown.view service.old) (shown.view service.new) }
     ensures steps { Steps (shown.IsTold service.old) (shown.IsTold service.new) (shown.view service.old) (shown.view service.new) }
     ensures goes_on { GoesOn (shown.under service.old) (shown.under service.new) }
-    ensures fit { result ≢ Err DemoEnd.DiskFault → (shown.view service.new).fit }
+    ensures fit { result ≢ Err End.DiskFault → (shown.view service.new).fit }
     ensures total { shown.total service.new ≡ shown.total service.old }
     ensures small { OnOk result (IsSmall summary.new) }
     ensures requests { OnOk result (summary.new.requests ≡ summary.old.requests + 1) }
@@ -63,7 +64,7 @@ pub(crate) fn answer<P: Pages>(
         Err(error) => return Err(end_of_step(error)),
     };
     let Ok(bytes) = encode(alloc, &frame) else {
-        return Err(DemoEnd::NoMemory);
+        return Err(End::NoMemory);
     };
     let picture = match draw(client, &frame) {
         Ok(picture) => picture,
@@ -74,28 +75,29 @@ pub(crate) fn answer<P: Pages>(
 }
 
 /// What an error of a step is for the workload.
-fn end_of_step(error: ServiceError) -> DemoEnd
+fn end_of_step(error: ServiceError) -> End
     ensures { result ≡ end_of_step error }
 {
     match error {
-        ServiceError::DiskFault => DemoEnd::DiskFault,
-        ServiceError::Damaged { page } => DemoEnd::Damaged { page },
-        ServiceError::NoMemory => DemoEnd::NoMemory,
+        ServiceError::DiskFault => End::DiskFault,
+        ServiceError::Damaged { page } => End::DamagedPage { page },
+        ServiceError::NoMemory => End::NoMemory,
     }
 }
 
 /// Gives a frame to the client, which knows its session.
-fn draw(client: &mut Client, frame: &Frame) -> Result<Option<Bitmap>, DemoEnd>
+fn draw(client: &mut Client, frame: &Frame) -> Result<Option<Bitmap>, End>
     requires fits { Fits frame.now }
     requires named { (n : ℕ) → session_in frame.now ≡ Some n → holding_of n client.old ≡ None → ⊥ }
     ensures accepted { IfOk result (λ drawing. Accepts frame.now drawing client.old client.new) }
     ensures rejected { IfErr result (RejectsAs frame.now client.old) }
 {
+    frames_have_one_answer();
     match client.accept(frame) {
         Ok(picture) => Ok(picture),
-        Err(ClientError::Missing { key }) => Err(DemoEnd::Missing { key }),
-        Err(ClientError::BadCoefficient { key }) => Err(DemoEnd::BadCoefficient { key }),
+        Err(ClientError::Missing { key }) => Err(End::Missing { key: key.number() }),
+        Err(ClientError::BadCoefficient { key }) => Err(End::BadCoefficient { key: key.number() }),
         Err(ClientError::UnknownSession { .. }) => unreachable!(),
-        Err(ClientError::NoMemory) => Err(DemoEnd::NoMemory),
+        Err(ClientError::NoMemory) => Err(End::NoMemory),
     }
 }

@@ -14,7 +14,6 @@
 #![tactic(auto)]
 
 mod answering;
-pub mod demo_end;
 mod draws;
 mod plans;
 mod requests;
@@ -22,7 +21,6 @@ pub mod running;
 pub mod summaries;
 pub mod workloads;
 
-pub use demo_end::DemoEnd;
 pub use running::run_workload;
 pub use summaries::Summary;
 pub use workloads::Workload;

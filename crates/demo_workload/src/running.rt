@@ -3,20 +3,21 @@ ghost use Rattle.std.specs.Prelude.{◌≡◌, ◌≢◌, ◌≤◌, [], IfOk, I
 ghost use Rattle.block_disk.specs.View.{Now, Only};
 ghost use Rattle.chart_world.specs.Faults.{CountsFault, fault_in};
 ghost use Rattle.gate_pages.specs.Pages.{GoesOn};
+ghost use Rattle.run_ends.specs.Faults.{end_fault};
 ghost use Rattle.chart_service.specs.Shown as shown;
 ghost use Rattle.chart_service.specs.Stepping.{state_of};
 ghost use Rattle.demo_workload.specs.Workload.{workload};
 ghost use Rattle.demo_workload.specs.Replying.{Summarizes, IsPartWay, PassesPartWay};
-ghost use Rattle.demo_workload.specs.Ending.{IfStopped, IsOutside, IsCause, Runs, demo_fault};
+ghost use Rattle.demo_workload.specs.Ending.{IfStopped, IsOutside, IsCause, Runs};
 
 use crate::answering::answer;
-use crate::demo_end::DemoEnd;
 use crate::summaries::Summary;
 use crate::workloads::Workload;
 use chart_client::Client;
 use chart_service::Service;
 use gate_pages::Pages;
 use request_lines::Request;
+use run_ends::End;
 use std::alloc::Global;
 
 /// Gives each request of the workload of a seed with so many rounds to the service, in which no session is
@@ -26,14 +27,14 @@ use std::alloc::Global;
 ///
 /// At each moment a crash leaves the book behind some first requests. `DiskFault` comes only where the
 /// count of faults rose: then the store has to be opened again. With another error the pages stand for the
-/// book behind some first requests. `Damaged`, `Missing` and `BadCoefficient` never come where the pages
+/// book behind some first requests. `DamagedPage`, `Missing` and `BadCoefficient` never come where the pages
 /// stand for a book. Nothing is sent.
 pub fn run_workload<P: Pages>(
     alloc: Global,
     service: &mut Service<P>,
     seed: u64,
     count: u32,
-) -> Result<Summary, DemoEnd>
+) -> Result<Summary, End>
     requires fit { (shown.view service.old).fit }
     requires alone { shown.sessions service.old ≡ [] }
     requires rounds { count ≤ 4096 }
@@ -43,22 +44,22 @@ pub fn run_workload<P: Pages>(
     ensures left { shown.ForBook service.old (λ total book. IfStopped result (IsPartWay (workload seed count) total (state_of book total []) (shown.image service.new))) }
     // whatever the pages are
     ensures cause { IfErr result (λ end. IsCause end (shown.IsTold service.new) (shown.view service.old) (shown.view service.new)) }
-    ensures faults { CountsFault (fault_in demo_fault result) (shown.view service.old) (shown.view service.new) }
+    ensures faults { CountsFault (fault_in end_fault result) (shown.view service.old) (shown.view service.new) }
     ensures runs { Runs (shown.IsTold service.old) (shown.IsTold service.new) (shown.view service.old) (shown.view service.new) }
     ensures goes_on { GoesOn (shown.under service.old) (shown.under service.new) }
-    ensures fit { result ≢ Err DemoEnd.DiskFault → (shown.view service.new).fit }
-    ensures rests { result ≢ Err DemoEnd.DiskFault → Only (shown.image service.new) (Now (shown.view service.new)) }
+    ensures fit { result ≢ Err End.DiskFault → (shown.view service.new).fit }
+    ensures rests { result ≢ Err End.DiskFault → Only (shown.image service.new) (Now (shown.view service.new)) }
     ensures total { shown.total service.new ≡ shown.total service.old }
 {
     let _sound = service.is_sound();
     let mut workload = Workload::new(seed, count);
     let Ok(mut client) = Client::new(alloc) else {
-        return Err(DemoEnd::NoMemory);
+        return Err(End::NoMemory);
     };
     let mut summary = Summary::new();
     'requests: loop {
         let Ok(next) = workload.next(alloc) else {
-            return Err(DemoEnd::NoMemory);
+            return Err(End::NoMemory);
         };
         let Some(request) = next else {
             return Ok(summary);

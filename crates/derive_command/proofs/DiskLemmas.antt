@@ -1,5 +1,5 @@
 -- How lines end over the store of a disk, in the words of the disk.
-use Rattle.std.proofs.Common.{◌≡◌, ◌≢◌, ◌∙◌, ℕ, ◌+◌, ◌≤◌, ◌^◌, Bool, List, length, Option, Some, None, IfSome, refl, sym, subst, arith}
+use Rattle.std.proofs.Common.{◌≡◌, ◌≢◌, ◌∙◌, ℕ, ◌≤◌, ◌^◌, Bool, List, length, Option, Some, None, IfSome, refl, sym, subst, arith}
 use Rattle.block_disk.proofs.Passing.{passes_weaker}
 use Rattle.block_disk.specs.SentLaws.{sent_none}
 use Rattle.block_disk.specs.View.{Image, View, Honest, Now, Passes, sent_now}
@@ -13,6 +13,7 @@ use Rattle.disk_store.specs.declared.causes.OpeningCause.TheVariants as opening
 use Rattle.gate_pages.specs.GateLaws.{goes_then}
 use Rattle.gate_pages.specs.GatePages.{IsClosed, PagesOf, pages_view}
 use Rattle.gate_pages.specs.Journal.{page_count, pages_of}
+use Rattle.run_ends.specs.Statuses.{block_of}
 use Rattle.run_ends.specs.declared.ending.End.{End}
 use Rattle.run_ends.specs.declared.ending.End.TheVariants.{Done, NoMemory, ReadFault, SendFault, DiskFault, DamagedPage}
 use Rattle.run_ends.specs.declared.ending.End.TheVariants.{BadInput, InputTooLong, RefusedLine}
@@ -66,7 +67,7 @@ module _ (count count' : ℕ) (sound sound' : Bool) (first old new : View) (tota
   cause_on DiskFault within cause = risen_since first.faults old.faults new.faults quiet (cause (λ is. cc))
   cause_on (DamagedPage page) within cause =
       let is = cause (λ is. cc) in
-      let C : ℕ → Type 0 = λ n. IsDamagedLater IsBadForRequest n new (66 + page) in
+      let C : ℕ → Type 0 = λ n. IsDamagedLater IsBadForRequest n new (block_of page) in
       subst C counted (later_bad count count' new page goes.size (omega (arith, is.0, few, goes.size)) is.1)
   cause_on (BadInput at) within cause = tt
   cause_on InputTooLong within cause = tt

@@ -1,10 +1,11 @@
 -- How `derive` ends over the store of a disk.
-use Rattle.std.specs.Prelude.{◌≡◌, ℕ, ◌+◌, ◌*◌, ◌<◌, ◌≤◌, ◌^◌, List, length, Option, IfSome, ⊤}
+use Rattle.std.specs.Prelude.{◌≡◌, ℕ, ◌<◌, ◌≤◌, ◌^◌, List, length, Option, IfSome, ⊤}
 use Rattle.block_disk.specs.Counts.{HasRisen}
 use Rattle.block_disk.specs.View.{View}
 use Rattle.disk_store.specs.Held.{HoldsBook}
 use Rattle.gate_pages.specs.Journal.{page_count}
 use Rattle.gate_pages.specs.Pages.{GoesOn}
+use Rattle.run_ends.specs.Statuses.{block_of, refused_at}
 use Rattle.run_ends.specs.declared.ending.End.{End}
 use Rattle.run_ends.specs.declared.ending.End.TheVariants.{Done, NoMemory, ReadFault, SendFault, DiskFault, DamagedBlock, DamagedPage}
 use Rattle.run_ends.specs.declared.ending.End.TheVariants.{BadInput, InputTooLong, TooSmall, RefusedLine}
@@ -45,7 +46,7 @@ DerivesToBad count disk input place before now = OfBook count disk (λ total boo
 pub record IsRefusedAt (book : List Series) (input : List ℕ) (before now : Option (List ℕ)) (place : ℕ) : Type 0 where
   pub at : ℕ
   pub refusal : DeriveRefusal
-  pub place_is : place ≡ 256 * at + number_of refusal
+  pub place_is : place ≡ refused_at at (number_of refusal)
   pub draws : DrawsToRefused book input before now at refusal
 
 -- the answers to the lines before the first that is refused
@@ -60,7 +61,7 @@ IsDeriveCause ReadFault old new t = HasRisen t.reads t.reads_now
 IsDeriveCause SendFault old new t = HasRisen t.sends t.sends_now
 IsDeriveCause DiskFault old new t = HasRisen old.faults new.faults
 IsDeriveCause (DamagedBlock block) old new t = IsDamagedAtFirst old block × ((t.left_now ≡ t.left) × (t.sent_now ≡ t.sent))
-IsDeriveCause (DamagedPage page) old new t = IsDamagedLater IsBadForRequest (page_count old.size) new (66 + page)
+IsDeriveCause (DamagedPage page) old new t = IsDamagedLater IsBadForRequest (page_count old.size) new (block_of page)
 IsDeriveCause (BadInput at) old new t = ⊤
 IsDeriveCause InputTooLong old new t = ⊤
 IsDeriveCause (TooSmall blocks) old new t = (blocks ≡ old.size) × (old.size < 128)

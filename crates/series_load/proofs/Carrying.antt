@@ -6,8 +6,8 @@ use Rattle.gate_pages.specs.Pages.{GoesOn}
 use Rattle.gate_pages.specs.GateLaws.{goes_none, goes_then}
 use Rattle.series_store.specs.Groups.{GroupMoves}
 use Rattle.series_load.specs.Steps.{Carries, IsSetCause}
-use Rattle.series_load.specs.declared.load_end.LoadEnd.{LoadEnd}
-use Rattle.series_load.specs.declared.load_end.LoadEnd.TheVariants.{UnknownSeries, BadLine, Refused, ReadFault, InputTooLong, DiskFault, Damaged, NoMemory}
+use Rattle.run_ends.specs.declared.ending.End.{End}
+use Rattle.run_ends.specs.declared.ending.End.TheVariants.{DiskFault, DamagedPage}
 
 pub carries_none : (told : Type 0) (at under : View) (total count : ℕ) → Carries told told at at under under total total count count
 carries_none told at under total count = record {
@@ -50,16 +50,11 @@ risen_more old mid new same (inl risen) = inl (omega (arith, same, risen))
 risen_more old mid new same (inr last) = inr (omega (arith, same, last.0), last.1 ∙ same)
 
 -- why a later set wasn't done, where no fault was counted before
-pub fails_later : (told : Type 0) (total total' : ℕ) (old mid new : View) → mid.faults ≡ old.faults → total' ≡ total → (e : LoadEnd) → IsSetCause e told total' mid new → IsSetCause e told total old new
-fails_later told total total' old mid new quiet same UnknownSeries cause = cause
-fails_later told total total' old mid new quiet same (BadLine at) cause = cause
-fails_later told total total' old mid new quiet same (Refused at refusal) cause = cause
-fails_later told total total' old mid new quiet same ReadFault cause = cause
-fails_later told total total' old mid new quiet same InputTooLong cause = cause
+pub fails_later : (told : Type 0) (total total' : ℕ) (old mid new : View) → mid.faults ≡ old.faults → total' ≡ total → (e : End) → IsSetCause e told total' mid new → IsSetCause e told total old new
 fails_later told total total' old mid new quiet same DiskFault cause = risen_more old.faults mid.faults new.faults quiet cause
-fails_later told total total' old mid new quiet same (Damaged page) cause = (omega (arith, cause.0, same), cause.1)
-fails_later told total total' old mid new quiet same NoMemory cause = cause
+fails_later told total total' old mid new quiet same (DamagedPage page) cause = (omega (arith, cause.0, same), cause.1)
+fails_later told total total' old mid new quiet same end cause = cause
 
-pub fails_then : {T : Type 0} (result : Result T LoadEnd) (told : Type 0) (total total' : ℕ) (old mid new : View) → mid.faults ≡ old.faults → total' ≡ total → IfErr result (λ e. IsSetCause e told total' mid new) → IfErr result (λ e. IsSetCause e told total old new)
+pub fails_then : {T : Type 0} (result : Result T End) (told : Type 0) (total total' : ℕ) (old mid new : View) → mid.faults ≡ old.faults → total' ≡ total → IfErr result (λ e. IsSetCause e told total' mid new) → IfErr result (λ e. IsSetCause e told total old new)
 fails_then {T} (Ok v) told total total' old mid new quiet same cause = tt
 fails_then {T} (Err e) told total total' old mid new quiet same cause = fails_later told total total' old mid new quiet same e cause

@@ -21,11 +21,11 @@ use Rattle.series_store.specs.Opening.{IsOutside}
 use Rattle.series_store.specs.Results.{IsEditCause, IsUnchangedFor}
 use Rattle.series_store.specs.declared.errors.StoreError.{StoreError}
 use Rattle.series_store.specs.declared.errors.StoreError.TheVariants as store
-use Rattle.series_load.specs.Faults.{load_fault}
+use Rattle.run_ends.specs.Faults.{end_fault}
 use Rattle.series_load.specs.Runs.{Run}
 use Rattle.series_load.specs.Sets.{AreSets, IsAfter, IsPartDone, IsRefusedIn, Loads, set_of}
 use Rattle.series_load.specs.Steps.{Counts, DoesFirst, IsSetCause, IsSoundFor, NoBad, StopsSo, end_at}
-use Rattle.series_load.specs.declared.load_end.LoadEnd.{LoadEnd}
+use Rattle.run_ends.specs.declared.ending.End.{End}
 use Rattle.series_load.proofs.SetLemmas.{part_none, part_then, refused_then}
 
 abbrev sets_of : List ℕ → List Run → List Edit
@@ -189,7 +189,7 @@ group_moments total name book runs sets n old new are last time =
     ]) (λ count quiet. quiet) time
 
 -- some first sets were done, or the one behind them is refused
-pub counted : (total : ℕ) (name : List ℕ) (book : List Series) (runs : List Run) (sets : List Edit) (ats : List ℕ) (answers : List (Result Outcome Refusal)) (result : Result ℕ LoadEnd) (old new : View) → AreSets name runs sets ats → AreDone total book sets answers new.image
+pub counted : (total : ℕ) (name : List ℕ) (book : List Series) (runs : List Run) (sets : List Edit) (ats : List ℕ) (answers : List (Result Outcome Refusal)) (result : Result ℕ End) (old new : View) → AreSets name runs sets ats → AreDone total book sets answers new.image
     → RefuseLast total book (take (length answers) sets) → Passes old new (IsNoneOrAll total book sets (length answers)) (Quiet old) → Counts ats answers result → DoesFirst total name book runs result old new
 counted total name book runs sets ats answers (Ok count) old new are done last time counts =
     let n = length answers in
@@ -217,25 +217,29 @@ counted total name book runs sets ats answers (Err end) old new are done last ti
     let B : List Run → Type 0 = λ l. slice_get (map offset_of l) (n - 1) ≡ Some counts.at in
     let whole : take n runs ++ drop n runs ≡ runs = take-append-drop n runs in
     let I : List Run → Type 0 = λ l. IsRefusedIn total name book l counts.at counts.refusal new.image in
-    let E : LoadEnd → Type 0 = λ e. StopsSo NoBad total name book runs new.image e in
+    let E : End → Type 0 = λ e. StopsSo NoBad total name book runs new.image e in
     record {
       done = tt;
-      stops = subst E (sym counts.end_is) (subst I whole (refused_of total name (take n runs) (drop n runs) answers book counts.refusal counts.at new.image (subst P same done.answered) (subst R same last) counts.last
-          (subst B (sym whole) (subst A are.ats_are counts.at_is)) (subst S same done.stands)));
+      stops = subst E (sym counts.end_is) (record {
+        refusal = counts.refusal;
+        number_is = refl;
+        so = subst I whole (refused_of total name (take n runs) (drop n runs) answers book counts.refusal counts.at new.image (subst P same done.answered) (subst R same last) counts.last
+            (subst B (sym whole) (subst A are.ats_are counts.at_is)) (subst S same done.stands));
+      });
       moments = group_moments total name book runs sets n old new are.sets_are last time;
     }
 
-abbrev as_err : LoadEnd → Result ℕ LoadEnd
+abbrev as_err : End → Result ℕ End
 as_err end = Err end
 
-pub err_as : (end end' : LoadEnd) → end ≡ end' → as_err end ≡ as_err end'
+pub err_as : (end end' : End) → end ≡ end' → as_err end ≡ as_err end'
 err_as end end' same = ap as_err same
 
 -- none was, where a call of the disk failed or there was no memory
-pub group_failed : (total : ℕ) (name : List ℕ) (book : List Series) (runs : List Run) (sets : List Edit) (ats : List ℕ) (at : ℕ) (e : StoreError) (result : Result ℕ LoadEnd) (told : Type 0) (old new : View) → result ≡ Err (end_at at e) → AreSets name runs sets ats → told → StandsForBook old.image total book → IsOutside e
+pub group_failed : (total : ℕ) (name : List ℕ) (book : List Series) (runs : List Run) (sets : List Edit) (ats : List ℕ) (at : ℕ) (e : StoreError) (result : Result ℕ End) (told : Type 0) (old new : View) → result ≡ Err (end_at at e) → AreSets name runs sets ats → told → StandsForBook old.image total book → IsOutside e
     → IsUnchangedFor e told old new → PassesUntil total book sets old new → DoesFirst total name book runs result old new
 group_failed total name book runs sets ats at e result told old new is are says stands outside same passes =
-    let D : Result ℕ LoadEnd → Type 0 = λ r. DoesFirst total name book runs r old new in
+    let D : Result ℕ End → Type 0 = λ r. DoesFirst total name book runs r old new in
     subst D (sym is) (record {
       done = tt;
       stops = why e outside same;
@@ -256,7 +260,7 @@ group_failed total name book runs sets ats at e result told old new is are says 
 
 -- whatever the pages are
 
-pub counts_as : (ats : List ℕ) (answers given : List (Result Outcome Refusal)) (result : Result ℕ LoadEnd) → given ≡ answers → Counts ats given result → Counts ats answers result
+pub counts_as : (ats : List ℕ) (answers given : List (Result Outcome Refusal)) (result : Result ℕ End) → given ≡ answers → Counts ats given result → Counts ats answers result
 counts_as ats answers given result same counts = let P : List (Result Outcome Refusal) → Type 0 = λ l. Counts ats l result in subst P same counts
 
 pub edit_cause : (e : StoreError) (told : Type 0) (s : Superblock) (old new : View) → IsGroupCause e told s old new → IsEditCause e told s old new
@@ -266,28 +270,28 @@ edit_cause store.DiskFault told s old new cause = cause
 edit_cause (store.Damaged page) told s old new cause = cause
 edit_cause store.NoMemory told s old new cause = cause
 
-pub counted_cause : (ats : List ℕ) (answers : List (Result Outcome Refusal)) (result : Result ℕ LoadEnd) (told : Type 0) (total : ℕ) (old new : View) → Counts ats answers result → IfErr result (λ e. IsSetCause e told total old new)
+pub counted_cause : (ats : List ℕ) (answers : List (Result Outcome Refusal)) (result : Result ℕ End) (told : Type 0) (total : ℕ) (old new : View) → Counts ats answers result → IfErr result (λ e. IsSetCause e told total old new)
 counted_cause ats answers (Ok count) told total old new counts = tt
 counted_cause ats answers (Err end) told total old new counts =
-    let P : LoadEnd → Type 0 = λ e. IsSetCause e told total old new in
+    let P : End → Type 0 = λ e. IsSetCause e told total old new in
     subst P (sym counts.end_is) tt
 
-pub counted_faults : (ats : List ℕ) (answers : List (Result Outcome Refusal)) (result : Result ℕ LoadEnd) (old new : View) → Counts ats answers result → new.beside ≡ old.beside → new.faults ≡ old.faults → CountsFault (fault_in load_fault result) old new
+pub counted_faults : (ats : List ℕ) (answers : List (Result Outcome Refusal)) (result : Result ℕ End) (old new : View) → Counts ats answers result → new.beside ≡ old.beside → new.faults ≡ old.faults → CountsFault (fault_in end_fault result) old new
 counted_faults ats answers (Ok count) old new counts beside quiet = counts_no_disk old new beside quiet
 counted_faults ats answers (Err end) old new counts beside quiet =
-    let P : LoadEnd → Type 0 = λ e. CountsFault (load_fault e) old new in
+    let P : End → Type 0 = λ e. CountsFault (end_fault e) old new in
     subst P (sym counts.end_is) (counts_no_disk old new beside quiet)
 
-pub counted_sound : (ats : List ℕ) (answers : List (Result Outcome Refusal)) (result : Result ℕ LoadEnd) (new : View) → Counts ats answers result → new.fit → IfErr result (λ e. IsSoundFor e new)
+pub counted_sound : (ats : List ℕ) (answers : List (Result Outcome Refusal)) (result : Result ℕ End) (new : View) → Counts ats answers result → new.fit → IfErr result (λ e. IsSoundFor e new)
 counted_sound ats answers (Ok count) new counts fit = tt
 counted_sound ats answers (Err end) new counts fit =
-    let P : LoadEnd → Type 0 = λ e. IsSoundFor e new in
+    let P : End → Type 0 = λ e. IsSoundFor e new in
     subst P (sym counts.end_is) fit
 
-pub counted_most : (ats : List ℕ) (answers : List (Result Outcome Refusal)) (result : Result ℕ LoadEnd) (most : ℕ) → Counts ats answers result → length answers ≤ most → IfOk result (λ count. count ≤ most)
+pub counted_most : (ats : List ℕ) (answers : List (Result Outcome Refusal)) (result : Result ℕ End) (most : ℕ) → Counts ats answers result → length answers ≤ most → IfOk result (λ count. count ≤ most)
 counted_most ats answers (Ok count) most counts few = omega (arith, few, counts.0)
 counted_most ats answers (Err end) most counts few = tt
 
-pub counted_some : (ats : List ℕ) (answers : List (Result Outcome Refusal)) (result : Result ℕ LoadEnd) → Counts ats answers result → 0 < length answers → IfOk result (λ count. 0 < count)
+pub counted_some : (ats : List ℕ) (answers : List (Result Outcome Refusal)) (result : Result ℕ End) → Counts ats answers result → 0 < length answers → IfOk result (λ count. 0 < count)
 counted_some ats answers (Ok count) counts some = omega (arith, some, counts.0)
 counted_some ats answers (Err end) counts some = tt

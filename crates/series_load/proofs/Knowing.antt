@@ -15,8 +15,8 @@ use Rattle.series_load.specs.Rows.{AreTable}
 use Rattle.series_load.specs.Runs.{nothing}
 use Rattle.series_load.specs.Sets.{AreFirstOf, IsAfterSome, IsNamed}
 use Rattle.series_load.specs.Steps.{IsSoundFor}
-use Rattle.series_load.specs.declared.load_end.LoadEnd.{LoadEnd}
-use Rattle.series_load.specs.declared.load_end.LoadEnd.TheVariants.{UnknownSeries, NoMemory}
+use Rattle.run_ends.specs.declared.ending.End.{End}
+use Rattle.run_ends.specs.declared.ending.End.TheVariants.{UnknownSeries, NoMemory}
 use Rattle.series_load.proofs.Joined.{told_nothing}
 use Rattle.series_load.proofs.SetLemmas.{after_none}
 
@@ -44,11 +44,11 @@ pub not_named : (name : List ℕ) (book : List Series) (series : Series) → id_
 not_named name book series none named = let both : None ≡ Some named.id = sym none ∙ named.id_is in cc
 
 -- where one was, the name isn't unknown
-pub found_so : {T : Type 0} (name : List ℕ) (book : List Series) (info : SeriesInfo) (result : Result T LoadEnd) → Tells name book info
+pub found_so : {T : Type 0} (name : List ℕ) (book : List Series) (info : SeriesInfo) (result : Result T End) → Tells name book info
     → result ≢ Err UnknownSeries → ((result ≡ Err UnknownSeries) ↔ (id_of name book ≡ None))
 found_so name book info result tells known = (λ is. absurd (known is), λ none. let both : None ≡ Some info.id = sym none ∙ tells.0 in cc)
 
-pub no_memory_known : {T : Type 0} (result : Result T LoadEnd) (e : LoadEnd) → IsErrAnd result (λ x. x ≡ e) → e ≡ NoMemory
+pub no_memory_known : {T : Type 0} (result : Result T End) (e : End) → IsErrAnd result (λ x. x ≡ e) → e ≡ NoMemory
     → result ≢ Err UnknownSeries
 no_memory_known (Ok v) e is none same = absurd is
 no_memory_known (Err x) e is none same = let other : x ≡ NoMemory = is ∙ none in cc
@@ -73,12 +73,12 @@ some_at_first total name book series o image stands =
     record { runs = []; first = first_none series o; after = after_none total name book image stands }
 
 -- the load ended before a line was taken
-pub unstarted : (total : ℕ) (name : List ℕ) (book : List Series) (series : Series) (o : Option (List ℕ)) (e : LoadEnd)
-    (result : Result ℕ LoadEnd) (at : View) → IsErrAnd result (λ x. x ≡ e) → e ≡ NoMemory → IsAfterSome total name book series o at.image
+pub unstarted : (total : ℕ) (name : List ℕ) (book : List Series) (series : Series) (o : Option (List ℕ)) (e : End)
+    (result : Result ℕ End) (at : View) → IsErrAnd result (λ x. x ≡ e) → e ≡ NoMemory → IsAfterSome total name book series o at.image
     → Outcome total name book series o o result at at
 unstarted total name book series o e (Ok count) at is none some = absurd is
 unstarted total name book series o e (Err x) at is none some =
-    let E : LoadEnd → Type 0 = λ y. Stopped total name book series o o y at at in
+    let E : End → Type 0 = λ y. Stopped total name book series o o y at at in
     subst E (sym (is ∙ none))
     (record { ends = no_ends o; some = some; moments = passes_none at (IsAfterSome total name book series o) (Quiet at) })
   where
@@ -86,21 +86,21 @@ unstarted total name book series o e (Err x) at is none some =
     no_ends None = tt
     no_ends (Some input) = tt
 
-pub no_value : {T : Type 0} (result : Result T LoadEnd) (e : LoadEnd) (P : Type 0) → IsErrAnd result (λ x. x ≡ e) → OnOk result P
+pub no_value : {T : Type 0} (result : Result T End) (e : End) (P : Type 0) → IsErrAnd result (λ x. x ≡ e) → OnOk result P
 no_value (Ok v) e P is = absurd is
 no_value (Err x) e P is = tt
 
 -- want of memory
-pub no_memory_cause : {T : Type 0} (told : Type 0) (result : Result T LoadEnd) (e : LoadEnd) (total : ℕ) (old new : View)
+pub no_memory_cause : {T : Type 0} (told : Type 0) (result : Result T End) (e : End) (total : ℕ) (old new : View)
     (reads reads' : ℕ) → IsErrAnd result (λ x. x ≡ e) → e ≡ NoMemory → IfErr result (λ x. IsLoadCause x told total old new reads reads')
 no_memory_cause told (Ok v) e total old new reads reads' is none = tt
 no_memory_cause {T} told (Err x) e total old new reads reads' is none =
-    let P : LoadEnd → Type 0 = λ y. IsLoadCause y told total old new reads reads' in
+    let P : End → Type 0 = λ y. IsLoadCause y told total old new reads reads' in
     subst P (sym (is ∙ none)) tt
 
-pub no_memory_sound : {T : Type 0} (result : Result T LoadEnd) (e : LoadEnd) (new : View) → IsErrAnd result (λ x. x ≡ e) → e ≡ NoMemory
+pub no_memory_sound : {T : Type 0} (result : Result T End) (e : End) (new : View) → IsErrAnd result (λ x. x ≡ e) → e ≡ NoMemory
     → new.fit → IfErr result (λ x. IsSoundFor x new)
 no_memory_sound (Ok v) e new is none fit = tt
 no_memory_sound (Err x) e new is none fit =
-    let P : LoadEnd → Type 0 = λ y. IsSoundFor y new in
+    let P : End → Type 0 = λ y. IsSoundFor y new in
     subst P (sym (is ∙ none)) fit

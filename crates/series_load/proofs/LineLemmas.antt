@@ -16,9 +16,9 @@ use Rattle.series_load.specs.Fronts.{PlacedLine}
 use Rattle.series_load.specs.Rows.{Reading, IsRow, AreTable, IsBad}
 use Rattle.series_load.specs.Runs.{Run, Cut}
 use Rattle.series_load.specs.Steps.{Adds, Does, DoesLine, IsAtLine, IsAtText, KeepsRuns, LineAdds, LineLeaves, LineRuns, NoBad, Read, SaysSo, StopsSo, Took, closed, if_told}
-use Rattle.series_load.specs.declared.load_end.LoadEnd.{LoadEnd}
+use Rattle.run_ends.specs.declared.ending.End.{End}
 use Rattle.series_load.specs.Sets.{AreSets, IsPartDone}
-use Rattle.series_load.specs.declared.load_end.LoadEnd.TheVariants.{UnknownSeries, BadLine, Refused, ReadFault, InputTooLong, DiskFault, Damaged, NoMemory}
+use Rattle.run_ends.specs.declared.ending.End.TheVariants.{NoMemory, BadInput}
 use Rattle.series_load.specs.declared.kept_sets.KeptSets.{KeptSets}
 use Rattle.series_load.specs.declared.open_run.OpenRun.{OpenRun}
 use Rattle.series_load.specs.declared.open_run.Reading.{Reading as Kept}
@@ -130,7 +130,7 @@ took_nothing G name waiting old kept run gives keeps =
     record { ends = []; new = old; gives = gives; keeps = record { sets = subst P (sym (append-nil waiting)) keeps.sets; still = keeps.still } }
 
 -- a row of either kind was taken
-row_took : {T : Type 0} (scale step at : ℕ) (text : List ℕ) (first first' : Bool) (points points' : ℕ) (row : Option Reading) (name : List ℕ) (waiting : List Run) (old : Option Run) (result : Result T LoadEnd) (kept : KeptSets) (run : OpenRun) → 0 < length text → IsRow scale (placed at text) row → first' ≡ false → points' ≡ points + one_if row
+row_took : {T : Type 0} (scale step at : ℕ) (text : List ℕ) (first first' : Bool) (points points' : ℕ) (row : Option Reading) (name : List ℕ) (waiting : List Run) (old : Option Run) (result : Result T End) (kept : KeptSets) (run : OpenRun) → 0 < length text → IsRow scale (placed at text) row → first' ≡ false → points' ≡ points + one_if row
     → OnOk result (Took (Adds step old row) name waiting kept run) → OnOk result (Took (adds_at scale step at text first old points first' points') name waiting kept run)
 row_took {T} scale step at text first first' points points' row name waiting old (Ok v) kept run some is named count took =
     let N : ℕ → Type 0 = λ n. LineAdds scale step at text first old points took.ends false took.new n in
@@ -138,7 +138,7 @@ row_took {T} scale step at text first first' points points' row name waiting old
     record { ends = took.ends; new = took.new; gives = subst F (sym named) (subst N (sym count) (adds_row scale step at text first old points row took.ends took.new some is took.gives)); keeps = took.keeps }
 row_took {T} scale step at text first first' points points' row name waiting old (Err e) kept run some is named count took = tt
 
-pub point_took : {T : Type 0} (scale step at : ℕ) (text : List ℕ) (first first' : Bool) (points points' : ℕ) (time value : ℤ) (name : List ℕ) (waiting : List Run) (old : Option Run) (result : Result T LoadEnd) (kept : KeptSets) (run : OpenRun) → 0 < length text → Says scale text (row.Point time value) → first' ≡ false → points' ≡ points + 1
+pub point_took : {T : Type 0} (scale step at : ℕ) (text : List ℕ) (first first' : Bool) (points points' : ℕ) (time value : ℤ) (name : List ℕ) (waiting : List Run) (old : Option Run) (result : Result T End) (kept : KeptSets) (run : OpenRun) → 0 < length text → Says scale text (row.Point time value) → first' ≡ false → points' ≡ points + 1
     → OnOk result (Took (Adds step old (Some (record { at = at; time = time; value = value }))) name waiting kept run) → OnOk result (Took (adds_at scale step at text first old points first' points') name waiting kept run)
 point_took scale step at text first first' points points' time value name waiting old result kept run some says is count took =
     row_took scale step at text first first' points points' (Some (record { at = at; time = time; value = value })) name waiting old result kept run some (refl, says) is count took
@@ -146,7 +146,7 @@ point_took scale step at text first first' points points' time value name waitin
 gap_row : (scale at : ℕ) (text : List ℕ) → ((time : ℤ) × Says scale text (row.Skip time)) → IsRow scale (placed at text) None
 gap_row scale at text says = says
 
-pub gap_took : {T : Type 0} (scale step at : ℕ) (text : List ℕ) (first first' : Bool) (points points' : ℕ) (name : List ℕ) (waiting : List Run) (old : Option Run) (result : Result T LoadEnd) (kept : KeptSets) (run : OpenRun) → 0 < length text → SaysSo scale first text Gap → first' ≡ false → points' ≡ points
+pub gap_took : {T : Type 0} (scale step at : ℕ) (text : List ℕ) (first first' : Bool) (points points' : ℕ) (name : List ℕ) (waiting : List Run) (old : Option Run) (result : Result T End) (kept : KeptSets) (run : OpenRun) → 0 < length text → SaysSo scale first text Gap → first' ≡ false → points' ≡ points
     → OnOk result (KeepsRuns name (waiting ++ closed old) None kept run) → OnOk result (Took (adds_at scale step at text first old points first' points') name waiting kept run)
 gap_took {T} scale step at text first first' points points' name waiting old (Ok v) kept run some says is count ended =
     row_took {T = T} scale step at text first first' points points' None name waiting old (Ok v) kept run some (gap_row scale at text says) is (count ∙ omega arith)
@@ -156,7 +156,7 @@ gap_took {T} scale step at text first first' points points' name waiting old (Er
 -- ---- with the store
 
 module _ (scale step at : ℕ) (text : List ℕ) (first : Bool) (points total : ℕ) (name : List ℕ) (book : List Series) (waiting : List Run) (open_run : Option Run) where
-  abbrev Line : {T : Type 0} → Result T LoadEnd → Bool → ℕ → KeptSets → OpenRun → View → View → Type 0
+  abbrev Line : {T : Type 0} → Result T End → Bool → ℕ → KeptSets → OpenRun → View → View → Type 0
   Line {T} result first' points' kept run old new = DoesLine scale step at text first points total name book waiting open_run result first' points' kept run old new
 
   -- nothing was stored
@@ -168,10 +168,10 @@ module _ (scale step at : ℕ) (text : List ℕ) (first : Bool) (points total : 
     moments = passes_none now (LineLeaves scale step at text first points total name book waiting open_run) (Quiet now);
   }
 
-  pub line_starved : {T : Type 0} (e : LoadEnd) (result : Result T LoadEnd) (first' : Bool) (points' : ℕ) (kept : KeptSets) (run : OpenRun) (now : View) → IsErrAnd result (λ x. x ≡ e) → e ≡ NoMemory → StandsForBook now.image total book → Line result first' points' kept run now now
+  pub line_starved : {T : Type 0} (e : End) (result : Result T End) (first' : Bool) (points' : ℕ) (kept : KeptSets) (run : OpenRun) (now : View) → IsErrAnd result (λ x. x ≡ e) → e ≡ NoMemory → StandsForBook now.image total book → Line result first' points' kept run now now
   line_starved {T} e (Ok v) first' points' kept run now is none stands = absurd is
   line_starved {T} e (Err x) first' points' kept run now is none stands =
-      let P : LoadEnd → Type 0 = λ y. StopsSo (IsAtText scale at text first total name book (waiting ++ closed open_run) now.image) total name book waiting now.image y in
+      let P : End → Type 0 = λ y. StopsSo (IsAtText scale at text first total name book (waiting ++ closed open_run) now.image) total name book waiting now.image y in
       record {
         took = tt;
         stops = record { runs = waiting; are = inl refl; why = subst P (sym (is ∙ none)) (part_none total name book waiting now.image stands) };
@@ -179,7 +179,7 @@ module _ (scale step at : ℕ) (text : List ℕ) (first : Bool) (points total : 
       }
 
   -- the sets that were kept were done
-  pub line_committed : (result : Result (Unit {0}) LoadEnd) (first' : Bool) (points' : ℕ) (kept kept' : KeptSets) (run run' : OpenRun) (old new : View) → (took : Took (adds_at scale step at text first open_run points first' points') name waiting kept run) → run' ≡ run
+  pub line_committed : (result : Result (Unit {0}) End) (first' : Bool) (points' : ℕ) (kept kept' : KeptSets) (run run' : OpenRun) (old new : View) → (took : Took (adds_at scale step at text first open_run points first' points') name waiting kept run) → run' ≡ run
       → Does NoBad total name book (waiting ++ took.ends) result old new → OnOk result (KeepsRuns name [] took.new kept' run') → Line result first' points' kept' run' old new
   line_committed result first' points' kept kept' run run' old new took same does keeps =
       let runs = waiting ++ took.ends in
@@ -187,7 +187,7 @@ module _ (scale step at : ℕ) (text : List ℕ) (first : Bool) (points total : 
       by result does keeps (passes_weaker old new (IsPartDone total name book runs) (LineLeaves scale step at text first points total name book waiting open_run) (Quiet old) (Quiet old)
       (λ image part. record { runs = runs; are = are; part = part }) (λ count quiet. quiet) does.moments) are
     where
-      by : (r : Result (Unit {0}) LoadEnd) → Does NoBad total name book (waiting ++ took.ends) r old new → OnOk r (KeepsRuns name [] took.new kept' run')
+      by : (r : Result (Unit {0}) End) → Does NoBad total name book (waiting ++ took.ends) r old new → OnOk r (KeepsRuns name [] took.new kept' run')
           → Passes old new (LineLeaves scale step at text first points total name book waiting open_run) (Quiet old) → LineRuns scale step at text first points waiting open_run (waiting ++ took.ends) → Line r first' points' kept' run' old new
       by (Ok v) does keeps time are = record {
         took = record { ends = took.ends; new = took.new; adds = took.gives; done = waiting ++ took.ends; later = []; split = sym (append-nil (waiting ++ took.ends)); after = does.done; keeps = keeps };
@@ -201,7 +201,7 @@ module _ (scale step at : ℕ) (text : List ℕ) (first : Bool) (points total : 
       }
 
   -- at a bad line
-  pub line_stopped : {T U : Type 0} (e : LoadEnd) (first' : Bool) (points' : ℕ) (kept : KeptSets) (run : OpenRun) (old new : View) → 0 < length text → SaysSo scale first text Bad
+  pub line_stopped : {T U : Type 0} (e : End) (first' : Bool) (points' : ℕ) (kept : KeptSets) (run : OpenRun) (old new : View) → 0 < length text → SaysSo scale first text Bad
       → Does {T = U} (IsAtLine at total name book (waiting ++ closed open_run) new.image) total name book (waiting ++ closed open_run) (Err e) old new → Line {T = T} (Err e) first' points' kept run old new
   line_stopped {T} {U} e first' points' kept run old new some bad does =
       let runs = waiting ++ closed open_run in
@@ -213,13 +213,7 @@ module _ (scale step at : ℕ) (text : List ℕ) (first : Bool) (points total : 
             (λ image part. record { runs = runs; are = are; part = part }) (λ count quiet. quiet) does.moments;
       }
     where
-      at_text : (e : LoadEnd) → StopsSo (IsAtLine at total name book (waiting ++ closed open_run) new.image) total name book (waiting ++ closed open_run) new.image e
+      at_text : (e : End) → StopsSo (IsAtLine at total name book (waiting ++ closed open_run) new.image) total name book (waiting ++ closed open_run) new.image e
           → StopsSo (IsAtText scale at text first total name book (waiting ++ closed open_run) new.image) total name book (waiting ++ closed open_run) new.image e
-      at_text UnknownSeries why = why
-      at_text (BadLine place) why = record { at_line = why; some = some; bad = bad }
-      at_text (Refused place refusal) why = why
-      at_text ReadFault why = why
-      at_text InputTooLong why = why
-      at_text DiskFault why = why
-      at_text (Damaged page) why = why
-      at_text NoMemory why = why
+      at_text (BadInput place) why = record { at_line = why; some = some; bad = bad }
+      at_text end why = why

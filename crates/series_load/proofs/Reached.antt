@@ -12,23 +12,25 @@ use Rattle.chart_world.specs.declared.line_answer.LineFault.TheVariants as fault
 use Rattle.gate_pages.specs.Pages.{Quiet}
 use Rattle.line_runs.specs.Carried.{Carries, Done}
 use Rattle.line_runs.specs.CarriedLaws.{carries_both}
-use Rattle.line_runs.specs.Given.{AreBefore, Given, Line, Pause, End, given_from, given_lines, unpaused}
+use Rattle.line_runs.specs.Ends.{stop_end}
+use Rattle.line_runs.specs.Given.{AreBefore, Given, Line, Pause, given_from, given_lines, unpaused}
 use Rattle.line_runs.specs.Given as lines_given
 use Rattle.line_runs.specs.Moments.{Since}
 use Rattle.line_runs.specs.Runs as runs
 use Rattle.line_runs.specs.declared.lines_stop.LinesStop.{LinesStop}
 use Rattle.line_runs.specs.declared.lines_stop.LinesStop.TheVariants as stop
 use Rattle.series_book.specs.declared.one_series.Series.{Series}
+use Rattle.series_book.specs.declared.refusals.Refusal.{Refusal}
 use Rattle.stored_book.specs.Standing.{StandsForBook}
-use Rattle.series_load.specs.Ends.{EndsLoad, Finished, IsAtBad, IsLoaded, KeepsSome, Stopped}
+use Rattle.series_load.specs.Ends.{EndsLoad, Finished, IsAtBad, IsAtRefusal, IsLoaded, KeepsSome, Stopped}
 use Rattle.series_load.specs.Fronts.{PlacedLine, placed_from, told}
-use Rattle.series_load.specs.Loading.{BadBy, Held, LoadDoes, LoadLeaves, LoadStops, NoneSent, RunsBy, StandsSo, end_of_stop, moved}
+use Rattle.series_load.specs.Loading.{BadBy, Held, LoadDoes, LoadLeaves, LoadStops, NoneSent, RunsBy, StandsSo, moved}
 use Rattle.series_load.specs.Rows.{AreTable, BadEarly, Stops}
 use Rattle.series_load.specs.Runs.{AllRuns, AreFirst, Run, nothing}
-use Rattle.series_load.specs.Sets.{AreFirstOf, IsAfter, IsAfterSome, IsPartDone, Loads}
+use Rattle.series_load.specs.Sets.{AreFirstOf, IsAfter, IsAfterSome, IsPartDone, IsRefusedIn, Loads}
 use Rattle.series_load.specs.Steps.{LineAdds, Read, SaysSo, StopsSo, closed, if_told}
-use Rattle.series_load.specs.declared.load_end.LoadEnd.{LoadEnd}
-use Rattle.series_load.specs.declared.load_end.LoadEnd.TheVariants.{UnknownSeries, BadLine, Refused, ReadFault, InputTooLong, DiskFault, Damaged, NoMemory}
+use Rattle.run_ends.specs.declared.ending.End.{End}
+use Rattle.run_ends.specs.declared.ending.End.TheVariants.{NoMemory, ReadFault, DiskFault, BadInput, InputTooLong, Refused}
 use Rattle.series_load.specs.declared.loader.Loader.{Loader}
 use Rattle.series_load.specs.declared.said.Said.TheVariants.{Bad}
 use Rattle.series_load.proofs.FirstLemmas.{first_of}
@@ -44,13 +46,13 @@ abbrev told_of : List Given → List PlacedLine
 told_of [] = []
 told_of (Line at line ∷ later) = if_told at line ++ told_of later
 told_of (Pause ∷ later) = told_of later
-told_of (End ∷ later) = told_of later
+told_of (lines_given.End ∷ later) = told_of later
 
 abbrev AreLines : List Given → Type 0
 AreLines [] = Unit {0}
 AreLines (Line at line ∷ later) = AreLines later
 AreLines (Pause ∷ later) = AreLines later
-AreLines (End ∷ later) = ⊥
+AreLines (lines_given.End ∷ later) = ⊥
 
 told_from : (at : ℕ) (parts : List (List ℕ)) → told_of (given_from at parts) ≡ filter (λ (line : PlacedLine). says line.text)
     (placed_from at parts)
@@ -78,13 +80,13 @@ told_unpaused : (given : List Given) → told_of given ≡ told_of (unpaused giv
 told_unpaused [] = refl
 told_unpaused (Line at line ∷ later) = ap (λ l. if_told at line ++ l) (told_unpaused later)
 told_unpaused (Pause ∷ later) = told_unpaused later
-told_unpaused (End ∷ later) = told_unpaused later
+told_unpaused (lines_given.End ∷ later) = told_unpaused later
 
 lines_unpaused : (given : List Given) → AreLines (unpaused given) → AreLines given
 lines_unpaused [] only = tt
 lines_unpaused (Line at line ∷ later) only = lines_unpaused later only
 lines_unpaused (Pause ∷ later) only = lines_unpaused later only
-lines_unpaused (End ∷ later) only = only
+lines_unpaused (lines_given.End ∷ later) only = only
 
 -- ---- what was done of them
 
@@ -169,7 +171,7 @@ reached (Pause ∷ later) held text behind follows =
       reads = rest.reads;
       behind_is = rest.behind_is;
     }
-reached (End ∷ later) held text behind follows =
+reached (lines_given.End ∷ later) held text behind follows =
     let did = follows.does in
     let P : Held → Type 0 = λ h. Reached h later behind in
     let rest : Reached (moved held did.book [] held.first None held.points) later behind = subst P did.behind_is
@@ -383,7 +385,7 @@ module _ (total : ℕ) (name : List ℕ) (book : List Series) (series : Series) 
           ]
         ]
     next_first Pause input b runs are = as_waiting input runs are (heard_first series.scale series.step input r.runs r.first r.open_run r.points (heard input b.first))
-    next_first End input b runs are =
+    next_first lines_given.End input b runs are =
         let h = heard input b.first in
         with_open input runs are (stop_first series.scale series.step input r.runs r.first r.open_run r.points h (inl b.next_is))
 
@@ -447,7 +449,7 @@ module _ (total : ℕ) (name : List ℕ) (book : List Series) (series : Series) 
         bad_at input place image h (bad.at_line.at_is ∙ b.next_is.0)
         (bad_text series.scale series.step input r.runs r.first r.open_run r.points h text next bad.some bad.bad) bad.at_line.after
     next_bad Pause input place image b bad = absurd bad
-    next_bad End input place image b bad = absurd bad
+    next_bad lines_given.End input place image b bad = absurd bad
 
     bad_some : (it : Given) (o : Option (List ℕ)) (place : ℕ) (image : Image) → IfSome o (λ input. AreBefore input done.given it)
         → BadBy there it image place → IsAfterSome total name book series o image
@@ -457,28 +459,12 @@ module _ (total : ℕ) (name : List ℕ) (book : List Series) (series : Series) 
         ended_so o image (r.waiting ++ closed r.open_run) (next_firsts (Line at (Some text)) o are (r.waiting ++ closed r.open_run)
         (inr (inr (record { some = bad.some; bad = bad.bad; runs_are = refl })))) bad.at_line.after
     bad_some Pause o place image are bad = absurd bad
-    bad_some End o place image are bad = absurd bad
+    bad_some lines_given.End o place image are bad = absurd bad
 
-    -- where the work stopped
-    keeps_so : (it : Given) (o : Option (List ℕ)) (runs : List Run) (image : Image) (end : LoadEnd) → IfSome o (λ input. AreBefore input done.given it)
-        → RunsBy there it runs → StopsSo (BadBy there it image) total name r.book runs image end → KeepsSome total name book series o image end
-    keeps_so it o runs image UnknownSeries are by why = absurd why
-    keeps_so it o runs image (BadLine at) are by why = bad_some it o at image are why
-    keeps_so it o runs image (Refused at refusal) are by why =
-        part_so o image runs (next_firsts it o are runs by)
-        (record { done = why.done; later = why.run ∷ why.later; split = why.split; after = record { new = why.new; loads = why.loads; stands = why.stands } })
-    keeps_so it o runs image ReadFault are by why = absurd why
-    keeps_so it o runs image InputTooLong are by why = absurd why
-    keeps_so it o runs image DiskFault are by why = tt
-    keeps_so it o runs image (Damaged page) are by why = absurd why
-    keeps_so it o runs image NoMemory are by why = part_so o image runs (next_firsts it o are runs by) why
-
-    ends_so : (it : Given) (input : List ℕ) (left : Option (List ℕ)) (runs : List Run) (image : Image) (end : LoadEnd) → AreBefore input done.given it
-        → RunsBy there it runs → StopsSo (BadBy there it image) total name r.book runs image end → EndsLoad total name book series input left image
-        end
-    ends_so it input left runs image UnknownSeries are by why = absurd why
-    ends_so it input left runs image (BadLine at) are by why = next_bad it input at image are why
-    ends_so it input left runs image (Refused at refusal) are by why =
+    -- the set of a run was refused
+    refused_so : (it : Given) (input : List ℕ) (runs : List Run) (at : ℕ) (refusal : Refusal) (image : Image) → AreBefore input done.given it → RunsBy there it runs
+        → IsRefusedIn total name r.book runs at refusal image → IsAtRefusal total name book series input at refusal image
+    refused_so it input runs at refusal image are by why =
         let P : List Run → Type 0 = AreFirst series.scale series.step input in
         record {
           runs = r.done ++ why.done;
@@ -492,11 +478,27 @@ module _ (total : ℕ) (name : List ℕ) (book : List Series) (series : Series) 
           refused = why.refused;
           stands = why.stands;
         }
-    ends_so it input left runs image ReadFault are by why = absurd why
-    ends_so it input left runs image InputTooLong are by why = absurd why
-    ends_so it input left runs image DiskFault are by why = tt
-    ends_so it input left runs image (Damaged page) are by why = absurd why
+
+    -- where the work stopped
+    keeps_so : (it : Given) (o : Option (List ℕ)) (runs : List Run) (image : Image) (end : End) → IfSome o (λ input. AreBefore input done.given it)
+        → RunsBy there it runs → StopsSo (BadBy there it image) total name r.book runs image end → KeepsSome total name book series o image end
+    keeps_so it o runs image NoMemory are by why = part_so o image runs (next_firsts it o are runs by) why
+    keeps_so it o runs image DiskFault are by why = tt
+    keeps_so it o runs image (BadInput at) are by why = bad_some it o at image are why
+    keeps_so it o runs image (Refused at number) are by why =
+        let it_is = why.so in
+        part_so o image runs (next_firsts it o are runs by)
+        (record { done = it_is.done; later = it_is.run ∷ it_is.later; split = it_is.split; after = record { new = it_is.new; loads = it_is.loads; stands = it_is.stands } })
+    keeps_so it o runs image end are by why = absurd why
+
+    ends_so : (it : Given) (input : List ℕ) (left : Option (List ℕ)) (runs : List Run) (image : Image) (end : End) → AreBefore input done.given it
+        → RunsBy there it runs → StopsSo (BadBy there it image) total name r.book runs image end → EndsLoad total name book series input left image
+        end
     ends_so it input left runs image NoMemory are by why = tt
+    ends_so it input left runs image DiskFault are by why = tt
+    ends_so it input left runs image (BadInput at) are by why = next_bad it input at image are why
+    ends_so it input left runs image (Refused at number) are by why = record { refusal = why.refusal; number_is = why.number_is; so = refused_so it input runs at why.refusal image are by why.so }
+    ends_so it input left runs image end are by why = absurd why
 
     -- behind a pause no run waits
     none_waits : lines_given.EndsPaused done.given → r.runs ≡ r.done
@@ -590,7 +592,7 @@ module _ (total : ℕ) (name : List ℕ) (book : List Series) (series : Series) 
     loaded_both input within all =
         let P : List Given → Type 0 = λ l. Carries LoadDoes start l all.done.text all.done.behind in
         let are = all.are in
-        let both = carries_both LoadDoes are.earlier (End ∷ []) start all.done.text all.done.behind
+        let both = carries_both LoadDoes are.earlier (lines_given.End ∷ []) start all.done.text all.done.behind
         (subst P are.given_are all.done.carries) in
         let done : Done LoadDoes start = record
         { given = are.earlier; text = both.begin; behind = both.between; carries = both.begins } in
@@ -603,7 +605,7 @@ module _ (total : ℕ) (name : List ℕ) (book : List Series) (series : Series) 
         } in
         let h = heard done input f in
         let at = r done in
-        let E : Held → Type 0 = λ b. Carries LoadDoes b (End ∷ []) both.more all.done.behind in
+        let E : Held → Type 0 = λ b. Carries LoadDoes b (lines_given.End ∷ []) both.more all.done.behind in
         let last = subst E at.behind_is both.others in
         let did = last.does in
         let S : Held → Type 0 = λ b. StandsForBook image b.total b.book × (b.points ≡ points) in
@@ -645,12 +647,12 @@ module _ (total : ℕ) (name : List ℕ) (book : List Series) (series : Series) 
 
   -- not all of it was
   pub stopped_so : (told : Type 0) (loader : Loader) (o left before now : Option (List ℕ)) (pieces pieces' : ℕ) (old new : View)
-      (stop : LinesStop LoadEnd) → since ≡ old.clock → count ≡ sent_now old
+      (stop : LinesStop End) → since ≡ old.clock → count ≡ sent_now old
       → runs.StopsSo LoadDoes (λ held it end was. LoadStops held it new end) (StandsSo told new loader) start o
       left before now pieces pieces' stop
       → Since old new
       (runs.IsAhead LoadDoes (λ held i. StandsForBook i held.total held.book) LoadLeaves start o before (sent_now old))
-      → Stopped total name book series o left (end_of_stop stop) old new
+      → Stopped total name book series o left (stop_end stop) old new
   stopped_so told loader o left before now pieces pieces' old new (stop.Fault fault.ReadFault) since_is count_is is lasts =
       let stands = transport is.done (λ h. StandsForBook new.image h.total h.book) is.stands.stands in
       let quiet = transport is.done (λ h. NoneSent h.since h.count new) is.stands.quiet in

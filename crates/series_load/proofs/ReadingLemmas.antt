@@ -6,7 +6,7 @@ use Rattle.std.proofs.lemmas.List.{append-nil, map-append, length-map}
 use Rattle.series_load.specs.Rows.{Reading}
 use Rattle.series_load.specs.Runs.{Run, readings, last_reading, Follows}
 use Rattle.series_load.specs.Steps.{Adds, Keeps, KeepsRun, KeepsRuns, Took, closed}
-use Rattle.series_load.specs.declared.load_end.LoadEnd.{LoadEnd}
+use Rattle.run_ends.specs.declared.ending.End.{End}
 use Rattle.series_load.specs.Sets.{AreSets}
 use Rattle.series_load.specs.declared.kept_sets.KeptSets.{KeptSets}
 use Rattle.series_load.specs.declared.open_run.OpenRun.{OpenRun}
@@ -46,7 +46,7 @@ keeps_more run kept kept' next keeps at time last values = record {
 }
 
 -- the run that stood open is kept, and the reading begins another
-pub begins : {T : Type 0} (step : ℕ) (name : List ℕ) (waiting : List Run) (old : Option Run) (next : Reading) (sets : KeptSets) (mid kept : OpenRun) (result : Result T LoadEnd) → IsApart step old next → KeepsRuns name (waiting ++ closed old) None sets mid
+pub begins : {T : Type 0} (step : ℕ) (name : List ℕ) (waiting : List Run) (old : Option Run) (next : Reading) (sets : KeptSets) (mid kept : OpenRun) (result : Result T End) → IsApart step old next → KeepsRuns name (waiting ++ closed old) None sets mid
     → OnOk result (kept.at ≡ next.at) → OnOk result (kept.time ≡ next.time) → OnOk result (kept.last ≡ next.time) → OnOk result (kept.values.items ≡ next.value ∷ []) → OnOk result (Took (Adds step old (Some next)) name waiting sets kept)
 begins {T} step name waiting old next sets mid kept (Ok v) apart keeps at time last values = record {
   ends = closed old;
@@ -73,7 +73,7 @@ goes_on step name waiting old next sets kept kept' goes are keeps few =
     }
 
 -- or is, and ends
-pub fills : {T : Type 0} (step : ℕ) (name : List ℕ) (waiting : List Run) (old : Option Run) (next : Reading) (kept kept' kept'' : OpenRun) (sets : KeptSets) (result : Result T LoadEnd) → (goes : GoesWith step old kept next) → KeepsRun (run_more goes.run next) kept' → 256 ≤ length kept'.values.items
+pub fills : {T : Type 0} (step : ℕ) (name : List ℕ) (waiting : List Run) (old : Option Run) (next : Reading) (kept kept' kept'' : OpenRun) (sets : KeptSets) (result : Result T End) → (goes : GoesWith step old kept next) → KeepsRun (run_more goes.run next) kept' → 256 ≤ length kept'.values.items
     → OnOk result (KeepsRuns name (waiting ++ closed (Some (run_more goes.run next))) None sets kept'') → OnOk result (Took (Adds step old (Some next)) name waiting sets kept'')
 fills {T} step name waiting old next kept kept' kept'' sets (Ok v) goes keeps many ended =
     let P : Option Run → Type 0 = λ o. Adds step o (Some next) (run_more goes.run next ∷ []) None in

@@ -25,8 +25,8 @@ use Rattle.series_load.specs.Rows.{Reading}
 use Rattle.series_load.specs.Runs.{Run, readings}
 use Rattle.series_load.specs.Sets.{AreEdits, AreSets, IsAfter, IsPartDone, IsRefusedIn, Loads, set_of}
 use Rattle.series_load.specs.Steps.{Does, DoesFirst, IsAtLine, IsSetCause, Keeps, KeepsRun, KeepsRuns, NoBad, StopsSo, closed, end_at}
-use Rattle.series_load.specs.declared.load_end.LoadEnd.{LoadEnd}
-use Rattle.series_load.specs.declared.load_end.LoadEnd.TheVariants.{UnknownSeries, BadLine, Refused, ReadFault, InputTooLong, DiskFault, Damaged, NoMemory}
+use Rattle.run_ends.specs.declared.ending.End.{End}
+use Rattle.run_ends.specs.declared.ending.End.TheVariants.{NoMemory, BadInput, Refused}
 use Rattle.series_load.specs.declared.kept_sets.KeptSets.{KeptSets}
 use Rattle.series_load.specs.declared.open_run.OpenRun.{OpenRun}
 
@@ -138,15 +138,11 @@ refused_then total name book mid first second at refusal image loads is = record
   stands = is.stands;
 }
 
-pub stops_then : (total : ℕ) (name : List ℕ) (book mid : List Series) (first second : List Run) (image : Image) (e : LoadEnd) → Loads total name book first mid → StopsSo NoBad total name mid second image e → StopsSo NoBad total name book (first ++ second) image e
-stops_then total name book mid first second image UnknownSeries loads why = why
-stops_then total name book mid first second image (BadLine at) loads why = why
-stops_then total name book mid first second image (Refused at refusal) loads why = refused_then total name book mid first second at refusal image loads why
-stops_then total name book mid first second image ReadFault loads why = why
-stops_then total name book mid first second image InputTooLong loads why = why
-stops_then total name book mid first second image DiskFault loads why = why
-stops_then total name book mid first second image (Damaged page) loads why = why
+pub stops_then : (total : ℕ) (name : List ℕ) (book mid : List Series) (first second : List Run) (image : Image) (e : End) → Loads total name book first mid → StopsSo NoBad total name mid second image e → StopsSo NoBad total name book (first ++ second) image e
 stops_then total name book mid first second image NoMemory loads why = part_then total name book mid first second image loads why
+stops_then total name book mid first second image (Refused at number) loads why =
+    record { refusal = why.refusal; number_is = why.number_is; so = refused_then total name book mid first second at why.refusal image loads why.so }
+stops_then total name book mid first second image end loads why = why
 
 part_moments : (total : ℕ) (name : List ℕ) (book mid_book : List Series) (first second : List Run) (old new : View) → Loads total name book first mid_book → Passes old new (IsPartDone total name mid_book second) (Quiet old) → Passes old new (IsPartDone total name book (first ++ second)) (Quiet old)
 part_moments total name book mid_book first second old new loads time =
@@ -154,7 +150,7 @@ part_moments total name book mid_book first second old new loads time =
     (λ image part. part_then total name book mid_book first second image loads part) (λ count quiet. quiet) time
 
 -- some first sets, and then the others
-pub does_then : (total : ℕ) (name : List ℕ) (book : List Series) (runs : List Run) (count : ℕ) (result : Result (Unit {0}) LoadEnd) (old mid new : View) → (first : DoesFirst total name book runs (Ok count) old mid) → Does NoBad total name first.done.new (drop count runs) result mid new → Does NoBad total name book runs result old new
+pub does_then : (total : ℕ) (name : List ℕ) (book : List Series) (runs : List Run) (count : ℕ) (result : Result (Unit {0}) End) (old mid new : View) → (first : DoesFirst total name book runs (Ok count) old mid) → Does NoBad total name first.done.new (drop count runs) result mid new → Does NoBad total name book runs result old new
 does_then total name book runs count result old mid new first second =
     let all : List Run = take count runs ++ drop count runs in
     let P : List Run → Type 0 = λ r. Does NoBad total name book r result old new in
@@ -163,7 +159,7 @@ does_then total name book runs count result old mid new first second =
     subst P same (by result second.done second.stops (time_then old mid new (IsPartDone total name book all) (subst Q (sym same) first.moments)
     (part_moments total name book first.done.new (take count runs) (drop count runs) mid new first.done.loads second.moments)))
   where
-    by : (r : Result (Unit {0}) LoadEnd) → OnOk r (IsAfter total name first.done.new (drop count runs) new.image) → IfErr r (λ e. StopsSo NoBad total name first.done.new (drop count runs) new.image e)
+    by : (r : Result (Unit {0}) End) → OnOk r (IsAfter total name first.done.new (drop count runs) new.image) → IfErr r (λ e. StopsSo NoBad total name first.done.new (drop count runs) new.image e)
         → Passes old new (IsPartDone total name book (take count runs ++ drop count runs)) (Quiet old) → Does NoBad total name book (take count runs ++ drop count runs) r old new
     by (Ok v) done stops time = record { done = after_then total name book first.done.new (take count runs) (drop count runs) new.image first.done.loads done; stops = tt; moments = time }
     by (Err e) done stops time = record { done = tt; stops = stops_then total name book first.done.new (take count runs) (drop count runs) new.image e first.done.loads stops; moments = time }
@@ -173,34 +169,28 @@ does_none total name book [] v at none stands = record { done = after_none total
 does_none total name book (run ∷ runs) v at none stands = absurd (omega (arith, none))
 
 -- an error that is passed on
-pub err_passes : (total : ℕ) (name : List ℕ) (book : List Series) (runs : List Run) (e : LoadEnd) (result : Result (Unit {0}) LoadEnd) (old new : View) → IsErrAnd result (λ x. x ≡ e) → StopsSo NoBad total name book runs new.image e → Passes old new (IsPartDone total name book runs) (Quiet old) → Does NoBad total name book runs result old new
+pub err_passes : (total : ℕ) (name : List ℕ) (book : List Series) (runs : List Run) (e : End) (result : Result (Unit {0}) End) (old new : View) → IsErrAnd result (λ x. x ≡ e) → StopsSo NoBad total name book runs new.image e → Passes old new (IsPartDone total name book runs) (Quiet old) → Does NoBad total name book runs result old new
 err_passes total name book runs e (Ok v) old new is stops time = absurd is
 err_passes total name book runs e (Err x) old new is stops time =
-    let P : LoadEnd → Type 0 = λ y. StopsSo NoBad total name book runs new.image y in
+    let P : End → Type 0 = λ y. StopsSo NoBad total name book runs new.image y in
     record { done = tt; stops = subst P (sym is) stops; moments = time }
 
 -- want of memory before a set was done
-pub no_memory_does : {T : Type 0} (B : ℕ → Type 0) (total : ℕ) (name : List ℕ) (book : List Series) (runs : List Run) (e : LoadEnd) (result : Result T LoadEnd) (at : View) → IsErrAnd result (λ x. x ≡ e) → e ≡ NoMemory → StandsForBook at.image total book → Does B total name book runs result at at
+pub no_memory_does : {T : Type 0} (B : ℕ → Type 0) (total : ℕ) (name : List ℕ) (book : List Series) (runs : List Run) (e : End) (result : Result T End) (at : View) → IsErrAnd result (λ x. x ≡ e) → e ≡ NoMemory → StandsForBook at.image total book → Does B total name book runs result at at
 no_memory_does {T} B total name book runs e (Ok v) at is none stands = absurd is
 no_memory_does {T} B total name book runs e (Err x) at is none stands =
-    let P : LoadEnd → Type 0 = λ y. StopsSo B total name book runs at.image y in
+    let P : End → Type 0 = λ y. StopsSo B total name book runs at.image y in
     record { done = tt; stops = subst P (sym (is ∙ none)) (part_none total name book runs at.image stands); moments = passes_none at (IsPartDone total name book runs) (Quiet at) }
 
 -- the runs before a bad line were stored
-pub stopped : {T U : Type 0} (at total : ℕ) (name : List ℕ) (book : List Series) (runs : List Run) (v : T) (before now : View) → Does NoBad total name book runs (Ok v) before now → Does {T = U} (IsAtLine at total name book runs now.image) total name book runs (Err (BadLine at)) before now
-stopped at total name book runs v before now does = record { done = tt; stops = record { at_is = refl; after = does.done }; moments = does.moments }
+pub stopped : {T U : Type 0} (at place total : ℕ) (name : List ℕ) (book : List Series) (runs : List Run) (v : T) (before now : View) → place ≡ at → Does NoBad total name book runs (Ok v) before now → Does {T = U} (IsAtLine at total name book runs now.image) total name book runs (Err (BadInput place)) before now
+stopped at place total name book runs v before now same does = record { done = tt; stops = record { at_is = same; after = does.done }; moments = does.moments }
 
-pub stops_more : (B : ℕ → Type 0) (total : ℕ) (name : List ℕ) (book : List Series) (runs : List Run) (image : Image) (e : LoadEnd) → StopsSo NoBad total name book runs image e → StopsSo B total name book runs image e
-stops_more B total name book runs image UnknownSeries why = why
-stops_more B total name book runs image (BadLine at) why = absurd why
-stops_more B total name book runs image (Refused at refusal) why = why
-stops_more B total name book runs image ReadFault why = why
-stops_more B total name book runs image InputTooLong why = why
-stops_more B total name book runs image DiskFault why = why
-stops_more B total name book runs image (Damaged page) why = why
-stops_more B total name book runs image NoMemory why = why
+pub stops_more : (B : ℕ → Type 0) (total : ℕ) (name : List ℕ) (book : List Series) (runs : List Run) (image : Image) (e : End) → StopsSo NoBad total name book runs image e → StopsSo B total name book runs image e
+stops_more B total name book runs image (BadInput at) why = absurd why
+stops_more B total name book runs image end why = why
 
-pub not_stopped : {T U : Type 0} (B : ℕ → Type 0) (total : ℕ) (name : List ℕ) (book : List Series) (runs : List Run) (e : LoadEnd) (before now : View) → Does {T = T} NoBad total name book runs (Err e) before now → Does {T = U} B total name book runs (Err e) before now
+pub not_stopped : {T U : Type 0} (B : ℕ → Type 0) (total : ℕ) (name : List ℕ) (book : List Series) (runs : List Run) (e : End) (before now : View) → Does {T = T} NoBad total name book runs (Err e) before now → Does {T = U} B total name book runs (Err e) before now
 not_stopped {T} {U} B total name book runs e before now does = record { done = tt; stops = stops_more B total name book runs now.image e does.stops; moments = does.moments }
 
 -- the list of sets is cleared
@@ -235,11 +225,11 @@ sets_behind name n runs sets ats are =
 pub keeps_as : (name name' : List ℕ) (waiting : List Run) (old : Option Run) (kept : KeptSets) (run : OpenRun) → name' ≡ name → KeepsRuns name' waiting old kept run → KeepsRuns name waiting old kept run
 keeps_as name name' waiting old kept run same keeps = let K : List ℕ → Type 0 = λ n. KeepsRuns n waiting old kept run in subst K same keeps
 
-pub ok_keeps_as : {T : Type 0} (result : Result T LoadEnd) (name name' : List ℕ) (waiting : List Run) (old : Option Run) (kept : KeptSets) (run : OpenRun) → name' ≡ name → OnOk result (KeepsRuns name' waiting old kept run) → OnOk result (KeepsRuns name waiting old kept run)
+pub ok_keeps_as : {T : Type 0} (result : Result T End) (name name' : List ℕ) (waiting : List Run) (old : Option Run) (kept : KeptSets) (run : OpenRun) → name' ≡ name → OnOk result (KeepsRuns name' waiting old kept run) → OnOk result (KeepsRuns name waiting old kept run)
 ok_keeps_as {T} (Ok v) name name' waiting old kept run same keeps = keeps_as name name' waiting old kept run same keeps
 ok_keeps_as {T} (Err e) name name' waiting old kept run same keeps = tt
 
-pub does_as : {T : Type 0} (B : ℕ → Type 0) (total : ℕ) (name name' : List ℕ) (book : List Series) (runs : List Run) (result : Result T LoadEnd) (old new : View) → name' ≡ name → Does B total name' book runs result old new → Does B total name book runs result old new
+pub does_as : {T : Type 0} (B : ℕ → Type 0) (total : ℕ) (name name' : List ℕ) (book : List Series) (runs : List Run) (result : Result T End) (old new : View) → name' ≡ name → Does B total name' book runs result old new → Does B total name book runs result old new
 does_as {T} B total name name' book runs result old new same does = let D : List ℕ → Type 0 = λ n. Does B total n book runs result old new in subst D same does
 
 pub runs_of_none : (name : List ℕ) (runs : List Run) (sets : List Edit) (ats : List ℕ) → AreSets name runs sets ats → length sets ≡ 0 → length runs ≡ 0

@@ -1,5 +1,5 @@
 -- How a load ends, and what it has done then.
-use Rattle.std.specs.Prelude.{◌≡◌, ℕ, ◌-◌, ◌^◌, ◌<◌, ◌≤◌, List, [], ◌∷◌, ◌++◌, length, take, Option, Result, Ok, Err, count_by, is_some, IfSome}
+use Rattle.std.specs.Prelude.{◌≡◌, ℕ, ◌-◌, ◌^◌, ◌<◌, ◌≤◌, List, [], ◌∷◌, ◌++◌, length, take, Option, Result, Ok, Err, count_by, is_some, IfSome, ⊤}
 use Rattle.block_disk.specs.Counts.{HasRisen}
 use Rattle.block_disk.specs.View.{Image, View, Passes}
 use Rattle.gate_pages.specs.Pages.{Quiet}
@@ -13,9 +13,9 @@ use Rattle.series_load.specs.Rows.{Reading, ReadsRows, BadFirst}
 use Rattle.chart_world.specs.Fronts.{IsWhole, first_piece}
 use Rattle.series_load.specs.Fronts.{told}
 use Rattle.series_load.specs.Runs.{Run, Ended, AllRuns, AreFirst}
-use Rattle.series_load.specs.Sets.{set_of, Loads, IsAfter, IsAfterSome}
-use Rattle.series_load.specs.declared.load_end.LoadEnd.{LoadEnd}
-use Rattle.series_load.specs.declared.load_end.LoadEnd.TheVariants.{UnknownSeries, BadLine, Refused, ReadFault, InputTooLong, DiskFault, Damaged, NoMemory}
+use Rattle.series_load.specs.Sets.{set_of, Loads, IsAfter, IsAfterSome, OfRefusal}
+use Rattle.run_ends.specs.declared.ending.End.{End}
+use Rattle.run_ends.specs.declared.ending.End.TheVariants.{NoMemory, ReadFault, DiskFault, DamagedPage, BadInput, InputTooLong, UnknownSeries, Refused}
 
 -- all lines are rows, the sets of all runs were done, and so many rows have a reading
 pub record IsLoaded (total : ℕ) (name : List ℕ) (book : List Series) (series : Series) (input : List ℕ) (count : ℕ) (image : Image) : Type 0 where
@@ -76,38 +76,38 @@ pub record IsPast (total : ℕ) (name : List ℕ) (book : List Series) (series :
   pub after : IsAfter total name book runs image
 
 -- why not all of the input was loaded, and what was done
-abbrev pub EndsLoad : ℕ → List ℕ → List Series → Series → List ℕ → Option (List ℕ) → Image → LoadEnd → Type 0
-EndsLoad total name book series input left image UnknownSeries = ⊥
-EndsLoad total name book series input left image (BadLine at) = IsAtBad total name book series input at image
-EndsLoad total name book series input left image (Refused at refusal) = IsAtRefusal total name book series input at refusal image
+abbrev pub EndsLoad : ℕ → List ℕ → List Series → Series → List ℕ → Option (List ℕ) → Image → End → Type 0
+EndsLoad total name book series input left image NoMemory = ⊤
 EndsLoad total name book series input left image ReadFault = IfSome left (λ bytes. IsTaken total name book series input bytes image)
+EndsLoad total name book series input left image DiskFault = ⊤
+EndsLoad total name book series input left image (BadInput at) = IsAtBad total name book series input at image
 EndsLoad total name book series input left image InputTooLong = IsPast total name book series input image
-EndsLoad total name book series input left image DiskFault = Unit {0}
-EndsLoad total name book series input left image (Damaged page) = ⊥
-EndsLoad total name book series input left image NoMemory = Unit {0}
+EndsLoad total name book series input left image (Refused at number) =
+    OfRefusal number (λ refusal. IsAtRefusal total name book series input at refusal image)
+EndsLoad total name book series input left image end = ⊥
 
 -- unless a call of the disk failed, the sets of some first runs were done
-abbrev pub KeepsSome : ℕ → List ℕ → List Series → Series → Option (List ℕ) → Image → LoadEnd → Type 0
-KeepsSome total name book series input image UnknownSeries = ⊥
-KeepsSome total name book series input image (BadLine at) = IsAfterSome total name book series input image
-KeepsSome total name book series input image (Refused at refusal) = IsAfterSome total name book series input image
-KeepsSome total name book series input image ReadFault = IsAfterSome total name book series input image
-KeepsSome total name book series input image InputTooLong = IsAfterSome total name book series input image
-KeepsSome total name book series input image DiskFault = Unit {0}
-KeepsSome total name book series input image (Damaged page) = ⊥
+abbrev pub KeepsSome : ℕ → List ℕ → List Series → Series → Option (List ℕ) → Image → End → Type 0
 KeepsSome total name book series input image NoMemory = IsAfterSome total name book series input image
+KeepsSome total name book series input image ReadFault = IsAfterSome total name book series input image
+KeepsSome total name book series input image DiskFault = ⊤
+KeepsSome total name book series input image (BadInput at) = IsAfterSome total name book series input image
+KeepsSome total name book series input image InputTooLong = IsAfterSome total name book series input image
+KeepsSome total name book series input image (Refused at number) = IsAfterSome total name book series input image
+KeepsSome total name book series input image end = ⊥
 
 -- why a load ended, whatever the pages are: by whether reads give what they are, their total, the pages and the counts of
 -- read faults before and after. A page that is called damaged is one of the store's, and is so where reads give it.
-abbrev pub IsLoadCause : LoadEnd → Type 0 → ℕ → View → View → ℕ → ℕ → Type 0
-IsLoadCause UnknownSeries told total old new reads reads' = Unit {0}
-IsLoadCause (BadLine at) told total old new reads reads' = Unit {0}
-IsLoadCause (Refused at refusal) told total old new reads reads' = Unit {0}
+abbrev pub IsLoadCause : End → Type 0 → ℕ → View → View → ℕ → ℕ → Type 0
+IsLoadCause NoMemory told total old new reads reads' = ⊤
 IsLoadCause ReadFault told total old new reads reads' = HasRisen reads reads'
-IsLoadCause InputTooLong told total old new reads reads' = Unit {0}
 IsLoadCause DiskFault told total old new reads reads' = HasRisen old.faults new.faults
-IsLoadCause (Damaged page) told total old new reads reads' = (page < total) × (told → IsBadForEdit new.size new.image page)
-IsLoadCause NoMemory told total old new reads reads' = Unit {0}
+IsLoadCause (DamagedPage page) told total old new reads reads' = (page < total) × (told → IsBadForEdit new.size new.image page)
+IsLoadCause (BadInput at) told total old new reads reads' = ⊤
+IsLoadCause InputTooLong told total old new reads reads' = ⊤
+IsLoadCause UnknownSeries told total old new reads reads' = ⊤
+IsLoadCause (Refused at number) told total old new reads reads' = ⊤
+IsLoadCause end told total old new reads reads' = ⊥
 
 -- all of the input was loaded: what was done, whether or not the streams tell their bytes, and what a crash at a
 -- moment on the way leaves; no byte is sent
@@ -117,12 +117,12 @@ pub record Finished (total : ℕ) (name : List ℕ) (book : List Series) (series
   pub moments : Passes old new (IsAfterSome total name book series input) (Quiet old)
 
 -- the same, where not all of it was
-pub record Stopped (total : ℕ) (name : List ℕ) (book : List Series) (series : Series) (input left : Option (List ℕ)) (e : LoadEnd) (old new : View) : Type 0 where
+pub record Stopped (total : ℕ) (name : List ℕ) (book : List Series) (series : Series) (input left : Option (List ℕ)) (e : End) (old new : View) : Type 0 where
   pub ends : IfSome input (λ bytes. EndsLoad total name book series bytes left new.image e)
   pub some : KeepsSome total name book series input new.image e
   pub moments : Passes old new (IsAfterSome total name book series input) (Quiet old)
 
 -- what a load has done, where the pages stood for the book, with a series of this name
-abbrev pub Outcome : ℕ → List ℕ → List Series → Series → Option (List ℕ) → Option (List ℕ) → Result ℕ LoadEnd → View → View → Type 0
+abbrev pub Outcome : ℕ → List ℕ → List Series → Series → Option (List ℕ) → Option (List ℕ) → Result ℕ End → View → View → Type 0
 Outcome total name book series input left (Ok count) old new = Finished total name book series input count old new
 Outcome total name book series input left (Err e) old new = Stopped total name book series input left e old new

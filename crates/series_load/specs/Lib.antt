@@ -6,7 +6,6 @@ pub mod Ends
 pub mod Steps
 pub mod Sides
 pub mod Shown
-pub mod Faults
 pub mod Loading
 pub mod SideLaws
 pub mod LoadingLaws

@@ -1,16 +1,15 @@
 -- What a load holds on its way, and what is done of a line.
 use Rattle.std.specs.Prelude.{◌≡◌, ℕ, ◌≤◌, Bool, List, [], ◌++◌, Option, None, Some}
 use Rattle.block_disk.specs.View.{Image, View}
-use Rattle.line_runs.specs.Given.{Given, Line, Pause, End}
-use Rattle.line_runs.specs.declared.lines_stop.LinesStop.{LinesStop}
-use Rattle.line_runs.specs.declared.lines_stop.LinesStop.TheVariants as stop
+use Rattle.line_runs.specs.Given as given
+use Rattle.line_runs.specs.Given.{Given, Line, Pause}
 use Rattle.series_book.specs.declared.one_series.Series.{Series}
 use Rattle.stored_book.specs.Standing.{StandsForBook}
 use Rattle.series_load.specs.Runs.{Run}
 use Rattle.series_load.specs.Sets.{IsPartDone, Loads}
-use Rattle.series_load.specs.Steps.{IsAtLine, IsAtText, KeepsRuns, LineAdds, LineRuns, StopsSo, closed, end_of}
-use Rattle.series_load.specs.declared.load_end.LoadEnd.{LoadEnd}
-use Rattle.series_load.specs.declared.load_end.LoadEnd.TheVariants.{DiskFault}
+use Rattle.series_load.specs.Steps.{IsAtLine, IsAtText, KeepsRuns, LineAdds, LineRuns, StopsSo, closed}
+use Rattle.run_ends.specs.declared.ending.End.{End}
+use Rattle.run_ends.specs.declared.ending.End.TheVariants.{DiskFault}
 use Rattle.series_load.specs.declared.loader.Loader.{Loader}
 
 -- the series and the book that the pages stand for, the runs that have ended and whose sets aren't done, how far the lines
@@ -106,24 +105,24 @@ abbrev pub LoadDoes : Held → Given → List ℕ → Held → Type 0
 LoadDoes held (Line at None) text behind = ⊥
 LoadDoes held (Line at (Some line)) text behind = LineTaken held at line text behind
 LoadDoes held Pause text behind = PauseTaken held text behind
-LoadDoes held End text behind = EndTaken held text behind
+LoadDoes held given.End text behind = EndTaken held text behind
 
 -- the runs whose sets may be done, and what is done of a bad line
 abbrev pub RunsBy : Held → Given → List Run → Type 0
 RunsBy held (Line at None) runs = runs ≡ held.waiting ++ closed held.open_run
 RunsBy held (Line at (Some line)) runs = LineRuns held.scale held.step at line held.first held.points held.waiting held.open_run runs
 RunsBy held Pause runs = runs ≡ held.waiting
-RunsBy held End runs = runs ≡ held.waiting ++ closed held.open_run
+RunsBy held given.End runs = runs ≡ held.waiting ++ closed held.open_run
 
 abbrev pub BadBy : Held → Given → Image → ℕ → Type 0
 BadBy held (Line at None) image place = IsAtLine at held.total held.name held.book (held.waiting ++ closed held.open_run) image place
 BadBy held (Line at (Some line)) image place =
     IsAtText held.scale at line held.first held.total held.name held.book (held.waiting ++ closed held.open_run) image place
 BadBy held Pause image place = ⊥
-BadBy held End image place = ⊥
+BadBy held given.End image place = ⊥
 
 -- why it stopped the load, and what a crash leaves meanwhile
-pub record LoadStops (held : Held) (it : Given) (new : View) (end : LoadEnd) : Type 0 where
+pub record LoadStops (held : Held) (it : Given) (new : View) (end : End) : Type 0 where
   pub runs : List Run
   pub are : RunsBy held it runs
   pub why : StopsSo (BadBy held it new.image) held.total held.name held.book runs new.image end
@@ -135,10 +134,5 @@ pub record LoadLeaves (held : Held) (it : Given) (from : ℕ) (image : Image) (s
   pub part : IsPartDone held.total held.name held.book runs image
 
 -- after it no line may be given
-abbrev pub Harms : LoadEnd → Type 0
+abbrev pub Harms : End → Type 0
 Harms end = end ≡ DiskFault
-
--- what a stop of the lines is
-abbrev pub end_of_stop : LinesStop LoadEnd → LoadEnd
-end_of_stop (stop.Fault why) = end_of why
-end_of_stop (stop.Work end) = end

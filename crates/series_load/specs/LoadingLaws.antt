@@ -8,8 +8,8 @@ use Rattle.chart_world.specs.Faults.{CountsFault}
 use Rattle.stored_book.specs.Standing.{StandsForBook}
 use Rattle.series_load.specs.Ends.{IsLoadCause}
 use Rattle.series_load.specs.Loading.{Held, NoneSent, StandsSo}
-use Rattle.series_load.specs.declared.load_end.LoadEnd.{LoadEnd}
-use Rattle.series_load.specs.declared.load_end.LoadEnd.TheVariants.{UnknownSeries, BadLine, Refused, ReadFault, InputTooLong, DiskFault, Damaged, NoMemory}
+use Rattle.run_ends.specs.declared.ending.End.{End}
+use Rattle.run_ends.specs.declared.ending.End.TheVariants.{ReadFault, DiskFault, DamagedPage}
 use Rattle.series_load.specs.declared.loader.Loader.{Loader}
 
 -- quiet calls
@@ -50,16 +50,12 @@ risen_more old mid new same (inr last) = inr (omega (arith, same, last.0), last.
 
 -- why a later call ended is why all ended, where no fault was counted before
 pub cause_later : (told : Type 0) (total total' : ℕ) (old mid new : View) (reads reads' reads'' : ℕ)
-    → old.beside.read_faults ≡ reads → mid.beside.read_faults ≡ reads' → CountsFault None old mid → total' ≡ total → (end : LoadEnd)
+    → old.beside.read_faults ≡ reads → mid.beside.read_faults ≡ reads' → CountsFault None old mid → total' ≡ total → (end : End)
     → IsLoadCause end told total' mid new reads' reads'' → IsLoadCause end told total old new reads reads''
-cause_later told total total' old mid new reads reads' reads'' was are quiet same UnknownSeries is = tt
-cause_later told total total' old mid new reads reads' reads'' was are quiet same (BadLine at) is = tt
-cause_later told total total' old mid new reads reads' reads'' was are quiet same (Refused at refusal) is = tt
 cause_later told total total' old mid new reads reads' reads'' was are quiet same ReadFault is =
     risen_more reads reads' reads'' (sym are ∙ takes_stay old mid quiet ∙ was) is
-cause_later told total total' old mid new reads reads' reads'' was are quiet same InputTooLong is = tt
 cause_later told total total' old mid new reads reads' reads'' was are quiet same DiskFault is =
     risen_more old.faults mid.faults new.faults (disk_stays old mid quiet) is
-cause_later told total total' old mid new reads reads' reads'' was are quiet same (Damaged page) is =
+cause_later told total total' old mid new reads reads' reads'' was are quiet same (DamagedPage page) is =
     (omega (arith, is.0, same), is.1)
-cause_later told total total' old mid new reads reads' reads'' was are quiet same NoMemory is = tt
+cause_later told total total' old mid new reads reads' reads'' was are quiet same end is = is

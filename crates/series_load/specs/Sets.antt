@@ -6,6 +6,7 @@ use Rattle.series_book.specs.declared.edits.Edit.{Edit}
 use Rattle.series_book.specs.declared.edits.Edit.TheVariants.{Set}
 use Rattle.series_book.specs.declared.refusals.Refusal.{Refusal}
 use Rattle.series_book.specs.Edits.{Edited, IsEdit, apply, id_of}
+use Rattle.series_book.specs.Refusals.{number_of}
 use Rattle.stored_book.specs.Standing.{StandsForBook}
 use Rattle.series_load.specs.Runs.{Run, readings, AreFirst}
 
@@ -58,6 +59,12 @@ pub record IsRefusedIn (total : ℕ) (name : List ℕ) (book : List Series) (run
   pub loads : Loads total name book done new
   pub refused : apply new total (set_of name run) ≡ Err refusal
   pub stands : StandsForBook image total new
+
+-- this is so of a refusal with this number
+pub record OfRefusal (number : ℕ) (IsSo : Refusal → Type 0) : Type 0 where
+  pub refusal : Refusal
+  pub number_is : number ≡ number_of refusal
+  pub so : IsSo refusal
 
 -- the runs are the first of the input, where that is told
 abbrev pub AreFirstOf : ℕ → ℕ → Option (List ℕ) → List Run → Type 0

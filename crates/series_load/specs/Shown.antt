@@ -12,7 +12,7 @@ use Rattle.series_load.specs.Runs.{Run}
 use Rattle.series_load.specs.Sets.{AreEdits, AreSets, IsNamed}
 use Rattle.series_load.specs.Sides.{Side, side}
 use Rattle.series_load.specs.Steps.{Carries, Does, DoesFirst, DoesLine, IsAtLine, IsSetCause, KeepsRuns, LineAdds, NoBad, Took}
-use Rattle.series_load.specs.declared.load_end.LoadEnd.{LoadEnd}
+use Rattle.run_ends.specs.declared.ending.End.{End}
 use Rattle.series_load.specs.declared.loader.Loader.{Loader}
 
 -- a book can be asked each set that is kept
@@ -39,11 +39,11 @@ module _ {P : Type 0} {g : Ghosts P} where
   CarriesOn old new = Carries (shown.IsTold old) (shown.IsTold new) (shown.view old) (shown.view new) (shown.under old) (shown.under new) (shown.total old) (shown.total new) (length (shown.catalog old)) (length (shown.catalog new))
 
   -- why a set wasn't done, whatever the pages are
-  abbrev pub FailsFor : LoadEnd → Store P g → Store P g → Type 0
+  abbrev pub FailsFor : End → Store P g → Store P g → Type 0
   FailsFor e old new = IsSetCause e (shown.IsTold new) (shown.total old) (shown.view old) (shown.view new)
 
   -- why a load ended, whatever the pages are
-  abbrev pub EndsFor : streams.Ghosts P → LoadEnd → Store P g → Store P g → Type 0
+  abbrev pub EndsFor : streams.Ghosts P → End → Store P g → Store P g → Type 0
   EndsFor beside e old new = IsLoadCause e (shown.IsTold new) (shown.total old) (shown.view old) (shown.view new) (beside.read_faults (shown.pages old)) (beside.read_faults (shown.pages new))
 
   -- so of each book that the pages stand for, and the runs that the loader keeps
@@ -63,22 +63,22 @@ module _ {P : Type 0} {g : Ghosts P} where
   ForLoaded it loader IsSo = (total : ℕ) (book : List Series) (series : Series) → shown.IsTold it → StandsForBook (shown.image it) total book → loader.step ≡ series.step → loader.scale ≡ series.scale → IsSo total book series
 
   -- a call does the sets of these runs, or of some first of them
-  abbrev pub DoesRuns : {T : Type 0} → ℕ → List ℕ → List Series → List Run → Result T LoadEnd → Store P g → Store P g → Type 0
+  abbrev pub DoesRuns : {T : Type 0} → ℕ → List ℕ → List Series → List Run → Result T End → Store P g → Store P g → Type 0
   DoesRuns total name book runs result old new = Does NoBad total name book runs result (shown.view old) (shown.view new)
 
-  abbrev pub DoesSome : ℕ → List ℕ → List Series → List Run → Result ℕ LoadEnd → Store P g → Store P g → Type 0
+  abbrev pub DoesSome : ℕ → List ℕ → List Series → List Run → Result ℕ End → Store P g → Store P g → Type 0
   DoesSome total name book runs result old new = DoesFirst total name book runs result (shown.view old) (shown.view new)
 
   -- at a bad line it does the sets of these runs before it
-  abbrev pub StopsAt : ℕ → ℕ → List ℕ → List Series → List Run → LoadEnd → Store P g → Store P g → Type 0
+  abbrev pub StopsAt : ℕ → ℕ → List ℕ → List Series → List Run → End → Store P g → Store P g → Type 0
   StopsAt at total name book runs end old new =
       Does {T = ℕ} (IsAtLine at total name book runs (shown.image new)) total name book runs (Err end) (shown.view old) (shown.view new)
 
   -- it takes the line at this offset, whose text is this one, where sets may be done
-  abbrev pub TakesLine : {T : Type 0} → ℕ → List ℕ → ℕ → List Series → List Run → Option Run → Result T LoadEnd → Loader → Loader → Store P g → Store P g → Type 0
+  abbrev pub TakesLine : {T : Type 0} → ℕ → List ℕ → ℕ → List Series → List Run → Option Run → Result T End → Loader → Loader → Store P g → Store P g → Type 0
   TakesLine at text total book waiting open_run result before after old new =
       DoesLine before.scale before.step at text before.first before.points total before.name book waiting open_run result after.first after.points after.kept after.run (shown.view old) (shown.view new)
 
   -- a whole input is loaded, or not all of it
-  abbrev pub LoadsSo : streams.Ghosts P → List ℕ → ℕ → List Series → Series → Result ℕ LoadEnd → Store P g → Store P g → Type 0
+  abbrev pub LoadsSo : streams.Ghosts P → List ℕ → ℕ → List Series → Series → Result ℕ End → Store P g → Store P g → Type 0
   LoadsSo beside name total book series result old new = Outcome total name book series (beside.left (shown.pages old)) (beside.left (shown.pages new)) result (shown.view old) (shown.view new)

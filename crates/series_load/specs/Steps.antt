@@ -1,5 +1,5 @@
 -- What a line more does to the run that stands open, and to the store.
-use Rattle.std.specs.Prelude.{◌≡◌, ◌⊎◌, ℕ, ℤ, ◌-◌, ◌<◌, ◌≤◌, Bool, true, false, List, [], ◌∷◌, ◌++◌, length, map, take, slice_get, Option, None, Some, Result, Ok, Err, IfOk, OnOk, IfErr, count_by, is_some}
+use Rattle.std.specs.Prelude.{◌≡◌, ◌⊎◌, ℕ, ℤ, ◌-◌, ◌<◌, ◌≤◌, Bool, true, false, List, [], ◌∷◌, ◌++◌, length, map, take, slice_get, Option, None, Some, Result, Ok, Err, IfOk, OnOk, IfErr, count_by, is_some, ⊤}
 use Rattle.std.specs.List.{filter}
 use Rattle.block_disk.specs.Counts.{HasRisen}
 use Rattle.block_disk.specs.View.{Image, View, Passes}
@@ -8,20 +8,19 @@ use Rattle.csv_load.specs.Rows.{Says, Fails}
 use Rattle.csv_load.specs.declared.row.Row.TheVariants as row
 use Rattle.csv_load.specs.declared.row.RowCause.{RowCause}
 use Rattle.series_book.specs.declared.one_series.Series.{Series}
+use Rattle.series_book.specs.Refusals.{number_of}
 use Rattle.series_book.specs.declared.refusals.Refusal.{Refusal}
 use Rattle.series_book.specs.declared.outcomes.Outcome.{Outcome}
 use Rattle.stored_book.specs.Damage.{IsBadForEdit}
 use Rattle.series_store.specs.declared.errors.StoreError.{StoreError}
 use Rattle.series_store.specs.declared.errors.StoreError.TheVariants as store
-use Rattle.chart_world.specs.declared.line_answer.LineFault.{LineFault}
-use Rattle.chart_world.specs.declared.line_answer.LineFault.TheVariants as fault
 use Rattle.chart_world.specs.Fronts.{says}
 use Rattle.series_load.specs.Fronts.{PlacedLine}
 use Rattle.series_load.specs.Rows.{Reading, AreTable}
 use Rattle.series_load.specs.Runs.{Run, readings, last_reading, Cut}
-use Rattle.series_load.specs.Sets.{AreSets, IsAfter, IsPartDone, IsRefusedIn}
-use Rattle.series_load.specs.declared.load_end.LoadEnd.{LoadEnd}
-use Rattle.series_load.specs.declared.load_end.LoadEnd.TheVariants.{UnknownSeries, BadLine, Refused, ReadFault, InputTooLong, DiskFault, Damaged, NoMemory}
+use Rattle.series_load.specs.Sets.{AreSets, IsAfter, IsPartDone, IsRefusedIn, OfRefusal}
+use Rattle.run_ends.specs.declared.ending.End.{End}
+use Rattle.run_ends.specs.declared.ending.End.TheVariants.{NoMemory, DiskFault, DamagedPage, BadInput, Refused}
 use Rattle.series_load.specs.declared.kept_sets.KeptSets.{KeptSets}
 use Rattle.series_load.specs.declared.open_run.OpenRun.{OpenRun}
 use Rattle.series_load.specs.declared.open_run.Reading.{Reading as Pair}
@@ -119,42 +118,39 @@ LineRuns scale step at text first points waiting open_run runs =
     (runs ≡ waiting) ⊎ RunsOfLine scale step at text first points waiting open_run runs ⊎ RunsOfBad scale text first waiting open_run runs
 
 -- why not all of the runs' sets were done; B says of a bad line what is done then
-abbrev pub StopsSo : (ℕ → Type 0) → ℕ → List ℕ → List Series → List Run → Image → LoadEnd → Type 0
-StopsSo B total name book runs image UnknownSeries = ⊥
-StopsSo B total name book runs image (BadLine at) = B at
-StopsSo B total name book runs image (Refused at refusal) = IsRefusedIn total name book runs at refusal image
-StopsSo B total name book runs image ReadFault = ⊥
-StopsSo B total name book runs image InputTooLong = ⊥
-StopsSo B total name book runs image DiskFault = Unit {0}
-StopsSo B total name book runs image (Damaged page) = ⊥
+abbrev pub StopsSo : (ℕ → Type 0) → ℕ → List ℕ → List Series → List Run → Image → End → Type 0
 StopsSo B total name book runs image NoMemory = IsPartDone total name book runs image
+StopsSo B total name book runs image DiskFault = ⊤
+StopsSo B total name book runs image (BadInput at) = B at
+StopsSo B total name book runs image (Refused at number) = OfRefusal number (λ refusal. IsRefusedIn total name book runs at refusal image)
+StopsSo B total name book runs image end = ⊥
 
 -- no line is bad
 abbrev pub NoBad : ℕ → Type 0
 NoBad at = ⊥
 
 -- What a call does where the pages stand for the book: it does the sets of these runs.
-pub record Does {T : Type 0} (B : ℕ → Type 0) (total : ℕ) (name : List ℕ) (book : List Series) (runs : List Run) (result : Result T LoadEnd) (old new : View) : Type 0 where
+pub record Does {T : Type 0} (B : ℕ → Type 0) (total : ℕ) (name : List ℕ) (book : List Series) (runs : List Run) (result : Result T End) (old new : View) : Type 0 where
   pub done : OnOk result (IsAfter total name book runs new.image)
   pub stops : IfErr result (λ e. StopsSo B total name book runs new.image e)
   pub moments : Passes old new (IsPartDone total name book runs) (Quiet old)
 
 -- the same of so many first of the runs
-pub record DoesFirst (total : ℕ) (name : List ℕ) (book : List Series) (runs : List Run) (result : Result ℕ LoadEnd) (old new : View) : Type 0 where
+pub record DoesFirst (total : ℕ) (name : List ℕ) (book : List Series) (runs : List Run) (result : Result ℕ End) (old new : View) : Type 0 where
   pub done : IfOk result (λ count. IsAfter total name book (take count runs) new.image)
   pub stops : IfErr result (λ e. StopsSo NoBad total name book runs new.image e)
   pub moments : Passes old new (IsPartDone total name book runs) (Quiet old)
 
 -- the last answer is this refusal, of the set of a run that begins at the offset
-pub record IsLastRefused (ats : List ℕ) (answers : List (Result Outcome Refusal)) (end : LoadEnd) : Type 0 where
+pub record IsLastRefused (ats : List ℕ) (answers : List (Result Outcome Refusal)) (end : End) : Type 0 where
   pub refusal : Refusal
   pub at : ℕ
   pub last : slice_get answers (length answers - 1) ≡ Some (Err refusal)
   pub at_is : slice_get ats (length answers - 1) ≡ Some at
-  pub end_is : end ≡ Refused at refusal
+  pub end_is : end ≡ Refused at (number_of refusal)
 
 -- how many sets these answers are of, or the refusal of the last one
-abbrev pub Counts : List ℕ → List (Result Outcome Refusal) → Result ℕ LoadEnd → Type 0
+abbrev pub Counts : List ℕ → List (Result Outcome Refusal) → Result ℕ End → Type 0
 Counts ats answers (Ok count) = (count ≡ length answers) × ((outcome : Outcome) × (slice_get answers (length answers - 1) ≡ Some (Ok outcome)))
 Counts ats answers (Err end) = IsLastRefused ats answers end
 
@@ -170,26 +166,18 @@ pub record LineTook (scale step at : ℕ) (text : List ℕ) (first : Bool) (poin
   pub keeps : KeepsRuns name later new kept run
 
 -- why a set wasn't done, whatever the pages are
-abbrev pub IsSetCause : LoadEnd → Type 0 → ℕ → View → View → Type 0
-IsSetCause UnknownSeries told total old new = ⊥
-IsSetCause (BadLine at) told total old new = Unit {0}
-IsSetCause (Refused at refusal) told total old new = Unit {0}
-IsSetCause ReadFault told total old new = ⊥
-IsSetCause InputTooLong told total old new = ⊥
+abbrev pub IsSetCause : End → Type 0 → ℕ → View → View → Type 0
+IsSetCause NoMemory told total old new = ⊤
 IsSetCause DiskFault told total old new = HasRisen old.faults new.faults
-IsSetCause (Damaged page) told total old new = (page < total) × (told → IsBadForEdit new.size new.image page)
-IsSetCause NoMemory told total old new = Unit {0}
+IsSetCause (DamagedPage page) told total old new = (page < total) × (told → IsBadForEdit new.size new.image page)
+IsSetCause (BadInput at) told total old new = ⊤
+IsSetCause (Refused at number) told total old new = ⊤
+IsSetCause end told total old new = ⊥
 
 -- unless a call of the disk failed, the pages are sound
-abbrev pub IsSoundFor : LoadEnd → View → Type 0
-IsSoundFor UnknownSeries new = new.fit
-IsSoundFor (BadLine at) new = new.fit
-IsSoundFor (Refused at refusal) new = new.fit
-IsSoundFor ReadFault new = new.fit
-IsSoundFor InputTooLong new = new.fit
-IsSoundFor DiskFault new = Unit {0}
-IsSoundFor (Damaged page) new = new.fit
-IsSoundFor NoMemory new = new.fit
+abbrev pub IsSoundFor : End → View → Type 0
+IsSoundFor DiskFault new = ⊤
+IsSoundFor end new = new.fit
 
 -- what calls move, whatever the pages are
 pub record Carries (told told' : Type 0) (old new under under' : View) (total total' count count' : ℕ) : Type 0 where
@@ -203,16 +191,12 @@ pub record Carries (told told' : Type 0) (old new under under' : View) (total to
   pub more : count ≤ count'
 
 -- what an error of the store is for a load, where a run that begins there was stored; `NotAStore` comes from no edit
-abbrev pub end_at : ℕ → StoreError → LoadEnd
-end_at at (store.Refused refusal) = Refused at refusal
+abbrev pub end_at : ℕ → StoreError → End
+end_at at (store.Refused refusal) = Refused at (number_of refusal)
 end_at at store.NotAStore = NoMemory
 end_at at store.DiskFault = DiskFault
-end_at at (store.Damaged page) = Damaged page
+end_at at (store.Damaged page) = DamagedPage page
 end_at at store.NoMemory = NoMemory
-
-abbrev pub end_of : LineFault → LoadEnd
-end_of fault.ReadFault = ReadFault
-end_of fault.InputTooLong = InputTooLong
 
 -- a bad line is this one, and the sets of these runs before it were done
 pub record IsAtLine (at total : ℕ) (name : List ℕ) (book : List Series) (runs : List Run) (image : Image) (place : ℕ) : Type 0 where
@@ -232,13 +216,13 @@ module _ (scale step at : ℕ) (text : List ℕ) (first : Bool) (points total : 
     pub are : LineRuns scale step at text first points waiting open_run runs
     pub part : IsPartDone total name book runs image
 
-  pub record LineStops (image : Image) (e : LoadEnd) : Type 0 where
+  pub record LineStops (image : Image) (e : End) : Type 0 where
     pub runs : List Run
     pub are : LineRuns scale step at text first points waiting open_run runs
     pub why : StopsSo (IsAtText scale at text first total name book (waiting ++ closed open_run) image) total name book runs image e
 
   -- what taking a line does
-  pub record DoesLine {T : Type 0} (result : Result T LoadEnd) (first' : Bool) (points' : ℕ) (kept : KeptSets) (run : OpenRun) (old new : View) : Type 0 where
+  pub record DoesLine {T : Type 0} (result : Result T End) (first' : Bool) (points' : ℕ) (kept : KeptSets) (run : OpenRun) (old new : View) : Type 0 where
     pub took : OnOk result (LineTook scale step at text first points waiting open_run total name book first' points' kept run new.image)
     pub stops : IfErr result (LineStops new.image)
     pub moments : Passes old new LineLeaves (Quiet old)

@@ -2,9 +2,9 @@
 ghost use Rattle.std.specs.Prelude.{◌≡◌, ◌↔◌, ◌≤◌, ◌++◌, ◌∷◌, [], length, IsTrue, IfOk, IfErr, OnOk};
 ghost use Rattle.series_book.specs.Edits.{IsEdit};
 ghost use Rattle.series_load.specs.Sets.{AreEdits};
-ghost use Rattle.series_load.specs.declared.load_end.LoadEnd.TheVariants.{NoMemory};
+ghost use Rattle.run_ends.specs.declared.ending.End.TheVariants.{NoMemory};
 
-use crate::load_end::LoadEnd;
+use run_ends::End;
 use series_book::Edit;
 use std::alloc::Global;
 
@@ -20,16 +20,16 @@ pub(crate) struct KeptSets {
 
 impl KeptSets {
     /// No set, and room for as many as are kept.
-    pub(crate) fn new(alloc: Global) -> Result<KeptSets, LoadEnd>
+    pub(crate) fn new(alloc: Global) -> Result<KeptSets, End>
         ensures sets { IfOk result (λ kept. kept.sets.items ≡ []) }
         ensures ats { IfOk result (λ kept. kept.ats.items ≡ []) }
         ensures err { IfErr result (λ e. e ≡ NoMemory) }
     {
         let Ok(sets) = Vec::with_capacity(alloc, MOST_SETS) else {
-            return Err(LoadEnd::NoMemory);
+            return Err(End::NoMemory);
         };
         let Ok(ats) = Vec::with_capacity(alloc, MOST_SETS) else {
-            return Err(LoadEnd::NoMemory);
+            return Err(End::NoMemory);
         };
         Ok(KeptSets { sets, ats })
     }
@@ -40,7 +40,7 @@ impl KeptSets {
     }
 
     /// Keeps a set behind the others, of a run whose first line begins at `at`.
-    pub(crate) fn push(&mut self, at: u32, set: Edit) -> Result<(), LoadEnd>
+    pub(crate) fn push(&mut self, at: u32, set: Edit) -> Result<(), End>
         requires is_edit { IsEdit set }
         ensures sets { OnOk result (self.new.sets.items ≡ self.old.sets.items ++ set ∷ []) }
         ensures ats { OnOk result (self.new.ats.items ≡ self.old.ats.items ++ at ∷ []) }
@@ -48,10 +48,10 @@ impl KeptSets {
         ensures err { IfErr result (λ e. e ≡ NoMemory) }
     {
         if self.ats.push(at).is_err() {
-            return Err(LoadEnd::NoMemory);
+            return Err(End::NoMemory);
         }
         if self.sets.push(set).is_err() {
-            return Err(LoadEnd::NoMemory);
+            return Err(End::NoMemory);
         }
         Ok(())
     }

@@ -6,18 +6,16 @@
 //! before each take of the input, at its end, before a bad line is told, and where 32 are kept. None is
 //! done behind a refused one. So at each moment a crash leaves the book after the sets of some first runs.
 //!
-//! Nothing is sent. Words of the command line and the codes of its ends are left to the layer above.
+//! Nothing is sent. It ends by an `End` of run_ends; words of the command line and what is said of a load are left to the layer above.
 #![tactic(auto)]
 
 mod committing;
 mod kept_sets;
 pub mod laws;
-mod load_end;
 mod load_work;
 mod loader;
 mod loading;
 mod open_run;
 mod said;
 
-pub use load_end::LoadEnd;
 pub use loading::load;

@@ -1,22 +1,22 @@
 //! The lines of a load, as a work.
 ghost use Rattle.std.specs.Prelude.{◌≤◌, ◌≢◌, ⊤};
-ghost use Rattle.series_load.specs.Faults.{load_fault};
+ghost use Rattle.run_ends.specs.Faults.{end_fault};
 ghost use Rattle.series_load.specs.Loading.{Harms, Held, LoadDoes, LoadLeaves, LoadStops, StandsSo};
 ghost use Rattle.series_load.specs.LoadingLaws.{cause_later, fewer, now_stands, stands_taken};
 ghost use Rattle.series_load.specs.Shown as loads;
-ghost use Rattle.series_load.specs.declared.load_end.LoadEnd.TheVariants.{UnknownSeries};
+ghost use Rattle.run_ends.specs.declared.ending.End.TheVariants.{UnknownSeries};
 ghost use Rattle.series_load.specs.SideLaws.{goes_further, goes_nowhere, goes_take, same_count, same_total};
 ghost use Rattle.series_load.specs.Sides.{Goes};
 ghost use Rattle.series_store.specs.Shown as shown;
 ghost use Rattle.stored_book.specs.Standing.{StandsForBook};
 
-use crate::load_end::LoadEnd;
 use crate::loader::Loader;
 use gate_pages::PageWorld;
 use line_runs::LineWork;
+use run_ends::End;
 use series_store::Store;
 
-impl<P: PageWorld> LineWork<Store<P>, LoadEnd> for Loader {
+impl<P: PageWorld> LineWork<Store<P>, End> for Loader {
     ghost State = { Held };
 
     ghost view = { λ store. shown.view store };
@@ -41,21 +41,21 @@ impl<P: PageWorld> LineWork<Store<P>, LoadEnd> for Loader {
 
     ghost harms = { Harms };
 
-    ghost fault = { load_fault };
+    ghost fault = { end_fault };
 
-    fn line(&mut self, from: &mut Store<P>, at: u32, line: &[u8]) -> Result<(), LoadEnd> {
+    fn line(&mut self, from: &mut Store<P>, at: u32, line: &[u8]) -> Result<(), End> {
         self.take_line(from, at, line)
     }
 
-    fn long_line(&mut self, from: &mut Store<P>, at: u32) -> Result<(), LoadEnd> {
+    fn long_line(&mut self, from: &mut Store<P>, at: u32) -> Result<(), End> {
         Err(self.stop(from, at))
     }
 
-    fn pause(&mut self, from: &mut Store<P>) -> Result<(), LoadEnd> {
+    fn pause(&mut self, from: &mut Store<P>) -> Result<(), End> {
         self.commit(from)
     }
 
-    fn finish(&mut self, from: &mut Store<P>) -> Result<(), LoadEnd> {
+    fn finish(&mut self, from: &mut Store<P>) -> Result<(), End> {
         self.end(from)
     }
 

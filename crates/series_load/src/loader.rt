@@ -1,21 +1,21 @@
 //! The lines of an input, one after the other, into a series.
 ghost use Rattle.std.specs.Prelude.{◌≡◌, ◌≢◌, ◌<◌, ◌≤◌, ◌+◌, ◌^◌, ◌++◌, ℕ, List, Option, [], None, true, false, unsigned_abs, length, IfOk, IfErr, OnOk};
 ghost use Rattle.chart_world.specs.Faults.{CountsFault, fault_in};
-ghost use Rattle.series_load.specs.Faults.{load_fault};
+ghost use Rattle.run_ends.specs.Faults.{end_fault};
 ghost use Rattle.series_load.specs.Runs.{Run};
 ghost use Rattle.series_load.specs.Sets.{AreEdits};
 ghost use Rattle.series_load.specs.Steps.{AddsReading, IsSoundFor, KeepsRuns, LineAdds, SaysSo, Took, closed};
 ghost use Rattle.series_load.specs.Shown as loads;
 ghost use Rattle.series_store.specs.Shown as shown;
-ghost use Rattle.series_load.specs.declared.load_end.LoadEnd.TheVariants.{NoMemory};
+ghost use Rattle.run_ends.specs.declared.ending.End.TheVariants.{NoMemory};
 ghost use Rattle.series_load.specs.declared.open_run.Reading.{Reading};
 
 use crate::committing::commit_sets;
 use crate::kept_sets::KeptSets;
-use crate::load_end::LoadEnd;
 use crate::open_run::{OpenRun, Reading};
 use crate::said::{Said, said_of};
 use gate_pages::Pages;
+use run_ends::End;
 use series_book::Name;
 use series_store::Store;
 use std::alloc::Global;
@@ -38,7 +38,7 @@ pub(crate) struct Loader {
 }
 
 impl Loader {
-    pub(crate) fn new(alloc: Global, name: &Name, step: u32, scale: u8) -> Result<Loader, LoadEnd>
+    pub(crate) fn new(alloc: Global, name: &Name, step: u32, scale: u8) -> Result<Loader, End>
         ensures name { IfOk result (λ loader. loader.name ≡ name.now) }
         ensures step { IfOk result (λ loader. loader.step ≡ step) }
         ensures scale { IfOk result (λ loader. loader.scale ≡ scale) }
@@ -50,7 +50,7 @@ impl Loader {
         ensures err { IfErr result (λ e. e ≡ NoMemory) }
     {
         let Ok(name) = name.copy() else {
-            return Err(LoadEnd::NoMemory);
+            return Err(End::NoMemory);
         };
         Ok(Loader {
             alloc,
@@ -65,7 +65,7 @@ impl Loader {
     }
 
     /// The run that stands open ends, if there is one: its set is kept.
-    fn close(&mut self) -> Result<(), LoadEnd>
+    fn close(&mut self) -> Result<(), End>
         ensures keeps { (waiting : List Run) (open_run : Option Run) → loads.KeepsSo self.old waiting open_run → OnOk result (loads.KeepsSo self.new (waiting ++ closed open_run) None) }
         ensures none { OnOk result (self.new.run.values.items ≡ []) }
         ensures edits { loads.KeepsEdits self.old → loads.KeepsEdits self.new }
@@ -86,14 +86,14 @@ impl Loader {
     }
 
     /// Does the sets that are kept.
-    pub(crate) fn commit<P: Pages>(&mut self, store: &mut Store<P>) -> Result<(), LoadEnd>
+    pub(crate) fn commit<P: Pages>(&mut self, store: &mut Store<P>) -> Result<(), End>
         requires sound { shown.IsSound store.old }
         requires edits { loads.KeepsEdits self.old }
         ensures does { loads.ForRuns store.old self.old (λ total book waiting open_run. loads.DoesRuns total self.old.name book waiting result store.old store.new) }
         ensures keeps { (waiting : List Run) (open_run : Option Run) → loads.KeepsSo self.old waiting open_run → OnOk result (loads.KeepsSo self.new [] open_run) }
         ensures carries { loads.CarriesOn store.old store.new }
         ensures cause { IfErr result (λ e. loads.FailsFor e store.old store.new) }
-        ensures faults { CountsFault (fault_in load_fault result) (shown.view store.old) (shown.view store.new) }
+        ensures faults { CountsFault (fault_in end_fault result) (shown.view store.old) (shown.view store.new) }
         ensures sound { OnOk result (shown.IsSound store.new) }
         ensures sound_for { IfErr result (λ e. IsSoundFor e (shown.view store.new)) }
         ensures edits { loads.KeepsEdits self.new }
@@ -110,14 +110,14 @@ impl Loader {
     }
 
     /// Does the sets that are kept, and that of the run that stands open, if there is one.
-    pub(crate) fn end<P: Pages>(&mut self, store: &mut Store<P>) -> Result<(), LoadEnd>
+    pub(crate) fn end<P: Pages>(&mut self, store: &mut Store<P>) -> Result<(), End>
         requires sound { shown.IsSound store.old }
         requires edits { loads.KeepsEdits self.old }
         ensures does { loads.ForRuns store.old self.old (λ total book waiting open_run. loads.DoesRuns total self.old.name book (waiting ++ closed open_run) result store.old store.new) }
         ensures keeps { (waiting : List Run) (open_run : Option Run) → loads.KeepsSo self.old waiting open_run → OnOk result (loads.KeepsSo self.new [] None) }
         ensures carries { loads.CarriesOn store.old store.new }
         ensures cause { IfErr result (λ e. loads.FailsFor e store.old store.new) }
-        ensures faults { CountsFault (fault_in load_fault result) (shown.view store.old) (shown.view store.new) }
+        ensures faults { CountsFault (fault_in end_fault result) (shown.view store.old) (shown.view store.new) }
         ensures sound { OnOk result (shown.IsSound store.new) }
         ensures sound_for { IfErr result (λ e. IsSoundFor e (shown.view store.new)) }
         ensures edits { loads.KeepsEdits self.new }
@@ -132,13 +132,13 @@ impl Loader {
     }
 
     /// Ends the load at a bad line: the sets of the runs before it are done first.
-    pub(crate) fn stop<P: Pages>(&mut self, store: &mut Store<P>, at: u32) -> LoadEnd
+    pub(crate) fn stop<P: Pages>(&mut self, store: &mut Store<P>, at: u32) -> End
         requires sound { shown.IsSound store.old }
         requires edits { loads.KeepsEdits self.old }
         ensures does { loads.ForRuns store.old self.old (λ total book waiting open_run. loads.StopsAt at total self.old.name book (waiting ++ closed open_run) result store.old store.new) }
         ensures carries { loads.CarriesOn store.old store.new }
         ensures cause { loads.FailsFor result store.old store.new }
-        ensures faults { CountsFault (load_fault result) (shown.view store.old) (shown.view store.new) }
+        ensures faults { CountsFault (end_fault result) (shown.view store.old) (shown.view store.new) }
         ensures sound_for { IsSoundFor result (shown.view store.new) }
         ensures edits { loads.KeepsEdits self.new }
         ensures name { self.new.name ≡ self.old.name }
@@ -147,13 +147,13 @@ impl Loader {
         ensures points { self.new.points ≡ self.old.points }
     {
         match self.end(store) {
-            Ok(()) => LoadEnd::BadLine { at },
+            Ok(()) => End::BadInput { at: u64::from(at) },
             Err(end) => end,
         }
     }
 
     /// Takes a reading: it goes on with the run that stands open, or ends it. A run with 256 readings ends.
-    fn take_reading(&mut self, at: u32, next: &Reading) -> Result<(), LoadEnd>
+    fn take_reading(&mut self, at: u32, next: &Reading) -> Result<(), End>
         requires near { unsigned_abs next.now.time < 10 ^ 19 }
         ensures does { (waiting : List Run) (open_run : Option Run) → loads.KeepsSo self.old waiting open_run → OnOk result (Took (AddsReading self.old.step at next.now open_run) self.old.name waiting self.new.kept self.new.run) }
         ensures edits { loads.KeepsEdits self.old → loads.KeepsEdits self.new }
@@ -176,7 +176,7 @@ impl Loader {
     }
 
     /// Takes what a line says that isn't empty and isn't bad.
-    fn take_said(&mut self, at: u32, said: Said) -> Result<(), LoadEnd>
+    fn take_said(&mut self, at: u32, said: Said) -> Result<(), End>
         requires few { self.old.points < 2 ^ 63 }
         requires near { (reading : Reading) → said ≡ Said.Point reading → unsigned_abs reading.time < 10 ^ 19 }
         requires good { said ≢ Said.Bad }
@@ -212,14 +212,14 @@ impl Loader {
         store: &mut Store<P>,
         at: u32,
         line: &[u8],
-    ) -> Result<(), LoadEnd>
+    ) -> Result<(), End>
         requires sound { shown.IsSound store.old }
         requires edits { loads.KeepsEdits self.old }
         requires few { self.old.points < 2 ^ 63 }
         ensures does { loads.ForRuns store.old self.old (λ total book waiting open_run. loads.TakesLine at line.now total book waiting open_run result self.old self.new store.old store.new) }
         ensures carries { loads.CarriesOn store.old store.new }
         ensures cause { IfErr result (λ e. loads.FailsFor e store.old store.new) }
-        ensures faults { CountsFault (fault_in load_fault result) (shown.view store.old) (shown.view store.new) }
+        ensures faults { CountsFault (fault_in end_fault result) (shown.view store.old) (shown.view store.new) }
         ensures sound { OnOk result (shown.IsSound store.new) }
         ensures sound_for { IfErr result (λ e. IsSoundFor e (shown.view store.new)) }
         ensures edits { loads.KeepsEdits self.new }

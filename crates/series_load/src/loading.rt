@@ -3,30 +3,29 @@ ghost use Rattle.std.specs.Prelude.{◌≡◌, ◌≢◌, ◌≤◌, ◌<◌, �
 ghost use Rattle.chart_world.specs.Faults.{CountsFault, fault_in};
 ghost use Rattle.chart_world.specs.Reading.{unread_input};
 ghost use Rattle.series_book.specs.Edits.{id_of};
-ghost use Rattle.series_load.specs.Faults.{load_fault};
+ghost use Rattle.run_ends.specs.Faults.{end_fault};
 ghost use Rattle.series_load.specs.Sides.{Goes};
 ghost use Rattle.series_load.specs.Shown as loads;
 ghost use Rattle.series_store.specs.Shown as shown;
-ghost use Rattle.series_load.specs.Loading.{end_of_stop};
-ghost use Rattle.series_load.specs.Steps.{IsSoundFor, end_of};
-ghost use Rattle.series_load.specs.declared.load_end.LoadEnd.TheVariants.{UnknownSeries, NoMemory};
+ghost use Rattle.series_load.specs.Steps.{IsSoundFor};
+ghost use Rattle.run_ends.specs.declared.ending.End.TheVariants.{UnknownSeries, NoMemory};
 
-use crate::load_end::LoadEnd;
 use crate::loader::Loader;
-use chart_world::{LineFault, Lines};
+use chart_world::Lines;
 use gate_pages::PageWorld;
-use line_runs::{LinesStop, run_lines};
+use line_runs::{run_lines, stop_end};
+use run_ends::End;
 use series_book::Name;
 use series_store::Store;
 use std::alloc::Global;
 
 /// A reader of lines.
-fn new_lines(alloc: Global) -> Result<Lines, LoadEnd>
+fn new_lines(alloc: Global) -> Result<Lines, End>
     ensures lines { IfOk result (λ lines. lines ≡ unread_input) }
     ensures err { IfErr result (λ e. e ≡ NoMemory) }
 {
     let Ok(lines) = Lines::new(alloc) else {
-        return Err(LoadEnd::NoMemory);
+        return Err(End::NoMemory);
     };
     Ok(lines)
 }
@@ -39,7 +38,7 @@ fn new_lines(alloc: Global) -> Result<Lines, LoadEnd>
 ///
 /// After `Ok` the input was read to its end. The sets of the runs that ended before a bad line, or before a
 /// refused set, stay. After a fault of the input a run that hadn't ended isn't stored. It sends nothing.
-pub fn load<P: PageWorld>(alloc: Global, store: &mut Store<P>, name: &Name) -> Result<u64, LoadEnd>
+pub fn load<P: PageWorld>(alloc: Global, store: &mut Store<P>, name: &Name) -> Result<u64, End>
     requires sound { shown.IsSound store.old }
     // the name is looked up first, and nothing is taken where no series has it
     ensures unknown { shown.ForBook store.old (λ total book. (result ≡ Err UnknownSeries) ↔ (id_of name.now book ≡ None)) }
@@ -50,36 +49,16 @@ pub fn load<P: PageWorld>(alloc: Global, store: &mut Store<P>, name: &Name) -> R
     ensures goes { Goes (loads.side_of P.Streams store.old) (loads.side_of P.Streams store.new) }
     ensures cause { IfErr result (λ e. loads.EndsFor P.Streams e store.old store.new) }
     // no count of faults rises but that of the call that the error tells
-    ensures faults { CountsFault (fault_in load_fault result) (shown.view store.old) (shown.view store.new) }
+    ensures faults { CountsFault (fault_in end_fault result) (shown.view store.old) (shown.view store.new) }
     ensures sound { OnOk result (shown.IsSound store.new) }
     ensures sound_for { IfErr result (λ e. IsSoundFor e (shown.view store.new)) }
 {
     let Some(info) = store.series(name) else {
-        return Err(LoadEnd::UnknownSeries);
+        return Err(End::UnknownSeries);
     };
     let mut loader = Loader::new(alloc, name, info.step, info.scale)?;
     let mut lines = new_lines(alloc)?;
     load_lines(store, &mut loader, &mut lines)
-}
-
-/// What a fault of the lines is.
-fn end_of(fault: LineFault) -> LoadEnd
-    ensures { result ≡ end_of fault }
-{
-    match fault {
-        LineFault::ReadFault => LoadEnd::ReadFault,
-        LineFault::InputTooLong => LoadEnd::InputTooLong,
-    }
-}
-
-/// What a stop of the lines is.
-fn end_of_stop(stop: LinesStop<LoadEnd>) -> LoadEnd
-    ensures { result ≡ end_of_stop stop }
-{
-    match stop {
-        LinesStop::Fault(fault) => end_of(fault),
-        LinesStop::Work(end) => end,
-    }
 }
 
 /// Loads all lines.
@@ -87,7 +66,7 @@ fn load_lines<P: PageWorld>(
     store: &mut Store<P>,
     loader: &mut Loader,
     lines: &mut Lines,
-) -> Result<u64, LoadEnd>
+) -> Result<u64, End>
     requires sound { shown.IsSound store.old }
     requires fresh { lines.old ≡ unread_input }
     requires none { loader.old.run.values.items ≡ [] }
@@ -100,12 +79,12 @@ fn load_lines<P: PageWorld>(
     ensures within { OnOk result (IfSome (P.left (shown.pages store.old)) (λ input. length input ≤ 2 ^ 32)) }
     ensures goes { Goes (loads.side_of P.Streams store.old) (loads.side_of P.Streams store.new) }
     ensures cause { IfErr result (λ e. loads.EndsFor P.Streams e store.old store.new) }
-    ensures faults { CountsFault (fault_in load_fault result) (shown.view store.old) (shown.view store.new) }
+    ensures faults { CountsFault (fault_in end_fault result) (shown.view store.old) (shown.view store.new) }
     ensures sound { OnOk result (shown.IsSound store.new) }
     ensures sound_for { IfErr result (λ e. IsSoundFor e (shown.view store.new)) }
 {
     match run_lines(loader, store, lines) {
         Ok(()) => Ok(loader.points),
-        Err(stop) => Err(end_of_stop(stop)),
+        Err(stop) => Err(stop_end(stop)),
     }
 }

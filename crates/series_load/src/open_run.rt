@@ -1,9 +1,9 @@
 //! The run of readings that stands open.
 ghost use Rattle.std.specs.Prelude.{◌≡◌, ◌<◌, ◌≤◌, ◌+◌, ◌^◌, ◌-ℤ◌, ◌++◌, ◌∷◌, ◌↔◌, [], pos, length, map, Some, unsigned_abs, IsTrue, IfOk, IfErr, OnOk};
 ghost use Rattle.series_book.specs.declared.edits.Edit.TheVariants.{Set};
-ghost use Rattle.series_load.specs.declared.load_end.LoadEnd.TheVariants.{NoMemory};
+ghost use Rattle.run_ends.specs.declared.ending.End.TheVariants.{NoMemory};
 
-use crate::load_end::LoadEnd;
+use run_ends::End;
 use series_book::limits::MOST_VALUES;
 use series_book::{Edit, Name, Values};
 use std::alloc::Global;
@@ -28,12 +28,12 @@ pub(crate) struct OpenRun {
 
 impl OpenRun {
     /// No reading, and room for a whole run.
-    pub(crate) fn new(alloc: Global) -> Result<OpenRun, LoadEnd>
+    pub(crate) fn new(alloc: Global) -> Result<OpenRun, End>
         ensures none { IfOk result (λ run. run.values.items ≡ []) }
         ensures err { IfErr result (λ e. e ≡ NoMemory) }
     {
         let Ok(values) = Vec::with_capacity(alloc, MOST_VALUES) else {
-            return Err(LoadEnd::NoMemory);
+            return Err(End::NoMemory);
         };
         Ok(OpenRun {
             at: 0,
@@ -52,7 +52,7 @@ impl OpenRun {
     }
 
     /// Begins a run with this reading, whose line begins at `at`.
-    pub(crate) fn begin(&mut self, at: u32, next: &Reading) -> Result<(), LoadEnd>
+    pub(crate) fn begin(&mut self, at: u32, next: &Reading) -> Result<(), End>
         requires near { unsigned_abs next.now.time < 10 ^ 19 }
         requires none { self.old.values.items ≡ [] }
         ensures at { OnOk result (self.new.at ≡ at) }
@@ -67,7 +67,7 @@ impl OpenRun {
     }
 
     /// Goes on with this reading.
-    pub(crate) fn push(&mut self, next: &Reading) -> Result<(), LoadEnd>
+    pub(crate) fn push(&mut self, next: &Reading) -> Result<(), End>
         requires near { unsigned_abs next.now.time < 10 ^ 19 }
         ensures at { self.new.at ≡ self.old.at }
         ensures time { self.new.time ≡ self.old.time }
@@ -77,7 +77,7 @@ impl OpenRun {
     {
         self.last = next.time;
         if self.values.push(next.value).is_err() {
-            return Err(LoadEnd::NoMemory);
+            return Err(End::NoMemory);
         }
         Ok(())
     }
@@ -90,12 +90,12 @@ impl OpenRun {
     }
 
     /// The set of the run.
-    pub(crate) fn to_set(&self, alloc: Global, name: &Name) -> Result<Edit, LoadEnd>
+    pub(crate) fn to_set(&self, alloc: Global, name: &Name) -> Result<Edit, End>
         ensures set { IfOk result (λ edit. edit ≡ Set name.now self.now.time (map Some self.now.values.items)) }
         ensures err { IfErr result (λ e. e ≡ NoMemory) }
     {
         let Ok(name) = name.copy() else {
-            return Err(LoadEnd::NoMemory);
+            return Err(End::NoMemory);
         };
         let slots = slots_of(alloc, self.values.as_slice())?;
         Ok(Edit::Set {
@@ -116,16 +116,16 @@ fn differ_by(last: i128, time: i128, step: u32) -> bool
 }
 
 /// These values, none of them missing.
-fn slots_of(alloc: Global, values: &[i128]) -> Result<Vec<Option<i128>>, LoadEnd>
+fn slots_of(alloc: Global, values: &[i128]) -> Result<Vec<Option<i128>>, End>
     ensures slots { IfOk result (λ slots. slots.items ≡ map Some values.now) }
     ensures err { IfErr result (λ e. e ≡ NoMemory) }
 {
     let Ok(mut slots) = Vec::with_capacity(alloc, values.len()) else {
-        return Err(LoadEnd::NoMemory);
+        return Err(End::NoMemory);
     };
     for value in values {
         if slots.push(Some(*value)).is_err() {
-            return Err(LoadEnd::NoMemory);
+            return Err(End::NoMemory);
         }
     }
     Ok(slots)

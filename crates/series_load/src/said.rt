@@ -2,11 +2,11 @@
 ghost use Rattle.std.specs.Prelude.{◌≡◌, ◌↔◌, IsTrue, IfOk, IfErr};
 ghost use Rattle.series_load.specs.Steps.{SaysSo};
 ghost use Rattle.series_load.specs.declared.said.Said.{Said};
-ghost use Rattle.series_load.specs.declared.load_end.LoadEnd.TheVariants.{NoMemory};
+ghost use Rattle.run_ends.specs.declared.ending.End.TheVariants.{NoMemory};
 
-use crate::load_end::LoadEnd;
 use crate::open_run::Reading;
 use csv_load::{Row, RowError, parse_row};
+use run_ends::End;
 use std::alloc::Global;
 
 /// What a line says that isn't empty.
@@ -32,7 +32,7 @@ impl Said {
 }
 
 /// What the line says, which is the first one or isn't.
-pub(crate) fn said_of(alloc: Global, line: &[u8], scale: u8, first: bool) -> Result<Said, LoadEnd>
+pub(crate) fn said_of(alloc: Global, line: &[u8], scale: u8, first: bool) -> Result<Said, End>
     ensures said { IfOk result (λ said. SaysSo scale first line.now said) }
     ensures err { IfErr result (λ e. e ≡ NoMemory) }
 {
@@ -46,6 +46,6 @@ pub(crate) fn said_of(alloc: Global, line: &[u8], scale: u8, first: bool) -> Res
         Ok(Row::Point { time, value }) => Ok(Said::Point(Reading { time, value })),
         Ok(Row::Skip { .. }) => Ok(Said::Gap),
         Err(RowError::BadRow(_)) => Ok(Said::Bad),
-        Err(RowError::NoMemory) => Err(LoadEnd::NoMemory),
+        Err(RowError::NoMemory) => Err(End::NoMemory),
     }
 }

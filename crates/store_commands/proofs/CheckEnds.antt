@@ -1,12 +1,10 @@
 -- How a check ends.
-use Rattle.std.proofs.Common.{◌≡◌, ℕ, ◌+◌, List, Option, sym, subst, arith}
+use Rattle.std.proofs.Common.{◌≡◌, ℕ, List, Option, sym, subst, arith}
 use Rattle.block_disk.specs.View.{Image, View, Honest}
 use Rattle.gate_pages.specs.GateLaws.{goes_then}
 use Rattle.gate_pages.specs.Journal.{page_count}
 use Rattle.gate_pages.specs.Pages.{GoesOn}
-use Rattle.series_book.specs.declared.one_series.Series.{Series}
 use Rattle.series_store.specs.Counting.{AreSound}
-use Rattle.disk_store.specs.Held.{HoldsBook}
 use Rattle.chart_service.proofs.DiskKept.{risen_since}
 use Rattle.store_commands.specs.Damaged.{IsDamagedLater}
 use Rattle.disk_store.specs.Openings.{Opens}
@@ -15,6 +13,7 @@ use Rattle.disk_store.specs.declared.causes.OpeningCause.TheVariants as opening
 use Rattle.series_store.specs.declared.counts.Counts.{Counts}
 use Rattle.page_space.specs.Layout.{superblock_page}
 use Rattle.stored_book.specs.Standing.{AreCatalog, book_pages, RecoversTo}
+use Rattle.run_ends.specs.Statuses.{block_of}
 use Rattle.run_ends.specs.declared.ending.End.{End}
 use Rattle.run_ends.specs.declared.ending.End.TheVariants.{Done, NoMemory, SendFault, DiskFault, DamagedPage}
 use Rattle.store_commands.specs.Books.{LeavesSame}
@@ -84,7 +83,7 @@ module _ (old mid new : View) (before now : Option (List ℕ)) (sends sends_now 
   checked quiet SendFault part =
       (part.0, record { counts = part.1.counts; of_book = λ total book is. part.1.of_book total book (held old mid opens total book is); whole = whole_before part.1.counts part.1.whole; sent = part.1.sent })
   checked quiet DiskFault fault = (risen_since old.faults mid.faults new.faults quiet fault.0, fault.1)
-  checked quiet (DamagedPage page) bad = (bad_before (66 + page) bad.0, λ total book is. bad.1 total book (held old mid opens total book is), bad.2)
+  checked quiet (DamagedPage page) bad = (bad_before (block_of page) bad.0, λ total book is. bad.1 total book (held old mid opens total book is), bad.2)
   checked quiet end none = absurd none
 
 -- the same, where equals stand for equals

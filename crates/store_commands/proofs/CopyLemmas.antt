@@ -1,6 +1,6 @@
 -- A copy of a series holds the same.
-use Rattle.std.proofs.Common.{◌≡◌, ℕ, zero, suc, List, [], ◌∷◌, Option, None, Some, IfSome, sym, subst, arith}
-use Rattle.std.specs.Prelude.{All, slice_get, Contains}
+use Rattle.std.proofs.Common.{◌≡◌, ℕ, zero, suc, List, [], ◌∷◌, Option, None, Some, IfSome, sym, subst}
+use Rattle.std.specs.Prelude.{All, slice_get}
 use Rattle.std.proofs.lemmas.List.Elements.{All-head, All-tail}
 use Rattle.block_disk.specs.Streams.{sent_after}
 use Rattle.block_disk.specs.View.{Image, View}
@@ -19,9 +19,11 @@ use Rattle.disk_store.specs.Held.{HoldsBook}
 use Rattle.store_commands.specs.Books.{HoldsPages}
 use Rattle.store_commands.specs.Copied.{IsCopied, HoldsRoomFor, EndsFitting, FitsInto}
 use Rattle.store_commands.specs.Exported.{ExportsAll}
-use Rattle.store_commands.specs.Loaded.{LoadsAll, LoadsToBad, LoadsWithin, RefusesSet, EndsLoad}
+use Rattle.store_commands.specs.Loaded.{IsLoadEnd, LoadEnds, LoadsAll, LoadsToBad, LoadsWithin, RefusesRun}
 use Rattle.store_commands.specs.Traffic.{Traffic}
-use Rattle.run_ends.specs.declared.status.Status.{Status}
+use Rattle.run_ends.specs.declared.ending.End.{End}
+use Rattle.run_ends.specs.declared.ending.End.TheVariants.{Done, NoMemory, ReadFault, SendFault, DiskFault, DamagedBlock, DamagedPage}
+use Rattle.run_ends.specs.declared.ending.End.TheVariants.{BadInput, InputTooLong, TooSmall, UnknownSeries, Refused}
 use Rattle.store_commands.proofs.LoadEnds.{small_never}
 
 pages_so : (count total : ℕ) (P Q : Image → Type 0) (disk : View) → ((image : Image) → P image → Q image) → HoldsPages count total P disk → HoldsPages count total Q disk
@@ -68,54 +70,48 @@ exported_same law copy count total series window disk before now holds exported 
     let T : List ℕ → Type 0 = λ l. now ≡ sent_after l before in
     subst T (law series so.holds.after window so.holds.same) (exported total so.book held so.holds.after so.holds.named)
 
--- of the codes of a load these are left
-codes_left : (code : ℕ) → Contains (0 ∷ 3 ∷ 4 ∷ 5 ∷ 6 ∷ 7 ∷ 8 ∷ 9 ∷ 12 ∷ 14 ∷ []) code → (code ≡ 7 → ⊥) → (code ≡ 8 → ⊥) → (code ≡ 12 → ⊥) → (code ≡ 14 → ⊥) → Contains (0 ∷ 3 ∷ 4 ∷ 5 ∷ 6 ∷ 9 ∷ []) code
-codes_left code (zero, inside, is) seven eight twelve fourteen = (0, omega arith, is)
-codes_left code (suc zero, inside, is) seven eight twelve fourteen = (1, omega arith, is)
-codes_left code (suc (suc zero), inside, is) seven eight twelve fourteen = (2, omega arith, is)
-codes_left code (suc (suc (suc zero)), inside, is) seven eight twelve fourteen = (3, omega arith, is)
-codes_left code (suc (suc (suc (suc zero))), inside, is) seven eight twelve fourteen = (4, omega arith, is)
-codes_left code (suc (suc (suc (suc (suc zero)))), inside, is) seven eight twelve fourteen = absurd (seven (sym is))
-codes_left code (suc (suc (suc (suc (suc (suc zero))))), inside, is) seven eight twelve fourteen = absurd (eight (sym is))
-codes_left code (suc (suc (suc (suc (suc (suc (suc zero)))))), inside, is) seven eight twelve fourteen = (5, omega arith, is)
-codes_left code (suc (suc (suc (suc (suc (suc (suc (suc zero))))))), inside, is) seven eight twelve fourteen = absurd (twelve (sym is))
-codes_left code (suc (suc (suc (suc (suc (suc (suc (suc (suc zero)))))))), inside, is) seven eight twelve fourteen = absurd (fourteen (sym is))
-codes_left code (suc (suc (suc (suc (suc (suc (suc (suc (suc (suc k))))))))), inside, is) seven eight twelve fourteen = absurd (omega (arith, inside))
-
 -- what is so of the bytes that are left to take
 given : (left : Option (List ℕ)) (bytes : List ℕ) (P : List ℕ → Type 0) → left ≡ Some bytes → IfSome left P → P bytes
 given left bytes P is so = let Q : Option (List ℕ) → Type 0 = λ l. IfSome l P in subst Q is so
 
 module _ (law : (total : ℕ) (name : List ℕ) (book : List Series) (series begun : Series) (count : ℕ) (image : Image) → IsSeries series → IsBegunAs series begun → IsNamed book name begun → IsLoaded total name book begun (export_text series None) count image → StandsForSame total name series image)
     (through : (total : ℕ) (name : List ℕ) (book : List Series) (series begun : Series) → IsSeries series → HasRoomFor total name book series → IsNamed book name begun → GoesThrough total name book begun (export_text series None)) where
-  ends_fitting : (copy : List ℕ) (series : Series) (bytes : List ℕ) (old new : View) (t : Traffic) (end : Status) → IsSeries series → bytes ≡ export_text series None → t.left ≡ Some bytes → EndsLoad copy old new t end → HoldsRoomFor copy series old → EndsFitting copy series bytes old new end.code
-  ends_fitting copy series bytes old new t end is text told ends has =
-      let count = page_count old.size in
-      let room = has.room in
-      let goes = through has.total copy has.book series room.new.begun is room room.new.named in
-      let Bad : List ℕ → Type 0 = λ input. LoadsToBad copy count old new input end.place in
-      let Refused : List ℕ → Type 0 = λ input. RefusesSet copy count old new input end.place in
-      let All : List ℕ → Type 0 = λ input. LoadsAll copy count old new input t.sent t.sent_now in
-      let Past : List ℕ → Type 0 = λ input. LoadsWithin copy count old new input in
-      record {
-        codes = codes_left end.code ends.codes
-            (λ same. ends.undamaged same has.total has.book has.holds)
-            (λ same. goes.good end.place (pages_of count new.image) (subst Bad text (given t.left bytes Bad told (ends.bad same)) has.total has.book has.holds room.new.begun room.new.named).on.so)
-            (λ same. small_never old has.total has.book has.holds (ends.small same).1)
-            (λ same.
-            let refused = subst Refused text (given t.left bytes Refused told (ends.refused same)) has.total has.book has.holds room.new.begun room.new.named in
-            goes.accepted refused.0 refused.1 (pages_of count new.image) refused.3.on.so);
-        done = λ same.
-            let loaded = subst All text (given t.left bytes All told (ends.done same)) has.total has.book has.holds room.new.begun room.new.named in (
-              has.total,
-              pages_so count has.total (IsLoaded has.total copy has.book room.new.begun (export_text series None) loaded.0) (StandsForSame has.total copy series) new
-                  (λ image so. law has.total copy has.book series room.new.begun loaded.0 image is room.new.alike room.new.named so) loaded.1,
-            );
-        long = λ same. (given t.left bytes Past told (ends.past same) has.total has.book has.holds room.new.begun room.new.named).on.so.past;
-      }
+  -- how a load ends where there is room
+  module _ (copy : List ℕ) (series : Series) (bytes : List ℕ) (old new : View) (t : Traffic) (is : IsSeries series) (text : bytes ≡ export_text series None) (told : t.left ≡ Some bytes) (has : HoldsRoomFor copy series old) where
+    -- it goes through
+    fits : GoesThrough has.total copy has.book has.room.new.begun (export_text series None)
+    fits = through has.total copy has.book series has.room.new.begun is has.room has.room.new.named
 
-  pub fits_into : (name copy : List ℕ) (source_count : ℕ) (source old new : View) (bytes : List ℕ) (t : Traffic) (end : Status) → ExportsAll name None source_count source (Some []) (Some bytes) → t.left ≡ Some bytes → EndsLoad copy old new t end → FitsInto name copy source_count source old new bytes end.code
+    -- what is so of the input is so of the text of the export
+    of_text : (P : List ℕ → Type 0) → IfSome t.left P → P (export_text series None)
+    of_text P so = subst P text (given t.left bytes P told so)
+
+    ends_fitting : (end : End) → IsLoadEnd end copy old new t → EndsFitting copy series bytes old new end
+    ends_fitting Done came =
+        let loaded = of_text (λ input. LoadsAll copy (page_count old.size) old new input t.sent t.sent_now) came.1 has.total has.book has.holds has.room.new.begun has.room.new.named in (
+          has.total,
+          pages_so (page_count old.size) has.total (IsLoaded has.total copy has.book has.room.new.begun (export_text series None) loaded.0) (StandsForSame has.total copy series) new
+              (λ image so. law has.total copy has.book series has.room.new.begun loaded.0 image is has.room.new.alike has.room.new.named so) loaded.1,
+        )
+    ends_fitting NoMemory came = tt
+    ends_fitting ReadFault came = tt
+    ends_fitting SendFault came = tt
+    ends_fitting DiskFault came = tt
+    ends_fitting (DamagedBlock block) came = absurd (came.0.1 has.total has.book has.holds)
+    ends_fitting (DamagedPage page) came = absurd (came.1 has.total has.book has.holds)
+    ends_fitting (BadInput place) came =
+        let bad = of_text (λ input. LoadsToBad copy (page_count old.size) old new input place) came.0 has.total has.book has.holds has.room.new.begun has.room.new.named in
+        absurd (fits.good place (pages_of (page_count old.size) new.image) bad.on.so)
+    ends_fitting InputTooLong came = (given t.left bytes (λ input. LoadsWithin copy (page_count old.size) old new input) told came.0 has.total has.book has.holds has.room.new.begun has.room.new.named).on.so.past
+    ends_fitting (TooSmall blocks) came = absurd (small_never old has.total has.book has.holds came.0.1)
+    ends_fitting UnknownSeries came = absurd (came.0 has.total has.book has.holds has.room.new.begun has.room.new.named)
+    ends_fitting (Refused place number) came =
+        let refused = of_text (λ input. RefusesRun copy (page_count old.size) old new input place number) came.0 has.total has.book has.holds has.room.new.begun has.room.new.named in
+        absurd (fits.accepted place refused.refusal (pages_of (page_count old.size) new.image) refused.so.on.so)
+    ends_fitting end came = absurd came.0
+
+  pub fits_into : (name copy : List ℕ) (source_count : ℕ) (source old new : View) (bytes : List ℕ) (t : Traffic) (end : End) → ExportsAll name None source_count source (Some []) (Some bytes) → t.left ≡ Some bytes → LoadEnds copy old new t end → FitsInto name copy source_count source old new bytes end
   fits_into name copy source_count source old new bytes t end exported told ends = λ total book holds series named has.
       let same : bytes ≡ export_text series None = same_bytes bytes (export_text series None) (exported total book holds series named) in
       let is : IsSeries series = at IsSeries book named.id series (holds.images source.image holds.honest).stands.store.is_book.all_in_range named.there in
-      ends_fitting copy series bytes old new t end is same told ends has
+      ends_fitting copy series bytes old new t is same told has end ends.is

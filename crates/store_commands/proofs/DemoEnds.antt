@@ -1,16 +1,15 @@
 -- How a demo ends.
-use Rattle.std.proofs.Common.{◌≡◌, ◌≢◌, ℕ, List, Option, Err, refl, sym, subst, inl, inr}
+use Rattle.std.proofs.Common.{◌≡◌, ◌≢◌, ℕ, List, Option, Err, sym, subst, inl, inr}
 use Rattle.block_disk.specs.View.{View, sent_now}
 use Rattle.gate_pages.specs.Journal.{page_count}
 use Rattle.request_lines.specs.declared.requests.Request.{Request}
 use Rattle.disk_store.specs.Openings.{Opens}
 use Rattle.disk_store.specs.declared.causes.OpeningCause.{OpeningCause}
 use Rattle.disk_store.specs.declared.causes.OpeningCause.TheVariants as opening
-use Rattle.demo_workload.specs.declared.demo_end.DemoEnd.{DemoEnd}
-use Rattle.demo_workload.specs.declared.demo_end.DemoEnd.TheVariants.{DiskFault, Damaged, Missing, BadCoefficient, NoMemory}
 use Rattle.demo_workload.specs.Ending.{IsOutside}
 use Rattle.demo_workload.specs.Workload.{workload}
 use Rattle.run_ends.specs.declared.ending.End.{End}
+use Rattle.run_ends.specs.declared.ending.End.TheVariants.{NoMemory, DiskFault, DamagedPage, Missing, BadCoefficient}
 use Rattle.store_commands.specs.Books.{begun}
 use Rattle.store_commands.specs.Status.{opening_end}
 use Rattle.store_commands.specs.Unopened.{IsUnopenedEnd}
@@ -19,7 +18,7 @@ use Rattle.store_commands.proofs.Moments.{since_opened, opened_goes}
 use Rattle.store_commands.proofs.Unopened.{unopened_end}
 use Rattle.store_commands.proofs.WorldLemmas.{IsUnopened}
 use Rattle.store_commands.specs.Demonstrated.{DemoEnds, IsAheadDemo, IsDemoEnd, LeavesDemo}
-use Rattle.store_commands.specs.Answering.{Answered, demo_end}
+use Rattle.store_commands.specs.Answering.{Answered}
 use Rattle.store_commands.proofs.DemoRequests.{first_none, ahead_none}
 
 -- ---- no store was opened
@@ -45,24 +44,23 @@ undemonstrated seed rounds old new left left' before now sends sends_now cause e
 
 -- ---- the workload stopped
 
-never_page : (page : ℕ) → IsOutside (Damaged page) → ⊥
+never_page : (page : ℕ) → IsOutside (DamagedPage page) → ⊥
 never_page page (inl same) = cc
 never_page page (inr same) = cc
 
-never_key : (end : DemoEnd) → end ≢ DiskFault → end ≢ NoMemory → IsOutside end → ⊥
+never_key : (end : End) → end ≢ DiskFault → end ≢ NoMemory → IsOutside end → ⊥
 never_key end fault memory (inl same) = fault same
 never_key end fault memory (inr same) = memory same
 
-stopped : (seed rounds : ℕ) (old new : View) (before now : Option (List ℕ)) (sends sends_now : ℕ) (end : DemoEnd) → Answered (workload seed rounds) (page_count old.size) old new (Err end) → now ≡ before
-    → IsDemoEnd (demo_end end) seed rounds old new before now sends sends_now
-stopped seed rounds old new before now sends sends_now DiskFault a same = (a.cause, same)
-stopped seed rounds old new before now sends sends_now (Damaged page) a same = (a.cause, λ total book holds. never_page page (a.outside total book holds), same)
-stopped seed rounds old new before now sends sends_now (Missing key) a same = (λ total book holds. never_key (Missing key) (λ e. cc) (λ e. cc) (a.outside total book holds), (key, refl, a.cause), same)
-stopped seed rounds old new before now sends sends_now (BadCoefficient key) a same = (λ total book holds. never_key (BadCoefficient key) (λ e. cc) (λ e. cc) (a.outside total book holds), (key, refl, a.cause), same)
+stopped : (seed rounds : ℕ) (old new : View) (before now : Option (List ℕ)) (sends sends_now : ℕ) (end : End) → Answered (workload seed rounds) (page_count old.size) old new (Err end) → now ≡ before
+    → IsDemoEnd end seed rounds old new before now sends sends_now
 stopped seed rounds old new before now sends sends_now NoMemory a same = (a.stopped (λ e. cc), same)
+stopped seed rounds old new before now sends sends_now DiskFault a same = (a.cause, same)
+stopped seed rounds old new before now sends sends_now (DamagedPage page) a same = (a.cause, λ total book holds. never_page page (a.outside total book holds), same)
+stopped seed rounds old new before now sends sends_now (Missing number) a same = (λ total book holds. never_key (Missing number) (λ e. cc) (λ e. cc) (a.outside total book holds), a.cause, same)
+stopped seed rounds old new before now sends sends_now (BadCoefficient number) a same = (λ total book holds. never_key (BadCoefficient number) (λ e. cc) (λ e. cc) (a.outside total book holds), a.cause, same)
+stopped seed rounds old new before now sends sends_now end a same = absurd a.cause
 
-pub stopped_ends : (seed rounds : ℕ) (old new : View) (before now : Option (List ℕ)) (sends sends_now : ℕ) (why : DemoEnd) (end : End) → end ≡ demo_end why → Answered (workload seed rounds) (page_count old.size) old new (Err why) → now ≡ before
+pub stopped_ends : (seed rounds : ℕ) (old new : View) (before now : Option (List ℕ)) (sends sends_now : ℕ) (end : End) → Answered (workload seed rounds) (page_count old.size) old new (Err end) → now ≡ before
     → DemoEnds seed rounds old new before now sends sends_now end
-stopped_ends seed rounds old new before now sends sends_now why end is a same =
-    let P : End → Type 0 = λ e. DemoEnds seed rounds old new before now sends sends_now e in
-    subst P (sym is) (record { is = stopped seed rounds old new before now sends sends_now why a same; crash = a.crash; goes_on = a.goes_on })
+stopped_ends seed rounds old new before now sends sends_now end a same = record { is = stopped seed rounds old new before now sends sends_now end a same; crash = a.crash; goes_on = a.goes_on }

@@ -2,11 +2,6 @@
 use Rattle.std.proofs.Common.{◌≡◌, ◌≢◌, ℕ, ◌≤◌, Bool, List, [], Result, Ok, Err, refl, sym, subst, inr, arith, ◌∙◌}
 use Rattle.std.specs.Prelude.{IfOk, IfErr}
 use Rattle.block_disk.specs.View.{Image, View, Honest, Passes, sent_now}
-use Rattle.chart_client.specs.Accepting.{Rejects, HasNumber}
-use Rattle.chart_client.specs.declared.errors.ClientError.{ClientError}
-use Rattle.chart_client.specs.declared.errors.ClientError.TheVariants as client
-use Rattle.chart_client.specs.declared.holding.Holding.{Holding}
-use Rattle.chart_frames.specs.declared.frame.Frame.{Frame}
 use Rattle.gate_pages.specs.GateLaws.{goes_none, goes_then}
 use Rattle.gate_pages.specs.GatePages.{IsClosed, pages_view}
 use Rattle.gate_pages.specs.Journal.{page_count, pages_of}
@@ -17,6 +12,8 @@ use Rattle.empty_store.proofs.DisksMade.{sent_so}
 use Rattle.disk_store.specs.Held.{HoldsBook}
 use Rattle.disk_store.specs.Openings.{Opens}
 use Rattle.disk_store.proofs.Lowered.{holds_closed}
+use Rattle.run_ends.specs.declared.ending.End.{End}
+use Rattle.run_ends.specs.declared.ending.End.TheVariants.{NoMemory, DiskFault, DamagedPage}
 use Rattle.stored_book.specs.Damage.{IsBadForRequest}
 use Rattle.stored_book.specs.Standing.{StandsForBook, RecoversTo}
 use Rattle.stored_book.proofs.CurrentLemmas.{spelled_current}
@@ -26,8 +23,6 @@ use Rattle.chart_service.specs.Moments.{Since}
 use Rattle.chart_service.specs.State.{State}
 use Rattle.chart_service.specs.Stepping.{StandsAfter}
 use Rattle.chart_service.proofs.DiskKept.{risen_since}
-use Rattle.demo_workload.specs.declared.demo_end.DemoEnd.{DemoEnd}
-use Rattle.demo_workload.specs.declared.demo_end.DemoEnd.TheVariants.{DiskFault, Damaged, Missing, BadCoefficient, NoMemory}
 use Rattle.demo_workload.specs.declared.summaries.Summary.{Summary}
 use Rattle.demo_workload.specs.Ending.{IsOutside, IsCause}
 use Rattle.demo_workload.specs.Replying.{Summarizes, IsPartWay}
@@ -35,7 +30,7 @@ use Rattle.store_commands.specs.Books.{OfBook, FromBook, begun}
 use Rattle.store_commands.proofs.Held.{RestsNew, held, stands_held, within_held, from_book}
 use Rattle.store_commands.proofs.Moments.{since_opened, since_worked, on_book, opened_quiet, opened_goes}
 use Rattle.store_commands.specs.Demonstrated.{AnswersFirst, IsAheadDemo, LeavesDemo}
-use Rattle.store_commands.specs.Answering.{Answered, HasNumberedKey, IsEndCause}
+use Rattle.store_commands.specs.Answering.{Answered, IsEndCause}
 
 -- ---- before the first request
 
@@ -63,7 +58,6 @@ answered_none requests count at = record {
   stopped = λ other total book holds. (begun total book, first_none requests (begun total book), holds);
   outside = λ total book holds. inr refl;
   cause = tt;
-  numbered = tt;
   crash = λ total book holds. since_start requests count total book at holds;
   quiet = λ total book holds. refl;
   beside = refl;
@@ -73,13 +67,8 @@ answered_none requests count at = record {
 
 -- ---- a workload over the pages of a disk
 
--- the law that a key which a client's error names has a number
-abbrev pub Numbered : Type 0
-Numbered = (frame : Frame) (old : List Holding) (e : ClientError) → Rejects frame e old → HasNumber e
-
-cause_of : (end : DemoEnd) (count count' : ℕ) (sound sound' : Bool) (old new : View) → count' ≡ count → IsCause end (Honest new) (pages_view count sound old) (pages_view count' sound' new) → IsEndCause end count old new
-cause_of DiskFault count count' sound sound' old new same is = is
-cause_of (Damaged page) count count' sound sound' old new same is =
+cause_of : (end : End) (count count' : ℕ) (sound sound' : Bool) (old new : View) → count' ≡ count → IsCause end (Honest new) (pages_view count sound old) (pages_view count' sound' new) → IsEndCause end count old new
+cause_of (DamagedPage page) count count' sound sound' old new same is =
     let C : ℕ → Type 0 = λ n. IsBadForRequest n (pages_of n new.image) page in
     let D : Image → Type 0 = λ i. IsBadForRequest count i page in
     record {
@@ -88,24 +77,11 @@ cause_of (Damaged page) count count' sound sound' old new same is =
       within = omega (arith, is.0, same);
       bad = λ honest. let bad = subst C same (is.1 honest) in subst D (sym (spelled_current (pages_of count new.image) bad.numbers bad.keeps.spelled)) bad;
     }
-cause_of (Missing key) count count' sound sound' old new same is = is
-cause_of (BadCoefficient key) count count' sound sound' old new same is = is
-cause_of NoMemory count count' sound sound' old new same is = tt
+cause_of end count count' sound sound' old new same is = is
 
-number_of : Numbered → (end : DemoEnd) (count : ℕ) (old new : View) → IsEndCause end count old new → HasNumberedKey end
-number_of law DiskFault count old new is = tt
-number_of law (Damaged page) count old new is = tt
-number_of law (Missing key) count old new is = law is.frame is.holdings (client.Missing key) is.rejected
-number_of law (BadCoefficient key) count old new is = law is.frame is.holdings (client.BadCoefficient key) is.rejected
-number_of law NoMemory count old new is = tt
-
-cause_in : (answer : Result Summary DemoEnd) (count count' : ℕ) (sound sound' : Bool) (old new : View) → count' ≡ count → IfErr answer (λ end. IsCause end (Honest new) (pages_view count sound old) (pages_view count' sound' new)) → IfErr answer (λ end. IsEndCause end count old new)
+cause_in : (answer : Result Summary End) (count count' : ℕ) (sound sound' : Bool) (old new : View) → count' ≡ count → IfErr answer (λ end. IsCause end (Honest new) (pages_view count sound old) (pages_view count' sound' new)) → IfErr answer (λ end. IsEndCause end count old new)
 cause_in (Ok summary) count count' sound sound' old new same is = tt
 cause_in (Err end) count count' sound sound' old new same is = cause_of end count count' sound sound' old new same is
-
-number_in : Numbered → (answer : Result Summary DemoEnd) (count : ℕ) (old new : View) → IfErr answer (λ end. IsEndCause end count old new) → IfErr answer HasNumberedKey
-number_in law (Ok summary) count old new is = tt
-number_in law (Err end) count old new is = number_of law end count old new is
 
 module _ (requests : List Request) (count count' : ℕ) (sound sound' : Bool) (old new : View) (sessions : List Session)
     (same : count' ≡ count) (told : Honest old → Honest new) (faults : old.faults ≤ new.faults) (beside : new.beside ≡ old.beside) (goes : GoesOn old new) (rests : RestsNew count old) where
@@ -116,7 +92,7 @@ module _ (requests : List Request) (count count' : ℕ) (sound sound' : Bool) (o
   abbrev pub Done : ℕ → List Series → Summary → Type 0
   Done total book summary = StandsAfter total (pages_of count' new.image) sessions (λ state. Summarizes requests (begun total book) state summary)
 
-  abbrev pub Left : ℕ → List Series → DemoEnd → Type 0
+  abbrev pub Left : ℕ → List Series → End → Type 0
   Left total book end = end ≢ DiskFault → IsPartWay requests total (begun total book) (pages_of count' new.image)
 
   abbrev pub Passed : ℕ → List Series → Type 0
@@ -126,7 +102,7 @@ module _ (requests : List Request) (count count' : ℕ) (sound sound' : Bool) (o
   of_pages IsSo all = λ total book holds. all total book holds.honest (stands_held count total book old rests holds)
 
   -- the book that some first requests left is held
-  stopped_by : (end : DemoEnd) → OfPages (λ total book. Left total book end) → IsClosed new → end ≢ DiskFault → FromBook count old new (AnswersFirst requests)
+  stopped_by : (end : End) → OfPages (λ total book. Left total book end) → IsClosed new → end ≢ DiskFault → FromBook count old new (AnswersFirst requests)
   stopped_by end left closed other = λ total book holds.
       let way = of_pages (λ total book. Left total book end) left total book holds other in
       let S : ℕ → Type 0 = λ c. StandsForBook (pages_of c new.image) total way.new.book in (
@@ -149,26 +125,24 @@ module _ (requests : List Request) (count count' : ℕ) (sound sound' : Bool) (o
   quiet_by passes = λ total book holds.
       sent_so (pages_view count sound old) (pages_view count' sound' new) (IsPartWay requests total (begun total book)) (of_pages Passed passes total book holds) new.clock goes.later (omega arith)
 
-  answered_alone : (answer : Result Summary DemoEnd) → OfPages (λ total book. IfOk answer (Done total book)) → OfPages (λ total book. IfErr answer IsOutside) → OfPages Passed → OfPages (λ total book. IfErr answer (Left total book))
-      → IfErr answer (λ end. IsEndCause end count old new) → IfErr answer HasNumberedKey → (answer ≢ Err DiskFault → IsClosed new) → Answered requests count old new answer
-  answered_alone (Ok summary) done standing passes left cause numbered closed = record {
+  answered_alone : (answer : Result Summary End) → OfPages (λ total book. IfOk answer (Done total book)) → OfPages (λ total book. IfErr answer IsOutside) → OfPages Passed → OfPages (λ total book. IfErr answer (Left total book))
+      → IfErr answer (λ end. IsEndCause end count old new) → (answer ≢ Err DiskFault → IsClosed new) → Answered requests count old new answer
+  answered_alone (Ok summary) done standing passes left cause closed = record {
     done = from_book count count' old new same told sessions (λ start state. Summarizes requests start state summary) (closed (λ e. cc)) (of_pages (λ total book. Done total book summary) done);
     stopped = tt;
     outside = tt;
     cause = tt;
-    numbered = tt;
-    crash = leaves passes;
+      crash = leaves passes;
     quiet = quiet_by passes;
     beside = beside;
     faults = faults;
     goes_on = goes;
   }
-  answered_alone (Err end) done standing passes left cause numbered closed = record {
+  answered_alone (Err end) done standing passes left cause closed = record {
     done = tt;
     stopped = λ other. stopped_by end left (closed (λ e. other (cc))) other;
     outside = of_pages (λ total book. IsOutside end) standing;
     cause = cause;
-    numbered = numbered;
     crash = leaves passes;
     quiet = quiet_by passes;
     beside = beside;
@@ -176,11 +150,9 @@ module _ (requests : List Request) (count count' : ℕ) (sound sound' : Bool) (o
     goes_on = goes;
   }
 
-  pub answered_by : Numbered → (answer : Result Summary DemoEnd) → OfPages (λ total book. IfOk answer (Done total book)) → OfPages (λ total book. IfErr answer IsOutside) → OfPages Passed → OfPages (λ total book. IfErr answer (Left total book))
+  pub answered_by : (answer : Result Summary End) → OfPages (λ total book. IfOk answer (Done total book)) → OfPages (λ total book. IfErr answer IsOutside) → OfPages Passed → OfPages (λ total book. IfErr answer (Left total book))
       → IfErr answer (λ end. IsCause end (Honest new) (pages_view count sound old) (pages_view count' sound' new)) → (answer ≢ Err DiskFault → IsClosed new) → Answered requests count old new answer
-  answered_by law answer done standing passes left cause closed =
-      let is = cause_in answer count count' sound sound' old new same cause in
-      answered_alone answer done standing passes left is (number_in law answer count old new is) closed
+  answered_by answer done standing passes left cause closed = answered_alone answer done standing passes left (cause_in answer count count' sound sound' old new same cause) closed
 
 -- ---- and the store was opened before
 
@@ -192,20 +164,16 @@ leaves_on requests old mid new opens leaves = λ total book holds.
     since_both old mid new IsSo (since_opened IsSo old mid total book opens holds (λ image is. ahead_none requests count total book (sent_now old) image is))
     (subst P (opened_quiet old mid opens) (leaves total book (held old mid opens total book holds)))
 
-cause_on : (end : DemoEnd) (count : ℕ) (old mid new : View) → mid.faults ≡ old.faults → IsEndCause end count mid new → IsEndCause end count old new
+cause_on : (end : End) (count : ℕ) (old mid new : View) → mid.faults ≡ old.faults → IsEndCause end count mid new → IsEndCause end count old new
 cause_on DiskFault count old mid new same is = risen_since old.faults mid.faults new.faults same is
-cause_on (Damaged page) count old mid new same is = is
-cause_on (Missing key) count old mid new same is = is
-cause_on (BadCoefficient key) count old mid new same is = is
-cause_on NoMemory count old mid new same is = tt
+cause_on end count old mid new same is = is
 
-answered_on : (requests : List Request) (old mid new : View) (answer : Result Summary DemoEnd) → Opens (page_count old.size) old mid → mid.faults ≡ old.faults → Answered requests (page_count old.size) mid new answer → Answered requests (page_count old.size) old new answer
+answered_on : (requests : List Request) (old mid new : View) (answer : Result Summary End) → Opens (page_count old.size) old mid → mid.faults ≡ old.faults → Answered requests (page_count old.size) mid new answer → Answered requests (page_count old.size) old new answer
 answered_on requests old mid new (Ok summary) opens quiet a = record {
   done = λ total book holds. a.done total book (held old mid opens total book holds);
   stopped = tt;
   outside = tt;
   cause = tt;
-  numbered = tt;
   crash = leaves_on requests old mid new opens a.crash;
   quiet = λ total book holds. a.quiet total book (held old mid opens total book holds) ∙ opened_quiet old mid opens;
   beside = a.beside ∙ opens.beside_is;
@@ -217,7 +185,6 @@ answered_on requests old mid new (Err end) opens quiet a = record {
   stopped = λ other total book holds. a.stopped other total book (held old mid opens total book holds);
   outside = λ total book holds. a.outside total book (held old mid opens total book holds);
   cause = cause_on end (page_count old.size) old mid new quiet a.cause;
-  numbered = a.numbered;
   crash = leaves_on requests old mid new opens a.crash;
   quiet = λ total book holds. a.quiet total book (held old mid opens total book holds) ∙ opened_quiet old mid opens;
   beside = a.beside ∙ opens.beside_is;
@@ -225,8 +192,8 @@ answered_on requests old mid new (Err end) opens quiet a = record {
   goes_on = goes_then old mid new (opened_goes old mid opens) a.goes_on;
 }
 
-pub answered_opened : (requests : List Request) (count : ℕ) (old mid new : View) (answer answer' : Result Summary DemoEnd) → count ≡ page_count old.size → answer ≡ answer' → Opens (page_count old.size) old mid → mid.faults ≡ old.faults → Answered requests count mid new answer → Answered requests (page_count old.size) old new answer'
+pub answered_opened : (requests : List Request) (count : ℕ) (old mid new : View) (answer answer' : Result Summary End) → count ≡ page_count old.size → answer ≡ answer' → Opens (page_count old.size) old mid → mid.faults ≡ old.faults → Answered requests count mid new answer → Answered requests (page_count old.size) old new answer'
 answered_opened requests count old mid new answer answer' counted same opens quiet a =
     let C : ℕ → Type 0 = λ c. Answered requests c mid new answer in
-    let A : Result Summary DemoEnd → Type 0 = λ x. Answered requests (page_count old.size) old new x in
+    let A : Result Summary End → Type 0 = λ x. Answered requests (page_count old.size) old new x in
     subst A same (answered_on requests old mid new answer opens quiet (subst C counted a))

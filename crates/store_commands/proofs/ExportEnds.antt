@@ -1,8 +1,8 @@
 -- How an export ends.
-use Rattle.std.proofs.Common.{◌≡◌, ℕ, zero, suc, ◌+◌, ◌*◌, ◌<◌, ◌≤◌, ◌⊎◌, Bool, List, [], ◌∷◌, Option, Some, None, Result, Ok, Err, length, refl, sym, ap, subst, arith, inl, inr, ◌∙◌}
+use Rattle.std.proofs.Common.{◌≡◌, ℕ, zero, suc, ◌+◌, ◌*◌, ◌<◌, ◌≤◌, Bool, List, Option, Some, None, Result, Ok, Err, length, refl, sym, ap, subst, arith, inl, inr, ◌∙◌}
 use Rattle.std.proofs.Math.Seq.{take-length}
 use Rattle.std.proofs.lemmas.List.{append-nil}
-use Rattle.std.specs.Prelude.{Contains, slice_get, IfErr, OnOk, OnErr}
+use Rattle.std.specs.Prelude.{slice_get, IfErr, OnOk, OnErr}
 use Rattle.block_disk.specs.Counts.{HasRisen}
 use Rattle.block_disk.specs.Streams.{sent_after, PartSent}
 use Rattle.block_disk.specs.View.{Image, View, Now, Honest, Passes, sent_now}
@@ -26,9 +26,10 @@ use Rattle.series_store.specs.Sending.{Sends, HasUnfitPage, IsSeriesCause, IsNoD
 use Rattle.series_store.specs.declared.send_errors.SendError.{SendError}
 use Rattle.series_store.specs.declared.send_errors.SendError.TheVariants.{SendFault, DiskFault, Damaged, NoMemory}
 use Rattle.disk_store.specs.Held.{HoldsBook}
-use Rattle.disk_store.specs.Openings.{IsOutside, Opens}
+use Rattle.disk_store.specs.Openings.{Opens}
 use Rattle.disk_store.specs.declared.causes.OpeningCause.{OpeningCause}
 use Rattle.disk_store.specs.declared.causes.OpeningCause.TheVariants as opening
+use Rattle.run_ends.specs.Statuses.{block_of}
 use Rattle.run_ends.specs.declared.ending.End.{End}
 use Rattle.run_ends.specs.declared.ending.End.TheVariants as ends
 use Rattle.stored_book.specs.Records.{entry}
@@ -38,7 +39,7 @@ use Rattle.chart_service.specs.MomentLaws.{since_none}
 use Rattle.chart_service.proofs.DiskKept.{risen_since}
 use Rattle.store_commands.specs.Books.{Never, LeavesSame, SendsPartOf}
 use Rattle.store_commands.specs.Damaged.{IsDamagedLater}
-use Rattle.store_commands.specs.Exported.{ExportEnds, ExportsPart, IsBadForExport, IsExportEnd, unnamed_ends}
+use Rattle.store_commands.specs.Exported.{ExportEnds, ExportsPart, IsBadForExport, IsExportEnd}
 use Rattle.store_commands.specs.Exporting.{EndsExport, ExportsStore, export_end}
 use Rattle.store_commands.specs.Loaded.{OfSeries}
 use Rattle.store_commands.specs.Status.{opening_end}
@@ -48,7 +49,7 @@ use Rattle.store_commands.proofs.Moments.{opened_goes, opened_since, since_on, o
 use Rattle.store_commands.proofs.CheckEnds.{since_both}
 use Rattle.store_commands.proofs.CheckLooks.{left_stands}
 use Rattle.store_commands.proofs.LoadStored.{named_or}
-use Rattle.store_commands.proofs.Unopened.{unopened_end}
+use Rattle.store_commands.proofs.Unopened.{outside_ends, unopened_end}
 use Rattle.store_commands.proofs.WorldLemmas.{IsUnopened}
 
 -- ---- no store was opened
@@ -57,11 +58,6 @@ use Rattle.store_commands.proofs.WorldLemmas.{IsUnopened}
 none_sent : (text : List ℕ) (before now : Option (List ℕ)) → now ≡ before → SendsPartOf text before now
 none_sent text None now same = record { count = 0; within = omega arith; sent = same }
 none_sent text (Some bytes) now same = record { count = 0; within = omega arith; sent = same ∙ ap Some (sym (append-nil bytes)) }
-
--- a store that holds a book is kept from opening by want of memory or a fault alone
-outside_ends : (cause : OpeningCause) → IsOutside cause → Contains unnamed_ends (opening_end cause)
-outside_ends cause (inl fault) = let P : OpeningCause → Type 0 = λ c. Contains unnamed_ends (opening_end c) in subst P (sym fault) (1, omega arith, refl)
-outside_ends cause (inr memory) = let P : OpeningCause → Type 0 = λ c. Contains unnamed_ends (opening_end c) in subst P (sym memory) (0, omega arith, refl)
 
 pub unexported : (name : List ℕ) (window : Option Window) (old new : View) (left left' before now : Option (List ℕ)) (sends sends_now : ℕ) (cause : OpeningCause) (end : End) → IsUnopened old new left left' before now cause → end ≡ opening_end cause
     → ExportEnds name window old new before now sends sends_now end
@@ -166,7 +162,7 @@ module _ (name : List ℕ) (window : Option Window) (count count' : ℕ) (sound 
       by_error DiskFault no_damage cause = cause
       by_error (Damaged page) no_damage cause =
           let image = pages_of count old.image in
-          let bad : IsDamagedLater IsBadForExport count old (66 + page) = record {
+          let bad : IsDamagedLater IsBadForExport count old (block_of page) = record {
             page = page;
             place_is = refl;
             within = omega (arith, cause.0, few);
@@ -215,7 +211,7 @@ module _ (name : List ℕ) (window : Option Window) (old mid new : View) (before
   exported ends.NoMemory is = tt
   exported ends.SendFault is = is
   exported ends.DiskFault is = risen_since old.faults mid.faults new.faults quiet is
-  exported (ends.DamagedPage page) is = (tree_before (page_count old.size) old mid (66 + page) opens.honest pages is.0, λ total book holds. is.1 total book (held old mid opens total book holds))
+  exported (ends.DamagedPage page) is = (tree_before (page_count old.size) old mid (block_of page) opens.honest pages is.0, λ total book holds. is.1 total book (held old mid opens total book holds))
   exported ends.UnknownSeries is = (λ total book holds series named. is.0 total book (held old mid opens total book holds) series named, is.1)
   exported end is = absurd is
 

@@ -10,18 +10,9 @@ use Rattle.series_store.specs.declared.errors.StoreError.{StoreError}
 use Rattle.series_store.specs.declared.errors.StoreError.TheVariants as store
 use Rattle.series_store.specs.declared.send_errors.SendError.{SendError}
 use Rattle.series_store.specs.declared.send_errors.SendError.TheVariants as send
-use Rattle.series_load.specs.Faults.{load_fault}
-use Rattle.series_load.specs.declared.load_end.LoadEnd.{LoadEnd}
-use Rattle.series_load.specs.declared.load_end.LoadEnd.TheVariants as load
 use Rattle.series_export.specs.Faults.{send_fault}
-use Rattle.demo_workload.specs.Ending.{demo_fault}
-use Rattle.demo_workload.specs.declared.demo_end.DemoEnd.{DemoEnd}
-use Rattle.demo_workload.specs.declared.demo_end.DemoEnd.TheVariants as demo_end
-use Rattle.store_commands.specs.Answering as demo
 use Rattle.store_commands.specs.Checking.{check_end}
 use Rattle.store_commands.specs.Exporting.{export_end}
-use Rattle.store_commands.specs.Storing as loading
-use Rattle.store_commands.specs.Status.{code_fault}
 
 -- a store that wasn't checked
 pub counts_unchecked : (error : StoreError) (told : Type 0) (s : Superblock) (old new : View) → new.beside ≡ old.beside → IsCheckCause error told s old new → (error ≢ store.DiskFault → new.faults ≡ old.faults) → CountsFault (end_fault (check_end error)) old new
@@ -31,24 +22,7 @@ counts_unchecked store.DiskFault told s old new beside cause quiet = counts_disk
 counts_unchecked (store.Damaged page) told s old new beside cause quiet = counts_no_disk old new beside (quiet (λ is. cc))
 counts_unchecked store.NoMemory told s old new beside cause quiet = counts_no_disk old new beside (quiet (λ is. cc))
 
--- a load that wasn't done, a workload that wasn't answered to its end, and what sending a series answers
-pub load_fault_is : (end : LoadEnd) → code_fault (loading.end_status end).code ≡ load_fault end
-load_fault_is load.UnknownSeries = refl
-load_fault_is (load.BadLine at) = refl
-load_fault_is (load.Refused at refusal) = refl
-load_fault_is load.ReadFault = refl
-load_fault_is load.InputTooLong = refl
-load_fault_is load.DiskFault = refl
-load_fault_is (load.Damaged page) = refl
-load_fault_is load.NoMemory = refl
-
-pub demo_fault_is : (end : DemoEnd) → end_fault (demo.demo_end end) ≡ demo_fault end
-demo_fault_is demo_end.DiskFault = refl
-demo_fault_is (demo_end.Damaged page) = refl
-demo_fault_is (demo_end.Missing key) = refl
-demo_fault_is (demo_end.BadCoefficient key) = refl
-demo_fault_is demo_end.NoMemory = refl
-
+-- what sending a series answers
 pub send_fault_is : (answer : Result (Unit {0}) SendError) → end_fault (export_end answer) ≡ fault_in send_fault answer
 send_fault_is (Ok done) = refl
 send_fault_is (Err send.SendFault) = refl

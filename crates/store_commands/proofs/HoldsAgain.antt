@@ -14,10 +14,8 @@ use Rattle.stored_book.proofs.CurrentLemmas.{recovers_new}
 use Rattle.stored_book.specs.Standing.{StandsForBook}
 use Rattle.chart_service.specs.State.{State}
 use Rattle.series_load.specs.Sets.{IsAfterSome}
-use Rattle.series_load.specs.declared.load_end.LoadEnd.{LoadEnd}
-use Rattle.series_load.specs.declared.load_end.LoadEnd.TheVariants as load_end
-use Rattle.demo_workload.specs.declared.demo_end.DemoEnd.{DemoEnd}
-use Rattle.demo_workload.specs.declared.demo_end.DemoEnd.TheVariants as demo_end
+use Rattle.run_ends.specs.declared.ending.End.{End}
+use Rattle.run_ends.specs.declared.ending.End.TheVariants as ends
 use Rattle.demo_workload.specs.declared.summaries.Summary.{Summary}
 use Rattle.request_lines.specs.declared.requests.Request.{Request}
 use Rattle.demo_workload.specs.Replying.{Summarizes}
@@ -26,6 +24,7 @@ use Rattle.store_commands.specs.Demonstrated.{AnswersFirst}
 use Rattle.store_commands.specs.Answering.{Answered}
 use Rattle.store_commands.specs.Books.{FromBook, HoldsAgain, HoldsPages, OfBook}
 use Rattle.store_commands.specs.Storing.{Stores}
+use Rattle.store_commands.specs.Traffic.{Traffic}
 use Rattle.store_commands.proofs.Held.{held, holds_sent}
 
 pub again_opened : (old mid : View) → Opens (page_count old.size) old mid → HoldsAgain (page_count old.size) old mid
@@ -64,18 +63,18 @@ after_held count total name book series left new p =
       },
     )
 
-pub again_loaded : (name : List ℕ) (count : ℕ) (old new : View) (left left' before now : Option (List ℕ)) (reads reads_now sends sends_now : ℕ) (answer : Result ℕ LoadEnd) → answer ≢ Err load_end.DiskFault → Stores name count old new left left' before now reads reads_now sends sends_now answer → HoldsAgain count old new
-again_loaded name count old new left left' before now reads reads_now sends sends_now answer other s = λ total book holds.
+pub again_loaded : (name : List ℕ) (count : ℕ) (old new : View) (t : Traffic) (answer : Result ℕ End) → answer ≢ Err ends.DiskFault → Stores name count old new t answer → HoldsAgain count old new
+again_loaded name count old new t answer other s = λ total book holds.
     (elim (id_of name book) as (λ o. id_of name book ≡ o → (next : List Series) × HoldsBook count total next new) [
       | None ↦ λ none. (book, ((s.untouched (s.unnamed total book holds none)).0 total book holds).0)
       | Some id ↦ λ is.
           let there = series_there book name id is in
-          after_held count total name book there.0 left new (s.some other total book holds there.0 (record { id = id; id_is = is; there = there.1 }))
+          after_held count total name book there.0 t.left new (s.some other total book holds there.0 (record { id = id; id_is = is; there = there.1 }))
     ]) refl
 
 -- ---- a workload
 
-pub again_answered : (requests : List Request) (count : ℕ) (old new : View) (answer : Result Summary DemoEnd) → answer ≢ Err demo_end.DiskFault → Answered requests count old new answer → HoldsAgain count old new
+pub again_answered : (requests : List Request) (count : ℕ) (old new : View) (answer : Result Summary End) → answer ≢ Err ends.DiskFault → Answered requests count old new answer → HoldsAgain count old new
 again_answered requests count old new (Ok summary) other a = again_from count old new (λ start state. Summarizes requests start state summary) a.done
 again_answered requests count old new (Err end) other a = again_from count old new (AnswersFirst requests) (a.stopped (λ is. other (ap Err is)))
 

@@ -1,15 +1,14 @@
--- How a load ends, by its status.
-use Rattle.std.proofs.Common.{◌≡◌, ◌≢◌, ℕ, ◌≤◌, ◌<◌, ◌⊎◌, List, [], ◌∷◌, Option, Some, None, Result, Ok, Err, IfSome, refl, sym, subst, inl, inr, arith, ◌∙◌}
-use Rattle.std.specs.Prelude.{Contains}
-use Rattle.block_disk.specs.View.{Image, View, Now, Honest, DiskKept, Passes, sent_now}
+-- How a load ends.
+use Rattle.std.proofs.Common.{◌≡◌, ◌≢◌, ℕ, ◌<◌, ◌≤◌, List, [], Option, Some, None, Result, Ok, Err, IfSome, refl, sym, subst, inl, arith, ◌∙◌}
+use Rattle.block_disk.specs.Streams.{sent_after}
+use Rattle.block_disk.specs.View.{Image, View, Now, DiskKept, Passes, sent_now}
 use Rattle.block_disk.proofs.Passing.{now_back}
 use Rattle.gate_pages.specs.GateLaws.{kept_told, goes_by, goes_then}
 use Rattle.gate_pages.specs.GatePages.{IsReadable}
 use Rattle.gate_pages.specs.Journal.{page_count, pages_of}
 use Rattle.series_book.specs.declared.one_series.Series.{Series}
 use Rattle.disk_store.specs.Held.{HoldsBook}
-use Rattle.disk_store.specs.Openings.{Opens, Prevents}
-use Rattle.disk_store.specs.Openings as openings
+use Rattle.disk_store.specs.Openings.{Opens}
 use Rattle.disk_store.specs.declared.causes.OpeningCause.{OpeningCause}
 use Rattle.disk_store.specs.declared.causes.OpeningCause.TheVariants as opening
 use Rattle.disk_store.proofs.Opened.{is_large}
@@ -18,27 +17,28 @@ use Rattle.stored_book.proofs.CurrentLemmas.{book_current, book_keeps, recovers_
 use Rattle.chart_service.specs.MomentLaws.{since_both, since_so}
 use Rattle.chart_service.specs.Moments.{Since}
 use Rattle.chart_service.proofs.DiskKept.{risen_since}
-use Rattle.series_load.specs.Sets.{IsNamed, IsAfterSome}
+use Rattle.series_load.specs.Sets.{IsAfterSome}
 use Rattle.series_load.specs.Ends.{IsLoaded}
 use Rattle.series_load.specs.Fronts.{PlacedLine}
 use Rattle.series_load.specs.Rows.{AreTable}
 use Rattle.series_load.specs.Runs.{AreFirst, nothing}
 use Rattle.series_load.proofs.Joined.{told_nothing}
-use Rattle.series_load.specs.declared.load_end.LoadEnd.{LoadEnd}
-use Rattle.series_load.specs.declared.load_end.LoadEnd.TheVariants.{UnknownSeries, BadLine, Refused, ReadFault, InputTooLong, DiskFault, Damaged, NoMemory}
 use Rattle.series_load.proofs.Knowing.{some_at_first}
 use Rattle.chart_world.specs.LineLaws.{told_so}
-use Rattle.run_ends.specs.declared.status.Status.{Status}
-use Rattle.store_commands.specs.Books.{OfBook, IsOn, IsOnBook, HoldsPages}
-use Rattle.store_commands.specs.Status.{opening_status}
-use Rattle.store_commands.specs.Sending.{SendsText}
-use Rattle.run_ends.specs.Statuses.{code_of, place_of}
 use Rattle.run_ends.specs.declared.ending.End.{End}
-use Rattle.store_commands.specs.Codes.{low_code, sent_as, sent_code, unsent, unopened}
+use Rattle.run_ends.specs.declared.ending.End.TheVariants.{Done, NoMemory, ReadFault, SendFault, DiskFault, DamagedPage, BadInput, InputTooLong, UnknownSeries, Refused}
+use Rattle.store_commands.specs.Books.{OfBook, IsOn, IsOnBook, HoldsPages, SendsPartOf}
+use Rattle.store_commands.specs.Status.{opening_end}
+use Rattle.store_commands.specs.Sending.{IsSent, SendsText}
+use Rattle.store_commands.specs.Traffic.{Traffic}
+use Rattle.store_commands.specs.Unopened.{IsUnopenedEnd}
 use Rattle.store_commands.proofs.Held.{held}
+use Rattle.store_commands.proofs.LoadStored.{answered, err_same, failed}
 use Rattle.store_commands.proofs.Moments.{since_opened, since_sent, opened_since, opened_goes, opened_quiet}
-use Rattle.store_commands.specs.Loaded.{OfSeries, Unnamed, LoadEnds, IsAheadLoad, LeavesLoads, RefusesSet, KeepsUnnamed, HoldsSome, LoadsSome, loaded_text}
-use Rattle.store_commands.specs.Storing.{StopsAt, IsEndCause, Stores, end_status}
+use Rattle.store_commands.proofs.Unopened.{outside_ends, unopened_end}
+use Rattle.store_commands.proofs.WorldLemmas.{IsUnopened}
+use Rattle.store_commands.specs.Loaded.{OfSeries, LoadEnds, IsAheadLoad, IsLoadEnd, LeavesLoads, HoldsSome, LoadsSome, loaded_text}
+use Rattle.store_commands.specs.Storing.{StopsAt, IsEndCause, Stores}
 
 -- ---- the store is opened first
 
@@ -49,31 +49,22 @@ module _ (name : List ℕ) (old mid new : View) (opens : Opens (page_count old.s
   of_book : (IsSo : ℕ → List Series → Type 0) → OfBook (page_count old.size) mid IsSo → OfBook (page_count old.size) old IsSo
   of_book IsSo all = λ total book holds. all total book (held old mid opens total book holds)
 
-  stops_on : (input : List ℕ) (left' : Option (List ℕ)) (e : LoadEnd) → StopsAt name (page_count old.size) mid new input left' e → StopsAt name (page_count old.size) old new input left' e
-  stops_on input left' UnknownSeries is = tt
-  stops_on input left' (BadLine at) is = λ total book holds series named. is total book (held old mid opens total book holds) series named
-  stops_on input left' (Refused at refusal) is = λ total book holds series named. is total book (held old mid opens total book holds) series named
-  stops_on input None ReadFault is = tt
-  stops_on input (Some bytes) ReadFault is = λ total book holds series named. is total book (held old mid opens total book holds) series named
+  stops_on : (input : List ℕ) (left' : Option (List ℕ)) (end : End) → StopsAt name (page_count old.size) mid new input left' end → StopsAt name (page_count old.size) old new input left' end
+  stops_on input left' ReadFault is = told_so _ _ left' (λ bytes all total book holds series named. all total book (held old mid opens total book holds) series named) is
+  stops_on input left' (BadInput at) is = λ total book holds series named. is total book (held old mid opens total book holds) series named
   stops_on input left' InputTooLong is = λ total book holds series named. is total book (held old mid opens total book holds) series named
-  stops_on input left' DiskFault is = tt
-  stops_on input left' (Damaged page) is = tt
-  stops_on input left' NoMemory is = tt
+  stops_on input left' (Refused at number) is = λ total book holds series named. is total book (held old mid opens total book holds) series named
+  stops_on input left' end is = tt
 
-  cause_on : (e : LoadEnd) (reads reads_now : ℕ) → IsEndCause e (page_count old.size) mid new reads reads_now → IsEndCause e (page_count old.size) old new reads reads_now
-  cause_on UnknownSeries reads reads_now is = tt
-  cause_on (BadLine at) reads reads_now is = tt
-  cause_on (Refused at refusal) reads reads_now is = tt
-  cause_on ReadFault reads reads_now is = is
-  cause_on InputTooLong reads reads_now is = tt
+  cause_on : (end : End) (reads reads_now : ℕ) → IsEndCause end (page_count old.size) mid new reads reads_now → IsEndCause end (page_count old.size) old new reads reads_now
   cause_on DiskFault reads reads_now is = risen_since old.faults mid.faults new.faults same_faults is
-  cause_on (Damaged page) reads reads_now is = (λ total book holds. is.0 total book (held old mid opens total book holds), is.1)
-  cause_on NoMemory reads reads_now is = tt
+  cause_on (DamagedPage page) reads reads_now is = (λ total book holds. is.0 total book (held old mid opens total book holds), is.1)
+  cause_on end reads reads_now is = is
 
   abbrev Stays : View → ℕ → List Series → Type 0
   Stays from total book = HoldsBook (page_count old.size) total book new × Since from new (λ image sent. RecoversTo (page_count old.size) image total book)
 
-  untouched_on : (answer : Result ℕ LoadEnd) (left left' : Option (List ℕ)) → (answer ≡ Err UnknownSeries → OfBook (page_count old.size) mid (Stays mid) × (left' ≡ left)) → answer ≡ Err UnknownSeries → OfBook (page_count old.size) old (Stays old) × (left' ≡ left)
+  untouched_on : (answer : Result ℕ End) (left left' : Option (List ℕ)) → (answer ≡ Err UnknownSeries → OfBook (page_count old.size) mid (Stays mid) × (left' ≡ left)) → answer ≡ Err UnknownSeries → OfBook (page_count old.size) old (Stays old) × (left' ≡ left)
   untouched_on answer left left' stays is =
       let so = stays is in (
         (λ total book holds.
@@ -91,52 +82,41 @@ module _ (name : List ℕ) (old mid new : View) (opens : Opens (page_count old.s
       (since_opened IsSo old mid total book opens holds (λ image is. (record { readable = is.readable; within = is.within; old = is.old; so = some_at_first total name book series left (book_pages (page_count old.size) image) is.stands }, refl)))
       (since_so mid new (λ image sent. Q image × (sent ≡ sent_now mid)) IsSo (λ image sent is. (is.0, is.1 ∙ opened_quiet old mid opens)) (moments total book (held old mid opens total book holds) series named))
 
-  stores_opened : (left left' before now : Option (List ℕ)) (reads reads_now sends sends_now : ℕ) (answer : Result ℕ LoadEnd) → Stores name (page_count old.size) mid new left left' before now reads reads_now sends sends_now answer
-      → Stores name (page_count old.size) old new left left' before now reads reads_now sends sends_now answer
-  stores_opened left left' before now reads reads_now sends sends_now (Ok readings) s = record {
-    done = told_so _ _ left (λ input all. of_series (λ total book series. HoldsPages (page_count old.size) total (IsLoaded total name book series input readings) new) all) s.done;
+  stores_opened : (t : Traffic) (answer : Result ℕ End) → Stores name (page_count old.size) mid new t answer → Stores name (page_count old.size) old new t answer
+  stores_opened t (Ok readings) s = record {
+    done = told_so _ _ t.left (λ input all. of_series (λ total book series. HoldsPages (page_count old.size) total (IsLoaded total name book series input readings) new) all) s.done;
     within = s.within;
-    some = λ other. of_series (λ total book series. HoldsPages (page_count old.size) total (IsAfterSome total name book series left) new) (s.some other);
+    some = λ other. of_series (λ total book series. HoldsPages (page_count old.size) total (IsAfterSome total name book series t.left) new) (s.some other);
     stops = tt;
     cause = tt;
     named = of_series (λ total book series. Ok readings ≢ Err UnknownSeries) s.named;
     unnamed = λ total book holds none. s.unnamed total book (held old mid opens total book holds) none;
-    untouched = λ is. untouched_on (Ok readings) left left' s.untouched is;
-    moments = moments_on left s.moments;
+    untouched = λ is. untouched_on (Ok readings) t.left t.left_now s.untouched is;
+    moments = moments_on t.left s.moments;
     quiet = λ total book holds. s.quiet total book (held old mid opens total book holds) ∙ opened_quiet old mid opens;
     sent_is = s.sent_is;
     sends_is = s.sends_is;
-    reads_rise = s.reads_rise;
     faults = omega (arith, opens.faults, s.faults);
     goes_on = goes_then old mid new (opened_goes old mid opens) s.goes_on;
   }
-  stores_opened left left' before now reads reads_now sends sends_now (Err e) s = record {
+  stores_opened t (Err end) s = record {
     done = tt;
     within = tt;
-    some = λ other. of_series (λ total book series. HoldsPages (page_count old.size) total (IsAfterSome total name book series left) new) (s.some other);
-    stops = told_so _ _ left (λ input is. stops_on input left' e is) s.stops;
-    cause = cause_on e reads reads_now s.cause;
-    named = of_series (λ total book series. Err e ≢ Err UnknownSeries) s.named;
+    some = λ other. of_series (λ total book series. HoldsPages (page_count old.size) total (IsAfterSome total name book series t.left) new) (s.some other);
+    stops = told_so _ _ t.left (λ input is. stops_on input t.left_now end is) s.stops;
+    cause = cause_on end t.reads t.reads_now s.cause;
+    named = of_series (λ total book series. Err end ≢ Err UnknownSeries) s.named;
     unnamed = λ total book holds none. s.unnamed total book (held old mid opens total book holds) none;
-    untouched = λ is. untouched_on (Err e) left left' s.untouched is;
-    moments = moments_on left s.moments;
+    untouched = λ is. untouched_on (Err end) t.left t.left_now s.untouched is;
+    moments = moments_on t.left s.moments;
     quiet = λ total book holds. s.quiet total book (held old mid opens total book holds) ∙ opened_quiet old mid opens;
     sent_is = s.sent_is;
     sends_is = s.sends_is;
-    reads_rise = s.reads_rise;
     faults = omega (arith, opens.faults, s.faults);
     goes_on = goes_then old mid new (opened_goes old mid opens) s.goes_on;
   }
 
--- ---- the codes
-
--- a book that has no series of the name is kept, with the code of that
-unnamed_end : (name : List ℕ) (count : ℕ) (old new : View) (left left' : Option (List ℕ)) (answer : Result ℕ LoadEnd) (code : ℕ) → Unnamed count old name (λ total book. answer ≡ Err UnknownSeries)
-    → (answer ≡ Err UnknownSeries → OfBook count old (λ total book. HoldsBook count total book new × Since old new (λ image sent. RecoversTo count image total book)) × (left' ≡ left))
-    → (answer ≡ Err UnknownSeries → code ≡ 14) → Unnamed count old name (λ total book. KeepsUnnamed count total book old new code)
-unnamed_end name count old new left left' answer code unnamed stays is = λ total book holds none.
-    let so = unnamed total book holds none in
-    record { codes = (2, omega arith, sym (is so)); moments = ((stays so).0 total book holds).1 }
+-- ---- the moments
 
 ahead_by : (name : List ℕ) (count : ℕ) (old new : View) (left : Option (List ℕ)) → OfSeries count old name (λ total book series. Since old new (λ image sent. IsOnBook count total (IsAfterSome total name book series left) image × (sent ≡ sent_now old))) → IfSome left (λ input. LeavesLoads name count input old new)
 ahead_by name count old new None moments = tt
@@ -193,319 +173,55 @@ opened_some name old new (Some input) opens = λ total book holds series named. 
   holds = held old new opens total book holds;
 }
 
-opened_keeps : (old new : View) (code : ℕ) → Opens (page_count old.size) old new → (name : List ℕ) → Unnamed (page_count old.size) old name (λ total book. Contains (3 ∷ 6 ∷ 14 ∷ []) code) → Unnamed (page_count old.size) old name (λ total book. KeepsUnnamed (page_count old.size) total book old new code)
-opened_keeps old new code opens name codes = λ total book holds none. record { codes = codes total book holds none; moments = opened_since old new opens total book holds }
-
 pub small_never : (old : View) (total : ℕ) (book : List Series) → HoldsBook (page_count old.size) total book old → old.size < 128 → ⊥
 small_never old total book holds small = omega (arith, small, is_large old.size total old.image book (holds.images old.image holds.honest))
 
-pub opening_ends : (name : List ℕ) (old new : View) (left left' before now : Option (List ℕ)) (reads reads_now sends sends_now : ℕ) (cause : OpeningCause) → Opens (page_count old.size) old new → Prevents cause old new
-    → ((total : ℕ) (book : List Series) → Honest old → RecoversTo (page_count old.size) old.image total book → openings.IsOutside cause) → now ≡ before
-    → LoadEnds name old new left left' before now reads reads_now sends sends_now (opening_status cause).code (opening_status cause).place
-opening_ends name old new left left' before now reads reads_now sends sends_now (opening.TooSmall size) opens prevents a_store same = record {
-  codes = (8, omega arith, refl);
-  done = λ is. absurd (omega (arith, is));
-  within = λ is. absurd (omega (arith, is));
-  memory = λ is. absurd (omega (arith, is));
-  read = λ is. absurd (omega (arith, is));
-  stopped = λ is. absurd (omega (arith, is));
-  send = λ is. absurd (omega (arith, is));
-  part = λ is. absurd (omega (arith, is));
-  fault = λ is. absurd (omega (arith, is));
-  damaged = λ is. absurd (omega (arith, is));
-  undamaged = λ is. absurd (omega (arith, is));
-  bad = λ is. absurd (omega (arith, is));
-  much = λ is. absurd (omega (arith, is));
-  past = λ is. absurd (omega (arith, is));
-  small = λ is. (prevents.0, omega (arith, prevents.0, prevents.1));
-  refused = λ is. absurd (omega (arith, is));
-  unknown = λ is. absurd (omega (arith, is));
-  unnamed = opened_keeps old new 12 opens name (λ total book holds none. absurd (small_never old total book holds (omega (arith, prevents.0, prevents.1))));
-  nothing = λ whole sent. same;
-  zero_place = λ is. absurd (omega (arith, low_code 12 is));
-  crash = opened_ahead name old new left opens;
-  goes_on = opened_goes old new opens;
-}
-opening_ends name old new left left' before now reads reads_now sends sends_now (opening.Damaged block) opens prevents a_store same = record {
-  codes = (5, omega arith, refl);
-  done = λ is. absurd (omega (arith, is));
-  within = λ is. absurd (omega (arith, is));
-  memory = λ is. absurd (omega (arith, is));
-  read = λ is. absurd (omega (arith, is));
-  stopped = λ is. absurd (omega (arith, is));
-  send = λ is. absurd (omega (arith, is));
-  part = λ is. absurd (omega (arith, is));
-  fault = λ is. absurd (omega (arith, is));
-  damaged = λ is. inl prevents.1;
-  undamaged = λ is total book holds. unopened block (a_store total book holds.honest (holds.images old.image holds.honest));
-  bad = λ is. absurd (omega (arith, is));
-  much = λ is. absurd (omega (arith, is));
-  past = λ is. absurd (omega (arith, is));
-  small = λ is. absurd (omega (arith, is));
-  refused = λ is. absurd (omega (arith, is));
-  unknown = λ is. absurd (omega (arith, is));
-  unnamed = opened_keeps old new 7 opens name (λ total book holds none. absurd (unopened block (a_store total book holds.honest (holds.images old.image holds.honest))));
-  nothing = λ whole sent. same;
-  zero_place = λ is. absurd (omega (arith, low_code 7 is));
-  crash = opened_ahead name old new left opens;
-  goes_on = opened_goes old new opens;
-}
-opening_ends name old new left left' before now reads reads_now sends sends_now opening.DiskFault opens prevents a_store same = record {
-  codes = (4, omega arith, refl);
-  done = λ is. absurd (omega (arith, is));
-  within = λ is. absurd (omega (arith, is));
-  memory = λ is. absurd (omega (arith, is));
-  read = λ is. absurd (omega (arith, is));
-  stopped = λ is. absurd (omega (arith, is));
-  send = λ is. absurd (omega (arith, is));
-  part = λ is. absurd (omega (arith, is));
-  fault = λ is. prevents;
-  damaged = λ is. absurd (omega (arith, is));
-  undamaged = λ is. absurd (omega (arith, is));
-  bad = λ is. absurd (omega (arith, is));
-  much = λ is. absurd (omega (arith, is));
-  past = λ is. absurd (omega (arith, is));
-  small = λ is. absurd (omega (arith, is));
-  refused = λ is. absurd (omega (arith, is));
-  unknown = λ is. absurd (omega (arith, is));
-  unnamed = opened_keeps old new 6 opens name (λ total book holds none. (1, omega arith, refl));
-  nothing = λ whole sent. same;
-  zero_place = λ is. refl;
-  crash = opened_ahead name old new left opens;
-  goes_on = opened_goes old new opens;
-}
-opening_ends name old new left left' before now reads reads_now sends sends_now opening.NoMemory opens prevents a_store same = record {
-  codes = (1, omega arith, refl);
-  done = λ is. absurd (omega (arith, is));
-  within = λ is. absurd (omega (arith, is));
-  memory = λ is. opened_some name old new left opens;
-  read = λ is. absurd (omega (arith, is));
-  stopped = λ is. absurd (omega (arith, is));
-  send = λ is. absurd (omega (arith, is));
-  part = λ is. absurd (omega (arith, is));
-  fault = λ is. absurd (omega (arith, is));
-  damaged = λ is. absurd (omega (arith, is));
-  undamaged = λ is. absurd (omega (arith, is));
-  bad = λ is. absurd (omega (arith, is));
-  much = λ is. absurd (omega (arith, is));
-  past = λ is. absurd (omega (arith, is));
-  small = λ is. absurd (omega (arith, is));
-  refused = λ is. absurd (omega (arith, is));
-  unknown = λ is. absurd (omega (arith, is));
-  unnamed = opened_keeps old new 3 opens name (λ total book holds none. (0, omega arith, refl));
-  nothing = λ whole sent. same;
-  zero_place = λ is. refl;
-  crash = opened_ahead name old new left opens;
-  goes_on = opened_goes old new opens;
-}
+pub unloaded : (name : List ℕ) (old new : View) (t : Traffic) (cause : OpeningCause) (end : End) → IsUnopened old new t.left t.left_now t.sent t.sent_now cause → end ≡ opening_end cause → LoadEnds name old new t end
+unloaded name old new t cause end u same =
+    let P : End → Type 0 = λ e. LoadEnds name old new t e in
+    subst P (sym same) (record {
+      is = by cause (unopened_end old new t.left t.left_now t.sent t.sent_now cause u).0;
+      unnamed = λ total book holds none. outside_ends cause (u.outside total book holds);
+      crash = opened_ahead name old new t.left u.opens;
+      kept = λ total book holds none. opened_since old new u.opens total book holds;
+      goes_on = opened_goes old new u.opens;
+    })
+  where
+    by : (cause : OpeningCause) → IsUnopenedEnd (opening_end cause) old new → IsLoadEnd (opening_end cause) name old new t
+    by opening.NoMemory is = (opened_some name old new t.left u.opens, u.sent_is)
+    by opening.DiskFault is = (is, u.sent_is)
+    by cause is = (is, u.left_is, u.sent_is)
 
 -- ---- not all of the input was loaded
 
-unknown_refused : (name : List ℕ) (old new : View) (left : Option (List ℕ)) → OfSeries (page_count old.size) old name (λ total book series. ⊥) → IfSome left (λ input. RefusesSet name (page_count old.size) old new input 8)
-unknown_refused name old new None never = tt
-unknown_refused name old new (Some input) never = λ total book holds series named. absurd (never total book holds series named)
+stopped : (name : List ℕ) (old new : View) (t : Traffic) (end : End) → Stores name (page_count old.size) old new t (Err end) → IsLoadEnd end name old new t
+stopped name old new t NoMemory s = (some_told name (page_count old.size) old new t.left (s.some (λ is. cc)), s.sent_is)
+stopped name old new t ReadFault s = (s.cause, s.stops, s.sent_is)
+stopped name old new t DiskFault s = (s.cause, s.sent_is)
+stopped name old new t (DamagedPage page) s = (s.cause.1, s.cause.0, s.sent_is)
+stopped name old new t (BadInput at) s = (s.stops, s.sent_is)
+stopped name old new t InputTooLong s = (s.stops, s.sent_is)
+stopped name old new t UnknownSeries s =
+    let stays = s.untouched refl in (
+      (λ total book holds series named. s.named total book holds series named refl),
+      (λ total book holds. (stays.0 total book holds).0),
+      (λ total book holds. (stays.0 total book holds).1),
+      stays.1,
+      s.sent_is,
+    )
+stopped name old new t (Refused at number) s = (s.stops, s.sent_is)
+stopped name old new t end s = absurd s.cause
 
-pub stopped_ends : (name : List ℕ) (old new : View) (left left' before now : Option (List ℕ)) (reads reads_now sends sends_now : ℕ) (e : LoadEnd) → Stores name (page_count old.size) old new left left' before now reads reads_now sends sends_now (Err e)
-    → LoadEnds name old new left left' before now reads reads_now sends sends_now (end_status e).code (end_status e).place
-stopped_ends name old new left left' before now reads reads_now sends sends_now UnknownSeries s = record {
-  codes = (9, omega arith, refl);
-  done = λ is. absurd (omega (arith, is));
-  within = λ is. absurd (omega (arith, is));
-  memory = λ is. absurd (omega (arith, is));
-  read = λ is. absurd (omega (arith, is));
-  stopped = λ is. absurd (omega (arith, is));
-  send = λ is. absurd (omega (arith, is));
-  part = λ is. absurd (omega (arith, is));
-  fault = λ is. absurd (omega (arith, is));
-  damaged = λ is. absurd (omega (arith, is));
-  undamaged = λ is. absurd (omega (arith, is));
-  bad = λ is. absurd (omega (arith, is));
-  much = λ is. absurd (omega (arith, is));
-  past = λ is. absurd (omega (arith, is));
-  small = λ is. absurd (omega (arith, is));
-  refused = λ is. unknown_refused name old new left (λ total book holds series named. s.named total book holds series named refl);
-  unknown = λ is total book holds none. (refl, (s.untouched refl).1, ((s.untouched refl).0 total book holds).0);
-  unnamed = unnamed_end name (page_count old.size) old new left left' (Err UnknownSeries) 14 s.unnamed s.untouched (λ is. refl);
-  nothing = λ whole sent. s.sent_is;
-  zero_place = λ is. absurd (omega (arith, low_code 14 is));
-  crash = ahead_by name (page_count old.size) old new left s.moments;
-  goes_on = s.goes_on;
-}
-stopped_ends name old new left left' before now reads reads_now sends sends_now (BadLine at) s = record {
-  codes = (6, omega arith, refl);
-  done = λ is. absurd (omega (arith, is));
-  within = λ is. absurd (omega (arith, is));
-  memory = λ is. absurd (omega (arith, is));
-  read = λ is. absurd (omega (arith, is));
-  stopped = λ is. absurd (omega (arith, is));
-  send = λ is. absurd (omega (arith, is));
-  part = λ is. absurd (omega (arith, is));
-  fault = λ is. absurd (omega (arith, is));
-  damaged = λ is. absurd (omega (arith, is));
-  undamaged = λ is. absurd (omega (arith, is));
-  bad = λ is. told_so _ _ left (λ input is. is) s.stops;
-  much = λ is. absurd (omega (arith, is));
-  past = λ is. absurd (omega (arith, is));
-  small = λ is. absurd (omega (arith, is));
-  refused = λ is. absurd (omega (arith, is));
-  unknown = λ is. absurd (omega (arith, is));
-  unnamed = unnamed_end name (page_count old.size) old new left left' (Err (BadLine at)) 8 s.unnamed s.untouched (λ is. cc);
-  nothing = λ whole sent. s.sent_is;
-  zero_place = λ is. absurd (omega (arith, low_code 8 is));
-  crash = ahead_by name (page_count old.size) old new left s.moments;
-  goes_on = s.goes_on;
-}
-stopped_ends name old new left left' before now reads reads_now sends sends_now (Refused at refusal) s = record {
-  codes = (9, omega arith, refl);
-  done = λ is. absurd (omega (arith, is));
-  within = λ is. absurd (omega (arith, is));
-  memory = λ is. absurd (omega (arith, is));
-  read = λ is. absurd (omega (arith, is));
-  stopped = λ is. absurd (omega (arith, is));
-  send = λ is. absurd (omega (arith, is));
-  part = λ is. absurd (omega (arith, is));
-  fault = λ is. absurd (omega (arith, is));
-  damaged = λ is. absurd (omega (arith, is));
-  undamaged = λ is. absurd (omega (arith, is));
-  bad = λ is. absurd (omega (arith, is));
-  much = λ is. absurd (omega (arith, is));
-  past = λ is. absurd (omega (arith, is));
-  small = λ is. absurd (omega (arith, is));
-  refused = λ is. told_so _ _ left (λ input all total book holds series named. (at, refusal, refl, all total book holds series named)) s.stops;
-  unknown = λ is total book holds none. let same = s.unnamed total book holds none in cc;
-  unnamed = unnamed_end name (page_count old.size) old new left left' (Err (Refused at refusal)) 14 s.unnamed s.untouched (λ is. refl);
-  nothing = λ whole sent. s.sent_is;
-  zero_place = λ is. absurd (omega (arith, low_code 14 is));
-  crash = ahead_by name (page_count old.size) old new left s.moments;
-  goes_on = s.goes_on;
-}
-stopped_ends name old new left left' before now reads reads_now sends sends_now ReadFault s = record {
-  codes = (2, omega arith, refl);
-  done = λ is. absurd (omega (arith, is));
-  within = λ is. absurd (omega (arith, is));
-  memory = λ is. absurd (omega (arith, is));
-  read = λ is. s.cause;
-  stopped = λ is. told_so _ _ left (λ input is. is) s.stops;
-  send = λ is. absurd (omega (arith, is));
-  part = λ is. absurd (omega (arith, is));
-  fault = λ is. absurd (omega (arith, is));
-  damaged = λ is. absurd (omega (arith, is));
-  undamaged = λ is. absurd (omega (arith, is));
-  bad = λ is. absurd (omega (arith, is));
-  much = λ is. absurd (omega (arith, is));
-  past = λ is. absurd (omega (arith, is));
-  small = λ is. absurd (omega (arith, is));
-  refused = λ is. absurd (omega (arith, is));
-  unknown = λ is. absurd (omega (arith, is));
-  unnamed = unnamed_end name (page_count old.size) old new left left' (Err ReadFault) 4 s.unnamed s.untouched (λ is. cc);
-  nothing = λ whole sent. s.sent_is;
-  zero_place = λ is. refl;
-  crash = ahead_by name (page_count old.size) old new left s.moments;
-  goes_on = s.goes_on;
-}
-stopped_ends name old new left left' before now reads reads_now sends sends_now InputTooLong s = record {
-  codes = (7, omega arith, refl);
-  done = λ is. absurd (omega (arith, is));
-  within = λ is. absurd (omega (arith, is));
-  memory = λ is. absurd (omega (arith, is));
-  read = λ is. absurd (omega (arith, is));
-  stopped = λ is. absurd (omega (arith, is));
-  send = λ is. absurd (omega (arith, is));
-  part = λ is. absurd (omega (arith, is));
-  fault = λ is. absurd (omega (arith, is));
-  damaged = λ is. absurd (omega (arith, is));
-  undamaged = λ is. absurd (omega (arith, is));
-  bad = λ is. absurd (omega (arith, is));
-  much = λ is. refl;
-  past = λ is. told_so _ _ left (λ input is. is) s.stops;
-  small = λ is. absurd (omega (arith, is));
-  refused = λ is. absurd (omega (arith, is));
-  unknown = λ is. absurd (omega (arith, is));
-  unnamed = unnamed_end name (page_count old.size) old new left left' (Err InputTooLong) 9 s.unnamed s.untouched (λ is. cc);
-  nothing = λ whole sent. s.sent_is;
-  zero_place = λ is. absurd (omega (arith, low_code 9 is));
-  crash = ahead_by name (page_count old.size) old new left s.moments;
-  goes_on = s.goes_on;
-}
-stopped_ends name old new left left' before now reads reads_now sends sends_now DiskFault s = record {
-  codes = (4, omega arith, refl);
-  done = λ is. absurd (omega (arith, is));
-  within = λ is. absurd (omega (arith, is));
-  memory = λ is. absurd (omega (arith, is));
-  read = λ is. absurd (omega (arith, is));
-  stopped = λ is. absurd (omega (arith, is));
-  send = λ is. absurd (omega (arith, is));
-  part = λ is. absurd (omega (arith, is));
-  fault = λ is. s.cause;
-  damaged = λ is. absurd (omega (arith, is));
-  undamaged = λ is. absurd (omega (arith, is));
-  bad = λ is. absurd (omega (arith, is));
-  much = λ is. absurd (omega (arith, is));
-  past = λ is. absurd (omega (arith, is));
-  small = λ is. absurd (omega (arith, is));
-  refused = λ is. absurd (omega (arith, is));
-  unknown = λ is. absurd (omega (arith, is));
-  unnamed = unnamed_end name (page_count old.size) old new left left' (Err DiskFault) 6 s.unnamed s.untouched (λ is. cc);
-  nothing = λ whole sent. s.sent_is;
-  zero_place = λ is. refl;
-  crash = ahead_by name (page_count old.size) old new left s.moments;
-  goes_on = s.goes_on;
-}
-stopped_ends name old new left left' before now reads reads_now sends sends_now (Damaged page) s = record {
-  codes = (5, omega arith, refl);
-  done = λ is. absurd (omega (arith, is));
-  within = λ is. absurd (omega (arith, is));
-  memory = λ is. absurd (omega (arith, is));
-  read = λ is. absurd (omega (arith, is));
-  stopped = λ is. absurd (omega (arith, is));
-  send = λ is. absurd (omega (arith, is));
-  part = λ is. absurd (omega (arith, is));
-  fault = λ is. absurd (omega (arith, is));
-  damaged = λ is. inr s.cause.1;
-  undamaged = λ is. s.cause.0;
-  bad = λ is. absurd (omega (arith, is));
-  much = λ is. absurd (omega (arith, is));
-  past = λ is. absurd (omega (arith, is));
-  small = λ is. absurd (omega (arith, is));
-  refused = λ is. absurd (omega (arith, is));
-  unknown = λ is. absurd (omega (arith, is));
-  unnamed = unnamed_end name (page_count old.size) old new left left' (Err (Damaged page)) 7 s.unnamed s.untouched (λ is. cc);
-  nothing = λ whole sent. s.sent_is;
-  zero_place = λ is. absurd (omega (arith, low_code 7 is));
-  crash = ahead_by name (page_count old.size) old new left s.moments;
-  goes_on = s.goes_on;
-}
-stopped_ends name old new left left' before now reads reads_now sends sends_now NoMemory s = record {
-  codes = (1, omega arith, refl);
-  done = λ is. absurd (omega (arith, is));
-  within = λ is. absurd (omega (arith, is));
-  memory = λ is. some_told name (page_count old.size) old new left (s.some (λ is. cc));
-  read = λ is. absurd (omega (arith, is));
-  stopped = λ is. absurd (omega (arith, is));
-  send = λ is. absurd (omega (arith, is));
-  part = λ is. absurd (omega (arith, is));
-  fault = λ is. absurd (omega (arith, is));
-  damaged = λ is. absurd (omega (arith, is));
-  undamaged = λ is. absurd (omega (arith, is));
-  bad = λ is. absurd (omega (arith, is));
-  much = λ is. absurd (omega (arith, is));
-  past = λ is. absurd (omega (arith, is));
-  small = λ is. absurd (omega (arith, is));
-  refused = λ is. absurd (omega (arith, is));
-  unknown = λ is. absurd (omega (arith, is));
-  unnamed = unnamed_end name (page_count old.size) old new left left' (Err NoMemory) 3 s.unnamed s.untouched (λ is. cc);
-  nothing = λ whole sent. s.sent_is;
-  zero_place = λ is. refl;
-  crash = ahead_by name (page_count old.size) old new left s.moments;
+pub stopped_ends : (name : List ℕ) (old new : View) (t : Traffic) (end : End) → Stores name (page_count old.size) old new t (Err end) → LoadEnds name old new t end
+stopped_ends name old new t end s = record {
+  is = stopped name old new t end s;
+  unnamed = λ total book holds none. (2, omega arith, sym (err_same end UnknownSeries (s.unnamed total book holds none)));
+  crash = ahead_by name (page_count old.size) old new t.left s.moments;
+  kept = λ total book holds none. ((s.untouched (s.unnamed total book holds none)).0 total book holds).1;
   goes_on = s.goes_on;
 }
 
 -- ---- all of it was
-
-one_code : (code : ℕ) → (code ≡ 0) ⊎ ((code ≡ 3) ⊎ (code ≡ 5)) → Contains (0 ∷ 3 ∷ 4 ∷ 5 ∷ 6 ∷ 7 ∷ 8 ∷ 9 ∷ 12 ∷ 14 ∷ []) code
-one_code code (inl is) = (0, omega arith, sym is)
-one_code code (inr (inl is)) = (1, omega arith, sym is)
-one_code code (inr (inr is)) = (3, omega arith, sym is)
 
 -- what a disk holds it holds on while a text is sent
 pages_kept : (count total : ℕ) (IsSo : Image → Type 0) (mid new : View) → DiskKept mid new → Passes mid new (Now mid) (λ sent. (sent_now mid ≤ sent) × (sent ≤ sent_now new)) → HoldsPages count total IsSo mid → HoldsPages count total IsSo new
@@ -544,65 +260,59 @@ sent_ahead name count old mid new (Some input) readings time quiet moments some 
     })
     first
 
-pub sent_ends : (name : List ℕ) (old mid new : View) (left left_mid left' before between now : Option (List ℕ)) (reads reads_mid reads_now sends sends_mid sends_now readings : ℕ) (end : End) → Stores name (page_count old.size) old mid left left_mid before between reads reads_mid sends sends_mid (Ok readings)
-    → SendsText (loaded_text readings) mid new between now sends_mid sends_now end → LoadEnds name old new left left' before now reads reads_now sends sends_now (code_of end) (place_of end)
-sent_ends name old mid new left left_mid left' before between now reads reads_mid reads_now sends sends_mid sends_now readings end s text =
-    let count = page_count old.size in
-    let B : Option (List ℕ) → Type 0 = λ b. SendsText (loaded_text readings) mid new b now sends_mid sends_now end in
-    let C : ℕ → Type 0 = λ n. SendsText (loaded_text readings) mid new before now n sends_now end in
-    let t = subst C s.sends_is (subst B s.sent_is text) in
-    let d = sent_as end (loaded_text readings) before now sends sends_now t.is in
-    let few = sent_code (code_of end) d.codes in
-    let HELD = λ (input : List ℕ) (all : OfSeries count old name (λ total book series. HoldsPages count total (IsLoaded total name book series input readings) mid)) (total : ℕ) (book : List Series) (holds : HoldsBook count total book old) (series : Series) (named : IsNamed book name series).
-    pages_kept count total (IsLoaded total name book series input readings) mid new t.kept t.time (all total book holds series named) in
+-- what passed through the streams, and then more
+abbrev further : Traffic → Option (List ℕ) → Option (List ℕ) → ℕ → ℕ → Traffic
+further t left' now reads_now sends_now = record {
+  left = t.left;
+  left_now = left';
+  sent = t.sent;
+  sent_now = now;
+  reads = t.reads;
+  reads_now = reads_now;
+  sends = t.sends;
+  sends_now = sends_now;
+}
+
+module _ (name : List ℕ) (old mid new : View) (t : Traffic) (readings : ℕ) (s : Stores name (page_count old.size) old mid t (Ok readings)) (kept : DiskKept mid new) (time : Passes mid new (Now mid) (λ sent. (sent_now mid ≤ sent) × (sent ≤ sent_now new))) where
+  -- the disk still holds what was loaded
+  still_loaded : (Q : ℕ → Type 0) → Q readings → IfSome t.left (λ input. OfSeries (page_count old.size) old name (λ total book series.
+      (n : ℕ) × HoldsPages (page_count old.size) total (IsLoaded total name book series input n) new × Q n))
+  still_loaded Q is = told_so _ _ t.left (λ input all total book holds series named.
+      (readings, pages_kept (page_count old.size) total (IsLoaded total name book series input readings) mid new kept time (all total book holds series named), is)) s.done
+
+  text_sent : (left' now : Option (List ℕ)) (reads_now sends_now : ℕ) (end : End) → IsSent end (loaded_text readings) t.sent now t.sends sends_now → IsLoadEnd end name old new (further t left' now reads_now sends_now)
+  text_sent left' now reads_now sends_now Done is = (s.within, still_loaded (λ n. now ≡ sent_after (loaded_text n) t.sent) is)
+  text_sent left' now reads_now sends_now NoMemory is = (
+    some_told name (page_count old.size) old new t.left (λ total book holds series named.
+        pages_kept (page_count old.size) total (IsAfterSome total name book series t.left) mid new kept time (s.some (λ same. cc) total book holds series named)),
+    is,
+  )
+  text_sent left' now reads_now sends_now SendFault is = (is.0, still_loaded (λ n. SendsPartOf (loaded_text n) t.sent now) is.1)
+  text_sent left' now reads_now sends_now end is = absurd is
+
+never_unknown : (readings : ℕ) → answered readings ≡ failed UnknownSeries → ⊥
+never_unknown readings same = cc
+
+pub sent_ends : (name : List ℕ) (old mid new : View) (t : Traffic) (left' now : Option (List ℕ)) (reads_now sends_now readings : ℕ) (end : End) → Stores name (page_count old.size) old mid t (Ok readings)
+    → SendsText (loaded_text readings) mid new t.sent_now now t.sends_now sends_now end → LoadEnds name old new (further t left' now reads_now sends_now) end
+sent_ends name old mid new t left' now reads_now sends_now readings end s text =
+    let B : Option (List ℕ) → Type 0 = λ b. SendsText (loaded_text readings) mid new b now t.sends_now sends_now end in
+    let C : ℕ → Type 0 = λ n. SendsText (loaded_text readings) mid new t.sent now n sends_now end in
+    let x = subst C s.sends_is (subst B s.sent_is text) in
     record {
-      codes = one_code (code_of end) d.codes;
-      done = λ is. told_so _ _ left (λ input all total book holds series named. (readings, HELD input all total book holds series named, d.whole is)) s.done;
-      within = λ is. s.within;
-      memory = λ is. some_told name count old new left (λ total book holds series named. pages_kept count total (IsAfterSome total name book series left) mid new t.kept t.time (s.some (λ same. cc) total book holds series named));
-      read = λ is. absurd (few.1 is);
-      stopped = λ is. absurd (few.1 is);
-      send = d.send;
-      part = λ is. told_so _ _ left (λ input all total book holds series named. (readings, HELD input all total book holds series named, d.part is)) s.done;
-      fault = λ is. absurd (omega (arith, is, few.0));
-      damaged = λ is. absurd (omega (arith, is, few.0));
-      undamaged = λ is. absurd (omega (arith, is, few.0));
-      bad = λ is. absurd (omega (arith, is, few.0));
-      much = λ is. absurd (omega (arith, is, few.0));
-      past = λ is. absurd (omega (arith, is, few.0));
-      small = λ is. absurd (omega (arith, is, few.0));
-      refused = λ is. absurd (omega (arith, is, few.0));
-      unknown = λ is. absurd (omega (arith, is, few.0));
-      unnamed = λ total book holds none. let same = s.unnamed total book holds none in cc;
-      nothing = λ whole part. unsent (code_of end) before now d.codes d.none whole part;
-      zero_place = λ is. d.place_is;
-      crash = sent_ahead name count old mid new left readings t.time s.quiet s.moments (s.some (λ same. cc)) s.done;
-      goes_on = goes_then old mid new s.goes_on (goes_by mid new (Now mid) (λ sent. (sent_now mid ≤ sent) × (sent ≤ sent_now new)) t.time);
+      is = text_sent name old mid new t readings s x.kept x.time left' now reads_now sends_now end x.is;
+      unnamed = λ total book holds none. absurd (never_unknown readings (s.unnamed total book holds none));
+      crash = sent_ahead name (page_count old.size) old mid new t.left readings x.time s.quiet s.moments (s.some (λ same. cc)) s.done;
+      kept = λ total book holds none. absurd (never_unknown readings (s.unnamed total book holds none));
+      goes_on = goes_then old mid new s.goes_on (goes_by mid new (Now mid) (λ sent. (sent_now mid ≤ sent) × (sent ≤ sent_now new)) x.time);
     }
 
 -- ---- as the calls give it
 
-pub opening_ends_so : (name : List ℕ) (old new : View) (left left' before now : Option (List ℕ)) (reads reads_now sends sends_now : ℕ) (cause : OpeningCause) (status : Status) → status ≡ opening_status cause → Opens (page_count old.size) old new → Prevents cause old new
-    → ((total : ℕ) (book : List Series) → Honest old → RecoversTo (page_count old.size) old.image total book → openings.IsOutside cause) → now ≡ before
-    → LoadEnds name old new left left' before now reads reads_now sends sends_now status.code status.place
-opening_ends_so name old new left left' before now reads reads_now sends sends_now cause status is opens prevents a_store same =
-    let P : Status → Type 0 = λ s. LoadEnds name old new left left' before now reads reads_now sends sends_now s.code s.place in
-    subst P (sym is) (opening_ends name old new left left' before now reads reads_now sends sends_now cause opens prevents a_store same)
-
-pub stopped_ends_so : (name : List ℕ) (old new : View) (left left' before now : Option (List ℕ)) (reads reads_now sends sends_now : ℕ) (e : LoadEnd) (status : Status) → status ≡ end_status e → Stores name (page_count old.size) old new left left' before now reads reads_now sends sends_now (Err e)
-    → LoadEnds name old new left left' before now reads reads_now sends sends_now status.code status.place
-stopped_ends_so name old new left left' before now reads reads_now sends sends_now e status is s =
-    let P : Status → Type 0 = λ t. LoadEnds name old new left left' before now reads reads_now sends sends_now t.code t.place in
-    subst P (sym is) (stopped_ends name old new left left' before now reads reads_now sends sends_now e s)
-
-pub stores_on : (name : List ℕ) (count : ℕ) (old start new : View) (left_start left left' before_start before now : Option (List ℕ)) (reads_start reads reads_now sends_start sends sends_now : ℕ) (answer told : Result ℕ LoadEnd) → count ≡ page_count old.size → answer ≡ told → Opens (page_count old.size) old start → start.faults ≡ old.faults
-    → left_start ≡ left → before_start ≡ before → reads_start ≡ reads → sends_start ≡ sends → Stores name count start new left_start left' before_start now reads_start reads_now sends_start sends_now answer
-    → Stores name (page_count old.size) old new left left' before now reads reads_now sends sends_now told
-stores_on name count old start new left_start left left' before_start before now reads_start reads reads_now sends_start sends sends_now answer told counted is opens same_faults same_left same_sent same_reads same_sends s =
-    let C : ℕ → Type 0 = λ n. Stores name n start new left_start left' before_start now reads_start reads_now sends_start sends_now answer in
-    let R : Result ℕ LoadEnd → Type 0 = λ r. Stores name (page_count old.size) start new left_start left' before_start now reads_start reads_now sends_start sends_now r in
-    let L : Option (List ℕ) → Type 0 = λ l. Stores name (page_count old.size) start new l left' before_start now reads_start reads_now sends_start sends_now told in
-    let B : Option (List ℕ) → Type 0 = λ b. Stores name (page_count old.size) start new left left' b now reads_start reads_now sends_start sends_now told in
-    let D : ℕ → Type 0 = λ n. Stores name (page_count old.size) start new left left' before now n reads_now sends_start sends_now told in
-    let S : ℕ → Type 0 = λ n. Stores name (page_count old.size) start new left left' before now reads reads_now n sends_now told in
-    stores_opened name old start new opens same_faults left left' before now reads reads_now sends sends_now told (subst S same_sends (subst D same_reads (subst B same_sent (subst L same_left (subst R is (subst C counted s))))))
+pub stores_on : (name : List ℕ) (count : ℕ) (old start new : View) (t t' : Traffic) (answer told : Result ℕ End) → count ≡ page_count old.size → answer ≡ told → Opens (page_count old.size) old start → start.faults ≡ old.faults → t' ≡ t
+    → Stores name count start new t' answer → Stores name (page_count old.size) old new t told
+stores_on name count old start new t t' answer told counted is opens same_faults same s =
+    let C : ℕ → Type 0 = λ n. Stores name n start new t' answer in
+    let R : Result ℕ End → Type 0 = λ r. Stores name (page_count old.size) start new t' r in
+    let T : Traffic → Type 0 = λ x. Stores name (page_count old.size) start new x told in
+    stores_opened name old start new opens same_faults t told (subst T same (subst R is (subst C counted s)))

@@ -1,5 +1,5 @@
 -- What a load does over a store on a disk, in the words of the disk.
-use Rattle.std.proofs.Common.{◌≡◌, ◌≢◌, ◌↔◌, ℕ, ◌+◌, ◌≤◌, ◌<◌, ◌⊎◌, ◌^◌, pos, Bool, List, [], length, Option, Some, None, Result, Ok, Err, IfSome, refl, sym, ap, subst, inl, inr, arith, ◌∙◌}
+use Rattle.std.proofs.Common.{◌≡◌, ◌≢◌, ◌↔◌, ℕ, ◌≤◌, ◌<◌, ◌⊎◌, ◌^◌, pos, Bool, List, [], length, Option, Some, None, Result, Ok, Err, IfSome, refl, sym, ap, subst, inl, inr, arith, ◌∙◌}
 use Rattle.std.specs.Prelude.{IfErr, OnOk, bytes_eq}
 use Rattle.std.proofs.lemmas.List.Quantifiers.{position-Some}
 use Rattle.block_disk.specs.View.{Image, View, Honest, Passes, sent_now}
@@ -15,10 +15,11 @@ use Rattle.stored_book.specs.Standing.{StandsForBook, book_pages, RecoversTo}
 use Rattle.stored_book.proofs.CurrentLemmas.{spelled_current}
 use Rattle.chart_service.specs.MomentLaws.{since_none}
 use Rattle.chart_service.specs.Moments.{Since}
-use Rattle.series_load.specs.Sets.{IsNamed, IsAfterSome}
+use Rattle.series_load.specs.Sets.{IsNamed, IsAfterSome, OfRefusal}
 use Rattle.series_load.specs.Ends.{IsLoaded, IsAtBad, IsAtRefusal, IsTaken, IsPast, IsLoadCause, KeepsSome, EndsLoad, Outcome}
-use Rattle.series_load.specs.declared.load_end.LoadEnd.{LoadEnd}
-use Rattle.series_load.specs.declared.load_end.LoadEnd.TheVariants.{UnknownSeries, BadLine, Refused, ReadFault, InputTooLong, DiskFault, Damaged, NoMemory}
+use Rattle.run_ends.specs.Statuses.{block_of}
+use Rattle.run_ends.specs.declared.ending.End.{End}
+use Rattle.run_ends.specs.declared.ending.End.TheVariants.{NoMemory, ReadFault, DiskFault, DamagedPage, BadInput, InputTooLong, UnknownSeries, Refused}
 use Rattle.series_load.specs.Steps.{IsSoundFor}
 use Rattle.series_load.proofs.Knowing.{some_at_first}
 use Rattle.series_store.proofs.BookCountLemmas.{some_at}
@@ -26,8 +27,9 @@ use Rattle.store_commands.specs.Damaged.{IsDamagedLater}
 use Rattle.store_commands.specs.Books.{OfBook, Never, IsOnBook, HoldsPages}
 use Rattle.store_commands.proofs.Held.{RestsNew, stands_held, within_held, holds_pages}
 use Rattle.store_commands.proofs.Moments.{since_worked, on_book}
-use Rattle.store_commands.specs.Loaded.{OfSeries, Unnamed}
+use Rattle.store_commands.specs.Loaded.{OfSeries, RefusesRun, Unnamed}
 use Rattle.store_commands.specs.Storing.{StopsAt, IsEndCause, Stores}
+use Rattle.store_commands.specs.Traffic.{Traffic}
 
 -- ---- a name is a series' or none's
 
@@ -49,31 +51,33 @@ named_or name book = named_by name book (id_of name book) refl
 
 -- ---- what a load leaves of the disk
 
-some_of : (total : ℕ) (name : List ℕ) (book : List Series) (series : Series) (left : Option (List ℕ)) (image : Image) (e : LoadEnd) → e ≢ DiskFault → KeepsSome total name book series left image e → IsAfterSome total name book series left image
-some_of total name book series left image UnknownSeries other keeps = absurd keeps
-some_of total name book series left image (BadLine at) other keeps = keeps
-some_of total name book series left image (Refused at refusal) other keeps = keeps
-some_of total name book series left image ReadFault other keeps = keeps
-some_of total name book series left image InputTooLong other keeps = keeps
-some_of total name book series left image DiskFault other keeps = absurd (other refl)
-some_of total name book series left image (Damaged page) other keeps = absurd keeps
+some_of : (total : ℕ) (name : List ℕ) (book : List Series) (series : Series) (left : Option (List ℕ)) (image : Image) (e : End) → e ≢ DiskFault → KeepsSome total name book series left image e → IsAfterSome total name book series left image
 some_of total name book series left image NoMemory other keeps = keeps
+some_of total name book series left image ReadFault other keeps = keeps
+some_of total name book series left image DiskFault other keeps = absurd (other refl)
+some_of total name book series left image (BadInput at) other keeps = keeps
+some_of total name book series left image InputTooLong other keeps = keeps
+some_of total name book series left image (Refused at number) other keeps = keeps
+some_of total name book series left image end other keeps = absurd keeps
 
-abbrev failed : LoadEnd → Result ℕ LoadEnd
+abbrev pub failed : End → Result ℕ End
 failed e = Err e
 
-err_same : (e f : LoadEnd) → failed e ≡ failed f → e ≡ f
+abbrev pub answered : ℕ → Result ℕ End
+answered readings = Ok readings
+
+pub err_same : (e f : End) → failed e ≡ failed f → e ≡ f
 err_same e f same = cc
 
-module _ (name : List ℕ) (count count' : ℕ) (sound sound' : Bool) (old new : View) (left left' : Option (List ℕ)) (same : count' ≡ count) (told : Honest old → Honest new) (goes : GoesOn old new) (rests : RestsNew count old) where
+module _ (name : List ℕ) (count count' : ℕ) (sound sound' : Bool) (old new : View) (t : Traffic) (same : count' ≡ count) (told : Honest old → Honest new) (goes : GoesOn old new) (rests : RestsNew count old) where
   -- this is so where the pages stand for a book with the series
   abbrev pub OfPages : (ℕ → List Series → Series → Type 0) → Type 0
   OfPages IsSo = (total : ℕ) (book : List Series) (series : Series) → Honest old → StandsForBook (pages_of count old.image) total book → IsNamed book name series → IsSo total book series
 
-  abbrev pub Comes : Result ℕ LoadEnd → Type 0
-  Comes answer = OfPages (λ total book series. Outcome total name book series left left' answer (pages_view count sound old) (pages_view count' sound' new))
+  abbrev pub Comes : Result ℕ End → Type 0
+  Comes answer = OfPages (λ total book series. Outcome total name book series t.left t.left_now answer (pages_view count sound old) (pages_view count' sound' new))
 
-  abbrev pub Finds : Result ℕ LoadEnd → Type 0
+  abbrev pub Finds : Result ℕ End → Type 0
   Finds answer = (total : ℕ) (book : List Series) → Honest old → StandsForBook (pages_of count old.image) total book → (answer ≡ Err UnknownSeries) ↔ (id_of name book ≡ None)
 
   of_pages : (IsSo : ℕ → List Series → Series → Type 0) → OfPages IsSo → OfSeries count old name IsSo
@@ -85,38 +89,38 @@ module _ (name : List ℕ) (count count' : ℕ) (sound sound' : Bool) (old new :
       holds_pages count total IsSo new closed (told holds.honest) (within_held count total book old holds) (subst P same so)
 
   abbrev pub Passed : ℕ → List Series → Series → Type 0
-  Passed total book series = Passes (pages_view count sound old) (pages_view count' sound' new) (IsAfterSome total name book series left) (Quiet (pages_view count sound old))
+  Passed total book series = Passes (pages_view count sound old) (pages_view count' sound' new) (IsAfterSome total name book series t.left) (Quiet (pages_view count sound old))
 
-  passed : (answer : Result ℕ LoadEnd) (total : ℕ) (book : List Series) (series : Series) → Outcome total name book series left left' answer (pages_view count sound old) (pages_view count' sound' new) → Passed total book series
+  passed : (answer : Result ℕ End) (total : ℕ) (book : List Series) (series : Series) → Outcome total name book series t.left t.left_now answer (pages_view count sound old) (pages_view count' sound' new) → Passed total book series
   passed (Ok readings) total book series comes = comes.moments
   passed (Err e) total book series comes = comes.moments
 
-  moments_by : (answer : Result ℕ LoadEnd) → Comes answer → OfSeries count old name (λ total book series. Since old new (λ image sent. IsOnBook count total (IsAfterSome total name book series left) image × (sent ≡ sent_now old)))
+  moments_by : (answer : Result ℕ End) → Comes answer → OfSeries count old name (λ total book series. Since old new (λ image sent. IsOnBook count total (IsAfterSome total name book series t.left) image × (sent ≡ sent_now old)))
   moments_by answer comes = λ total book holds series named.
-      let Q : Image → Type 0 = IsAfterSome total name book series left in
+      let Q : Image → Type 0 = IsAfterSome total name book series t.left in
       let IsSo : Image → ℕ → Type 0 = λ image sent. IsOnBook count total Q image × (sent ≡ sent_now old) in
       let within = within_held count total book old holds in
       since_worked IsSo count count' total sound sound' old old new Q (λ pages is. is.after.new) same within (λ pages is. is.after.stands)
-      (passed answer total book series (of_pages (λ total book series. Outcome total name book series left left' answer (pages_view count sound old) (pages_view count' sound' new)) comes total book holds series named)) goes refl
+      (passed answer total book series (of_pages (λ total book series. Outcome total name book series t.left t.left_now answer (pages_view count sound old) (pages_view count' sound' new)) comes total book holds series named)) goes refl
       (λ image on. (on_book count total Q on.so.after.new image on.so.after.stands on, refl))
       (since_none old IsSo (λ image left_so.
       let is = holds.images image left_so in
-      (record { readable = is.readable; within = within; old = is.old; so = some_at_first total name book series left (book_pages count image) is.stands }, refl)))
+      (record { readable = is.readable; within = within; old = is.old; so = some_at_first total name book series t.left (book_pages count image) is.stands }, refl)))
 
-  quiet_by : (answer : Result ℕ LoadEnd) → Comes answer → Finds answer → (answer ≡ Err UnknownSeries → new ≡ old) → OfBook count old (λ total book. sent_now new ≡ sent_now old)
+  quiet_by : (answer : Result ℕ End) → Comes answer → Finds answer → (answer ≡ Err UnknownSeries → new ≡ old) → OfBook count old (λ total book. sent_now new ≡ sent_now old)
   quiet_by answer comes finds stays = λ total book holds. elim (named_or name book) [
     | inl none ↦ ap (λ (v : View). sent_now v) (stays ((finds total book holds.honest (stands_held count total book old rests holds)).1 none))
     | inr named ↦
-        sent_so (pages_view count sound old) (pages_view count' sound' new) (IsAfterSome total name book named.0 left)
+        sent_so (pages_view count sound old) (pages_view count' sound' new) (IsAfterSome total name book named.0 t.left)
         (passed answer total book named.0 (comes total book named.0 holds.honest (stands_held count total book old rests holds) named.1)) new.clock goes.later (omega arith)
   ]
 
-  some_by : (answer : Result ℕ LoadEnd) → Comes answer → answer ≢ Err DiskFault → IsClosed new → OfSeries count old name (λ total book series. HoldsPages count total (IsAfterSome total name book series left) new)
+  some_by : (answer : Result ℕ End) → Comes answer → answer ≢ Err DiskFault → IsClosed new → OfSeries count old name (λ total book series. HoldsPages count total (IsAfterSome total name book series t.left) new)
   some_by (Ok readings) comes other closed = λ total book holds series named.
-      pages_so total book (IsAfterSome total name book series left) holds closed (comes total book series holds.honest (stands_held count total book old rests holds) named).some
+      pages_so total book (IsAfterSome total name book series t.left) holds closed (comes total book series holds.honest (stands_held count total book old rests holds) named).some
   some_by (Err e) comes other closed = λ total book holds series named.
-      pages_so total book (IsAfterSome total name book series left) holds closed
-      (some_of total name book series left (pages_of count' new.image) e (λ is. other (ap Err is)) (comes total book series holds.honest (stands_held count total book old rests holds) named).some)
+      pages_so total book (IsAfterSome total name book series t.left) holds closed
+      (some_of total name book series t.left (pages_of count' new.image) e (λ is. other (ap Err is)) (comes total book series holds.honest (stands_held count total book old rests holds) named).some)
 
   -- ---- by the answer
 
@@ -132,28 +136,31 @@ module _ (name : List ℕ) (count count' : ℕ) (sound sound' : Bool) (old new :
   taken_by bytes (Some r) all closed = λ total book holds series named.
       pages_so total book (IsTaken total name book series bytes r) holds closed (all total book series holds.honest (stands_held count total book old rests holds) named)
 
-  stops_by : (input : Option (List ℕ)) (e : LoadEnd) → ((total : ℕ) (book : List Series) (series : Series) → Honest old → StandsForBook (pages_of count old.image) total book → IsNamed book name series → IfSome input (λ bytes. EndsLoad total name book series bytes left' (pages_of count' new.image) e)) → (e ≢ DiskFault → IsClosed new)
-      → IfSome input (λ bytes. StopsAt name count old new bytes left' e)
+  refused_by : (input : Option (List ℕ)) (at number : ℕ) → ((total : ℕ) (book : List Series) (series : Series) → Honest old → StandsForBook (pages_of count old.image) total book → IsNamed book name series → IfSome input (λ bytes. OfRefusal number (λ refusal. IsAtRefusal total name book series bytes at refusal (pages_of count' new.image))))
+      → IsClosed new → IfSome input (λ bytes. RefusesRun name count old new bytes at number)
+  refused_by None at number all closed = tt
+  refused_by (Some bytes) at number all closed = λ total book holds series named.
+      let is = all total book series holds.honest (stands_held count total book old rests holds) named in
+      record { refusal = is.refusal; number_is = is.number_is; so = pages_so total book (IsAtRefusal total name book series bytes at is.refusal) holds closed is.so }
+
+  stops_by : (input : Option (List ℕ)) (e : End) → ((total : ℕ) (book : List Series) (series : Series) → Honest old → StandsForBook (pages_of count old.image) total book → IsNamed book name series → IfSome input (λ bytes. EndsLoad total name book series bytes t.left_now (pages_of count' new.image) e)) → (e ≢ DiskFault → IsClosed new)
+      → IfSome input (λ bytes. StopsAt name count old new bytes t.left_now e)
   stops_by None e all closed = tt
-  stops_by (Some bytes) UnknownSeries all closed = tt
-  stops_by (Some bytes) (BadLine at) all closed = λ total book holds series named.
+  stops_by (Some bytes) ReadFault all closed = taken_by bytes t.left_now (λ total book series honest stands named. all total book series honest stands named) (closed (λ is. cc))
+  stops_by (Some bytes) (BadInput at) all closed = λ total book holds series named.
       pages_so total book (IsAtBad total name book series bytes at) holds (closed (λ is. cc)) (all total book series holds.honest (stands_held count total book old rests holds) named)
-  stops_by (Some bytes) (Refused at refusal) all closed = λ total book holds series named.
-      pages_so total book (IsAtRefusal total name book series bytes at refusal) holds (closed (λ is. cc)) (all total book series holds.honest (stands_held count total book old rests holds) named)
-  stops_by (Some bytes) ReadFault all closed = taken_by bytes left' (λ total book series honest stands named. all total book series honest stands named) (closed (λ is. cc))
   stops_by (Some bytes) InputTooLong all closed = λ total book holds series named.
       pages_so total book (IsPast total name book series bytes) holds (closed (λ is. cc)) (all total book series holds.honest (stands_held count total book old rests holds) named)
-  stops_by (Some bytes) DiskFault all closed = tt
-  stops_by (Some bytes) (Damaged page) all closed = tt
-  stops_by (Some bytes) NoMemory all closed = tt
+  stops_by (Some bytes) (Refused at number) all closed = refused_by (Some bytes) at number all (closed (λ is. cc))
+  stops_by (Some bytes) end all closed = tt
 
-  damaged_by : (page : ℕ) → Comes (Err (Damaged page)) → Finds (Err (Damaged page)) → Never count old
+  damaged_by : (page : ℕ) → Comes (Err (DamagedPage page)) → Finds (Err (DamagedPage page)) → Never count old
   damaged_by page comes finds = λ total book holds. elim (named_or name book) [
-    | inl none ↦ let is = err_same (Damaged page) UnknownSeries ((finds total book holds.honest (stands_held count total book old rests holds)).1 none) in cc
+    | inl none ↦ let is = err_same (DamagedPage page) UnknownSeries ((finds total book holds.honest (stands_held count total book old rests holds)).1 none) in cc
     | inr named ↦ (comes total book named.0 holds.honest (stands_held count total book old rests holds) named.1).some
   ]
 
-  bad_by : (page total : ℕ) → total ≤ count' → (page < total) × (Honest new → IsBadForEdit count' (pages_of count' new.image) page) → IsDamagedLater IsBadForEdit count new (66 + page)
+  bad_by : (page total : ℕ) → total ≤ count' → (page < total) × (Honest new → IsBadForEdit count' (pages_of count' new.image) page) → IsDamagedLater IsBadForEdit count new (block_of page)
   bad_by page total few is =
       let C : ℕ → Type 0 = λ n. IsBadForEdit n (pages_of n new.image) page in
       let D : Image → Type 0 = λ i. IsBadForEdit count i page in
@@ -164,29 +171,23 @@ module _ (name : List ℕ) (count count' : ℕ) (sound sound' : Bool) (old new :
         bad = λ honest. let bad = subst C same (is.1 honest) in subst D (sym (spelled_current (pages_of count new.image) bad.numbers bad.keeps.spelled)) bad;
       }
 
-  cause_by : (e : LoadEnd) (total reads reads_now : ℕ) → total ≤ count' → IsLoadCause e (Honest new) total (pages_view count sound old) (pages_view count' sound' new) reads reads_now → Comes (Err e) → Finds (Err e) → IsEndCause e count old new reads reads_now
-  cause_by UnknownSeries total reads reads_now few is comes finds = tt
-  cause_by (BadLine at) total reads reads_now few is comes finds = tt
-  cause_by (Refused at refusal) total reads reads_now few is comes finds = tt
-  cause_by ReadFault total reads reads_now few is comes finds = is
-  cause_by InputTooLong total reads reads_now few is comes finds = tt
-  cause_by DiskFault total reads reads_now few is comes finds = is
-  cause_by (Damaged page) total reads reads_now few is comes finds = (damaged_by page comes finds, bad_by page total few is)
-  cause_by NoMemory total reads reads_now few is comes finds = tt
+  cause_by : (e : End) (total reads reads_now : ℕ) → total ≤ count' → IsLoadCause e (Honest new) total (pages_view count sound old) (pages_view count' sound' new) reads reads_now → Comes (Err e) → Finds (Err e) → IsEndCause e count old new reads reads_now
+  cause_by (DamagedPage page) total reads reads_now few is comes finds = (damaged_by page comes finds, bad_by page total few is)
+  cause_by end total reads reads_now few is comes finds = is
 
-  named_by_load : (answer : Result ℕ LoadEnd) → Finds answer → OfSeries count old name (λ total book series. answer ≢ Err UnknownSeries)
+  named_by_load : (answer : Result ℕ End) → Finds answer → OfSeries count old name (λ total book series. answer ≢ Err UnknownSeries)
   named_by_load answer finds = λ total book holds series named is.
       let none = (finds total book holds.honest (stands_held count total book old rests holds)).0 is in
       let both : Some named.id ≡ None = sym named.id_is ∙ none in
       cc
 
-  unnamed_by_load : (answer : Result ℕ LoadEnd) → Finds answer → Unnamed count old name (λ total book. answer ≡ Err UnknownSeries)
+  unnamed_by_load : (answer : Result ℕ End) → Finds answer → Unnamed count old name (λ total book. answer ≡ Err UnknownSeries)
   unnamed_by_load answer finds = λ total book holds none. (finds total book holds.honest (stands_held count total book old rests holds)).1 none
 
   abbrev Stays : ℕ → List Series → Type 0
   Stays total book = HoldsBook count total book new × Since old new (λ image sent. RecoversTo count image total book)
 
-  untouched_by : (answer : Result ℕ LoadEnd) → (answer ≡ Err UnknownSeries → (new ≡ old) × (left' ≡ left)) → answer ≡ Err UnknownSeries → OfBook count old Stays × (left' ≡ left)
+  untouched_by : (answer : Result ℕ End) → (answer ≡ Err UnknownSeries → (new ≡ old) × (t.left_now ≡ t.left)) → answer ≡ Err UnknownSeries → OfBook count old Stays × (t.left_now ≡ t.left)
   untouched_by answer stays is =
       let so = stays is in (
         (λ total book holds.
@@ -195,11 +196,10 @@ module _ (name : List ℕ) (count count' : ℕ) (sound sound' : Bool) (old new :
         so.1,
       )
 
-  pub stores_by : (answer : Result ℕ LoadEnd) (before now : Option (List ℕ)) (total_now reads reads_now sends sends_now : ℕ) → Comes answer → Finds answer → OnOk answer (IfSome left (λ input. length input ≤ 2 ^ 32)) → total_now ≤ count' → IfErr answer (λ e. IsLoadCause e (Honest new) total_now (pages_view count sound old) (pages_view count' sound' new) reads reads_now)
-      → (answer ≢ Err DiskFault → IsClosed new) → (answer ≡ Err UnknownSeries → (new ≡ old) × (left' ≡ left)) → now ≡ before → sends_now ≡ sends → reads ≤ reads_now → old.faults ≤ new.faults
-      → Stores name count old new left left' before now reads reads_now sends sends_now answer
-  stores_by (Ok readings) before now total_now reads reads_now sends sends_now comes finds within few cause closed stays sent_is sends_is reads_rise faults = record {
-    done = done_by left readings (λ total book series honest stands named. (comes total book series honest stands named).done) (closed (λ is. cc));
+  pub stores_by : (answer : Result ℕ End) (total_now : ℕ) → Comes answer → Finds answer → OnOk answer (IfSome t.left (λ input. length input ≤ 2 ^ 32)) → total_now ≤ count' → IfErr answer (λ e. IsLoadCause e (Honest new) total_now (pages_view count sound old) (pages_view count' sound' new) t.reads t.reads_now)
+      → (answer ≢ Err DiskFault → IsClosed new) → (answer ≡ Err UnknownSeries → (new ≡ old) × (t.left_now ≡ t.left)) → t.sent_now ≡ t.sent → t.sends_now ≡ t.sends → old.faults ≤ new.faults → Stores name count old new t answer
+  stores_by (Ok readings) total_now comes finds within few cause closed stays sent_is sends_is faults = record {
+    done = done_by t.left readings (λ total book series honest stands named. (comes total book series honest stands named).done) (closed (λ is. cc));
     within = within;
     some = λ other. some_by (Ok readings) comes other (closed other);
     stops = tt;
@@ -211,16 +211,15 @@ module _ (name : List ℕ) (count count' : ℕ) (sound sound' : Bool) (old new :
     quiet = quiet_by (Ok readings) comes finds (λ is. (stays is).0);
     sent_is = sent_is;
     sends_is = sends_is;
-    reads_rise = reads_rise;
     faults = faults;
     goes_on = goes;
   }
-  stores_by (Err e) before now total_now reads reads_now sends sends_now comes finds within few cause closed stays sent_is sends_is reads_rise faults = record {
+  stores_by (Err e) total_now comes finds within few cause closed stays sent_is sends_is faults = record {
     done = tt;
     within = tt;
     some = λ other. some_by (Err e) comes other (closed other);
-    stops = stops_by left e (λ total book series honest stands named. (comes total book series honest stands named).ends) (λ other. closed (λ is. other (err_same e DiskFault is)));
-    cause = cause_by e total_now reads reads_now few cause comes finds;
+    stops = stops_by t.left e (λ total book series honest stands named. (comes total book series honest stands named).ends) (λ other. closed (λ is. other (err_same e DiskFault is)));
+    cause = cause_by e total_now t.reads t.reads_now few cause comes finds;
     named = named_by_load (Err e) finds;
     unnamed = unnamed_by_load (Err e) finds;
     untouched = untouched_by (Err e) stays;
@@ -228,19 +227,12 @@ module _ (name : List ℕ) (count count' : ℕ) (sound sound' : Bool) (old new :
     quiet = quiet_by (Err e) comes finds (λ is. (stays is).0);
     sent_is = sent_is;
     sends_is = sends_is;
-    reads_rise = reads_rise;
     faults = faults;
     goes_on = goes;
   }
 
 -- unless a call of the disk failed, the pages are sound
-pub sound_after : (answer : Result ℕ LoadEnd) (view : View) → OnOk answer view.fit → IfErr answer (λ e. IsSoundFor e view) → answer ≢ Err DiskFault → view.fit
+pub sound_after : (answer : Result ℕ End) (view : View) → OnOk answer view.fit → IfErr answer (λ e. IsSoundFor e view) → answer ≢ Err DiskFault → view.fit
 sound_after (Ok readings) view sound sound_for other = sound
-sound_after (Err UnknownSeries) view sound sound_for other = sound_for
-sound_after (Err (BadLine at)) view sound sound_for other = sound_for
-sound_after (Err (Refused at refusal)) view sound sound_for other = sound_for
-sound_after (Err ReadFault) view sound sound_for other = sound_for
-sound_after (Err InputTooLong) view sound sound_for other = sound_for
 sound_after (Err DiskFault) view sound sound_for other = absurd (other refl)
-sound_after (Err (Damaged page)) view sound sound_for other = sound_for
-sound_after (Err NoMemory) view sound sound_for other = sound_for
+sound_after (Err end) view sound sound_for other = sound_for

@@ -1,9 +1,12 @@
 -- How a command ends whose store isn't opened: nothing was sent.
-use Rattle.std.proofs.Common.{◌≡◌, ℕ, List, Option, arith}
+use Rattle.std.proofs.Common.{◌≡◌, ℕ, List, Option, inl, inr, refl, sym, subst, arith}
+use Rattle.std.specs.Prelude.{Contains}
 use Rattle.block_disk.specs.View.{View}
+use Rattle.disk_store.specs.Openings.{IsOutside}
 use Rattle.disk_store.specs.declared.causes.OpeningCause.{OpeningCause}
 use Rattle.disk_store.specs.declared.causes.OpeningCause.TheVariants as opening
 use Rattle.store_commands.specs.Codes.{unopened}
+use Rattle.store_commands.specs.Loaded.{unnamed_ends}
 use Rattle.store_commands.specs.Status.{opening_end}
 use Rattle.store_commands.specs.Unopened.{IsUnopenedEnd}
 use Rattle.store_commands.proofs.WorldLemmas.{IsUnopened}
@@ -13,3 +16,8 @@ unopened_end old new left left' before now (opening.TooSmall size) u = ((u.preve
 unopened_end old new left left' before now (opening.Damaged block) u = ((u.prevents.1, λ total book holds. unopened block (u.outside total book holds)), u.sent_is)
 unopened_end old new left left' before now opening.DiskFault u = (u.prevents, u.sent_is)
 unopened_end old new left left' before now opening.NoMemory u = (tt, u.sent_is)
+
+-- a store that holds a book is kept from opening by want of memory or a fault alone
+pub outside_ends : (cause : OpeningCause) → IsOutside cause → Contains unnamed_ends (opening_end cause)
+outside_ends cause (inl fault) = let P : OpeningCause → Type 0 = λ c. Contains unnamed_ends (opening_end c) in subst P (sym fault) (1, omega arith, refl)
+outside_ends cause (inr memory) = let P : OpeningCause → Type 0 = λ c. Contains unnamed_ends (opening_end c) in subst P (sym memory) (0, omega arith, refl)

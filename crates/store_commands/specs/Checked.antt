@@ -1,5 +1,5 @@
 -- How a check of the disk's store ends.
-use Rattle.std.specs.Prelude.{◌≡◌, ℕ, ◌+◌, ◌<◌, ◌⊎◌, List, ◌++◌, Option, codes}
+use Rattle.std.specs.Prelude.{◌≡◌, ℕ, ◌<◌, ◌⊎◌, List, ◌++◌, Option, codes}
 use Rattle.std.specs.Fmt.{decimal}
 use Rattle.block_disk.specs.Counts.{HasRisen}
 use Rattle.block_disk.specs.Streams.{sent_after}
@@ -14,6 +14,7 @@ use Rattle.series_store.specs.declared.counts.Counts.{Counts}
 use Rattle.disk_store.specs.Held.{HoldsBook}
 use Rattle.stored_book.specs.Damage.{SaysNumbers}
 use Rattle.stored_book.specs.Standing.{AreCatalog, book_pages}
+use Rattle.run_ends.specs.Statuses.{block_of}
 use Rattle.run_ends.specs.declared.ending.End.{End}
 use Rattle.run_ends.specs.declared.ending.End.TheVariants.{Done, SendFault, DamagedPage}
 use Rattle.store_commands.specs.Damaged.{IsDamagedLater}
@@ -58,7 +59,7 @@ abbrev pub IsCheckEnd : End → View → View → Option (List ℕ) → Option (
 IsCheckEnd Done old new before now sends sends_now = SendsCounts (page_count old.size) old before now
 IsCheckEnd SendFault old new before now sends sends_now = HasRisen sends sends_now × SendsCountsPart (page_count old.size) old before now
 IsCheckEnd (DamagedPage page) old new before now sends sends_now =
-    IsDamagedLater IsBadForCheck (page_count old.size) old (66 + page) × Never (page_count old.size) old × (now ≡ before)
+    IsDamagedLater IsBadForCheck (page_count old.size) old (block_of page) × Never (page_count old.size) old × (now ≡ before)
 IsCheckEnd end old new before now sends sends_now = IsUnopenedEnd end old new × (now ≡ before)
 
 -- the same, and what it left

@@ -1,8 +1,9 @@
 -- What the parts of a check do.
-use Rattle.std.specs.Prelude.{ℕ, ◌≡◌, ◌+◌, List, Option}
+use Rattle.std.specs.Prelude.{ℕ, ◌≡◌, List, Option}
 use Rattle.block_disk.specs.Counts.{HasRisen}
 use Rattle.block_disk.specs.View.{View}
 use Rattle.gate_pages.specs.Pages.{GoesOn}
+use Rattle.run_ends.specs.Statuses.{block_of}
 use Rattle.run_ends.specs.declared.ending.End.{End}
 use Rattle.run_ends.specs.declared.ending.End.TheVariants.{Done, NoMemory, SendFault, DiskFault, DamagedPage}
 use Rattle.series_store.specs.declared.errors.StoreError.{StoreError}
@@ -28,7 +29,7 @@ EndsCheck NoMemory count old new before now sends sends_now = now ≡ before
 EndsCheck SendFault count old new before now sends sends_now = HasRisen sends sends_now × SendsCountsPart count old before now
 EndsCheck DiskFault count old new before now sends sends_now = HasRisen old.faults new.faults × (now ≡ before)
 EndsCheck (DamagedPage page) count old new before now sends sends_now =
-    IsDamagedLater IsBadForCheck count old (66 + page) × Never count old × (now ≡ before)
+    IsDamagedLater IsBadForCheck count old (block_of page) × Never count old × (now ≡ before)
 EndsCheck end count old new before now sends sends_now = ⊥
 
 -- So ended the check of an opened store, whose book stays at each moment.

@@ -1,7 +1,9 @@
 -- A series is copied: what an export of it sent is loaded into another one.
-use Rattle.std.specs.Prelude.{◌≡◌, ℕ, ◌^◌, ◌<◌, List, [], ◌∷◌, length, Contains}
+use Rattle.std.specs.Prelude.{ℕ, ◌^◌, ◌<◌, List, length, ⊤}
 use Rattle.block_disk.specs.View.{View}
 use Rattle.gate_pages.specs.Journal.{page_count}
+use Rattle.run_ends.specs.declared.ending.End.{End}
+use Rattle.run_ends.specs.declared.ending.End.TheVariants.{Done, NoMemory, ReadFault, SendFault, DiskFault, InputTooLong}
 use Rattle.series_book.specs.declared.one_series.Series.{Series}
 use Rattle.series_export.specs.RoundTrips.{IsBegunAs, StandsForSame}
 use Rattle.series_export.specs.Room.{HasRoomFor}
@@ -23,11 +25,15 @@ pub record HoldsRoomFor (name : List ℕ) (series : Series) (disk : View) : Type
 
 -- All of the bytes was loaded and the series holds the same, or memory ran out, or a call of the streams or of the disk
 -- failed. More than 2^32 bytes may be too many.
-pub record EndsFitting (name : List ℕ) (series : Series) (bytes : List ℕ) (old new : View) (code : ℕ) : Type 0 where
-  pub codes : Contains (0 ∷ 3 ∷ 4 ∷ 5 ∷ 6 ∷ 9 ∷ []) code
-  pub done : code ≡ 0 → (total : ℕ) × HoldsPages (page_count old.size) total (StandsForSame total name series) new
-  pub long : code ≡ 9 → 2 ^ 32 < length bytes
+abbrev pub EndsFitting : List ℕ → Series → List ℕ → View → View → End → Type 0
+EndsFitting name series bytes old new Done = (total : ℕ) × HoldsPages (page_count old.size) total (StandsForSame total name series) new
+EndsFitting name series bytes old new NoMemory = ⊤
+EndsFitting name series bytes old new ReadFault = ⊤
+EndsFitting name series bytes old new SendFault = ⊤
+EndsFitting name series bytes old new DiskFault = ⊤
+EndsFitting name series bytes old new InputTooLong = 2 ^ 32 < length bytes
+EndsFitting name series bytes old new end = ⊥
 
 -- so it is where the second disk has room for the first one's series
-abbrev pub FitsInto : List ℕ → List ℕ → ℕ → View → View → View → List ℕ → ℕ → Type 0
-FitsInto name copy source_count source old new bytes code = OfSeries source_count source name (λ total book series. HoldsRoomFor copy series old → EndsFitting copy series bytes old new code)
+abbrev pub FitsInto : List ℕ → List ℕ → ℕ → View → View → View → List ℕ → End → Type 0
+FitsInto name copy source_count source old new bytes end = OfSeries source_count source name (λ total book series. HoldsRoomFor copy series old → EndsFitting copy series bytes old new end)

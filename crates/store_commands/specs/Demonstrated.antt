@@ -1,25 +1,24 @@
 -- How the workload of a seed ends over the disk's store.
-use Rattle.std.specs.Prelude.{◌≡◌, ℕ, ◌+◌, ◌<◌, ◌≤◌, List, ◌++◌, Option}
+use Rattle.std.specs.Prelude.{◌≡◌, ℕ, ◌<◌, ◌≤◌, List, ◌++◌, Option}
 use Rattle.block_disk.specs.Counts.{HasRisen}
 use Rattle.block_disk.specs.Streams.{sent_after}
 use Rattle.block_disk.specs.View.{Image, View, sent_now}
 use Rattle.chart_client.specs.declared.errors.ClientError.TheVariants as client
 use Rattle.chart_frames.specs.declared.frame.Frame.{Frame}
-use Rattle.chart_frames.specs.Frames.{key_number}
 use Rattle.gate_pages.specs.GatePages.{IsReadable}
 use Rattle.gate_pages.specs.Journal.{page_count}
 use Rattle.gate_pages.specs.Pages.{GoesOn}
-use Rattle.om3_coeff.specs.declared.key.Key.{Key}
 use Rattle.request_lines.specs.declared.requests.Request.{Request}
 use Rattle.stored_book.specs.Damage.{IsBadForRequest}
 use Rattle.stored_book.specs.Standing.{StandsForBook, KeepsOldStore, book_pages}
 use Rattle.chart_service.specs.Moments.{Since}
 use Rattle.chart_service.specs.State.{State}
 use Rattle.demo_workload.specs.declared.summaries.Summary.{Summary}
-use Rattle.demo_workload.specs.Ending.{MeetsError}
+use Rattle.demo_workload.specs.Ending.{MeetsKey}
 use Rattle.demo_workload.specs.Replying.{AnswersEach, Summarizes, IsPartWay}
 use Rattle.demo_workload.specs.Summaries.{summary_line}
 use Rattle.demo_workload.specs.Workload.{workload}
+use Rattle.run_ends.specs.Statuses.{block_of}
 use Rattle.run_ends.specs.declared.ending.End.{End}
 use Rattle.run_ends.specs.declared.ending.End.TheVariants.{Done, NoMemory, SendFault, DamagedPage, Missing, BadCoefficient}
 use Rattle.store_commands.specs.Damaged.{IsDamagedLater}
@@ -67,11 +66,11 @@ IsDemoEnd NoMemory seed rounds old new before now sends sends_now =
 IsDemoEnd SendFault seed rounds old new before now sends sends_now =
     HasRisen sends sends_now × FromBook (page_count old.size) old new (λ start state. SendsSummaryPart (workload seed rounds) start state before now)
 IsDemoEnd (DamagedPage page) seed rounds old new before now sends sends_now =
-    IsDamagedLater IsBadForRequest (page_count old.size) new (66 + page) × Never (page_count old.size) old × (now ≡ before)
+    IsDamagedLater IsBadForRequest (page_count old.size) new (block_of page) × Never (page_count old.size) old × (now ≡ before)
 IsDemoEnd (Missing number) seed rounds old new before now sends sends_now =
-    Never (page_count old.size) old × ((key : Key) × (number ≡ key_number key) × MeetsError (client.Missing key)) × (now ≡ before)
+    Never (page_count old.size) old × MeetsKey client.Missing number × (now ≡ before)
 IsDemoEnd (BadCoefficient number) seed rounds old new before now sends sends_now =
-    Never (page_count old.size) old × ((key : Key) × (number ≡ key_number key) × MeetsError (client.BadCoefficient key)) × (now ≡ before)
+    Never (page_count old.size) old × MeetsKey client.BadCoefficient number × (now ≡ before)
 IsDemoEnd end seed rounds old new before now sends sends_now = IsUnopenedEnd end old new × (now ≡ before)
 
 -- the same, and what it left

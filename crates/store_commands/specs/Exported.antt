@@ -1,5 +1,5 @@
 -- How an export of a series of the disk's store ends.
-use Rattle.std.specs.Prelude.{◌≡◌, ℕ, ◌+◌, ◌<◌, ◌≤◌, ◌⊎◌, List, [], ◌∷◌, Contains, Option, ⊤}
+use Rattle.std.specs.Prelude.{◌≡◌, ℕ, ◌+◌, ◌<◌, ◌≤◌, ◌⊎◌, List, Contains, Option, ⊤}
 use Rattle.block_disk.specs.Counts.{HasRisen}
 use Rattle.block_disk.specs.Streams.{sent_after}
 use Rattle.block_disk.specs.View.{Image, View}
@@ -13,9 +13,11 @@ use Rattle.disk_store.specs.Held.{HoldsBook}
 use Rattle.stored_book.specs.Damage.{SaysNumbers}
 use Rattle.store_commands.specs.Books.{OfBook, Never, LeavesSame, SendsPartOf}
 use Rattle.store_commands.specs.Damaged.{IsDamagedAtFirst, IsDamagedLater}
+use Rattle.run_ends.specs.Statuses.{block_of}
 use Rattle.run_ends.specs.declared.ending.End.{End}
 use Rattle.run_ends.specs.declared.ending.End.TheVariants.{Done, NoMemory, SendFault, DiskFault, DamagedPage, UnknownSeries}
 use Rattle.store_commands.specs.Loaded.{OfSeries, Unnamed}
+pub use Rattle.store_commands.specs.Loaded.{HasNone, unnamed_ends}
 use Rattle.store_commands.specs.Unopened.{IsUnopenedEnd}
 
 -- the text of the series of this name was sent, in the window if there is one
@@ -25,10 +27,6 @@ ExportsAll name window count disk before now = OfSeries count disk name (λ tota
 -- the first bytes of it were sent
 abbrev pub ExportsPart : List ℕ → Option Window → ℕ → View → Option (List ℕ) → Option (List ℕ) → Type 0
 ExportsPart name window count disk before now = OfSeries count disk name (λ total book series. SendsPartOf (export_text series window) before now)
-
--- the book that the disk holds has no series of this name
-abbrev pub HasNone : ℕ → View → List ℕ → Type 0
-HasNone count disk name = OfSeries count disk name (λ total book series. ⊥)
 
 -- at most the blocks were read that an opening reads, and each page of the series' tree once
 abbrev pub ReadsSeries : List ℕ → ℕ → View → View → Type 0
@@ -42,10 +40,6 @@ IsBadForExport count image page = SaysNumbers count image (λ s. (page < s.total
 abbrev pub IsDamagedForExport : View → Option (List ℕ) → Option (List ℕ) → ℕ → Type 0
 IsDamagedForExport old before now place = (IsDamagedAtFirst old place × (now ≡ before)) ⊎ IsDamagedLater IsBadForExport (page_count old.size) old place
 
--- where no series has the name, an export tells so unless a call of the disk fails or there is no memory
-abbrev pub unnamed_ends : List End
-unnamed_ends = NoMemory ∷ DiskFault ∷ UnknownSeries ∷ []
-
 -- why an export ended, and what it sent where no series was read
 abbrev pub IsExportEnd : End → List ℕ → Option Window → View → View → Option (List ℕ) → Option (List ℕ) → ℕ → ℕ → Type 0
 IsExportEnd Done name window old new before now sends sends_now = ExportsAll name window (page_count old.size) old before now
@@ -53,7 +47,7 @@ IsExportEnd NoMemory name window old new before now sends sends_now = ⊤
 IsExportEnd SendFault name window old new before now sends sends_now = HasRisen sends sends_now
 IsExportEnd DiskFault name window old new before now sends sends_now = HasRisen old.faults new.faults
 IsExportEnd (DamagedPage page) name window old new before now sends sends_now =
-    IsDamagedLater IsBadForExport (page_count old.size) old (66 + page) × Never (page_count old.size) old
+    IsDamagedLater IsBadForExport (page_count old.size) old (block_of page) × Never (page_count old.size) old
 IsExportEnd UnknownSeries name window old new before now sends sends_now = HasNone (page_count old.size) old name × (now ≡ before)
 IsExportEnd end name window old new before now sends sends_now = IsUnopenedEnd end old new × (now ≡ before)
 

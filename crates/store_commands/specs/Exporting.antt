@@ -6,6 +6,7 @@ use Rattle.block_disk.specs.declared.disk.Disk.{Ghosts}
 use Rattle.gate_pages.specs.Pages.{GoesOn}
 use Rattle.gate_pages.specs.Shown as gate
 use Rattle.gate_pages.specs.declared.gate_pages.GatePages.{GatePages}
+use Rattle.run_ends.specs.Statuses.{block_of}
 use Rattle.run_ends.specs.declared.ending.End.{End}
 use Rattle.run_ends.specs.declared.ending.End.TheVariants as ends
 use Rattle.series_book.specs.Pages.{series_pages}
@@ -34,7 +35,7 @@ EndsExport ends.NoMemory name window count old new before now sends sends_now = 
 EndsExport ends.SendFault name window count old new before now sends sends_now = HasRisen sends sends_now
 EndsExport ends.DiskFault name window count old new before now sends sends_now = HasRisen old.faults new.faults
 EndsExport (ends.DamagedPage page) name window count old new before now sends sends_now =
-    IsDamagedLater IsBadForExport count old (66 + page) × Never count old
+    IsDamagedLater IsBadForExport count old (block_of page) × Never count old
 EndsExport ends.UnknownSeries name window count old new before now sends sends_now = HasNone count old name × (now ≡ before)
 EndsExport end name window count old new before now sends sends_now = ⊥
 

@@ -9,9 +9,9 @@ use Rattle.series_export.specs.declared.window.Window.{Window}
 use Rattle.store_commands.specs.Books.{HoldsPages}
 use Rattle.store_commands.specs.Copied.{IsCopied, FitsInto}
 use Rattle.store_commands.specs.Exported.{ExportsAll}
-use Rattle.store_commands.specs.Loaded.{EndsLoad, LoadsAll}
+use Rattle.store_commands.specs.Loaded.{LoadEnds, LoadsAll}
 use Rattle.store_commands.specs.Traffic.{Traffic}
-use Rattle.run_ends.specs.declared.status.Status.{Status}
+use Rattle.run_ends.specs.declared.ending.End.{End}
 
 -- Where all that an export sent was loaded into a new series of the same start, step and scale, that one holds the same.
 abbrev pub CopiesHoldTheSame : View → View → View → Type 0
@@ -31,6 +31,6 @@ CopiesExportTheSame new =
 -- is refused.
 abbrev pub CopiesFit : View → View → View → Type 0
 CopiesFit source old new =
-    (name copy : List ℕ) (source_count : ℕ) (bytes : List ℕ) (t : Traffic) (end : Status)
-    → ExportsAll name None source_count source (Some []) (Some bytes) → t.left ≡ Some bytes → EndsLoad copy old new t end
-    → FitsInto name copy source_count source old new bytes end.code
+    (name copy : List ℕ) (source_count : ℕ) (bytes : List ℕ) (t : Traffic) (end : End)
+    → ExportsAll name None source_count source (Some []) (Some bytes) → t.left ≡ Some bytes → LoadEnds copy old new t end
+    → FitsInto name copy source_count source old new bytes end

@@ -1,5 +1,5 @@
--- How a load of the input into a series of the disk's store ends, by its status.
-use Rattle.std.specs.Prelude.{◌≡◌, ◌≢◌, ℕ, ◌+◌, ◌*◌, ◌<◌, ◌≤◌, ◌^◌, List, [], ◌∷◌, ◌++◌, length, Contains, Option, Some, None, IfSome, codes}
+-- How a load of the input into a series of the disk's store ends.
+use Rattle.std.specs.Prelude.{◌≡◌, ℕ, ◌<◌, ◌≤◌, ◌^◌, List, [], ◌∷◌, ◌++◌, length, Contains, Option, Some, None, IfSome, codes}
 use Rattle.std.specs.Fmt.{decimal}
 use Rattle.block_disk.specs.Counts.{HasRisen}
 use Rattle.block_disk.specs.Streams.{sent_after}
@@ -16,12 +16,16 @@ use Rattle.stored_book.specs.Damage.{IsBadForEdit}
 use Rattle.stored_book.specs.Standing.{KeepsOldStore, book_pages, RecoversTo}
 use Rattle.chart_service.specs.Moments.{Since}
 use Rattle.series_load.specs.Runs.{Run, AreFirst}
-use Rattle.series_load.specs.Sets.{IsNamed, IsAfterSome, Loads}
+use Rattle.series_load.specs.Sets.{IsNamed, IsAfterSome, Loads, OfRefusal}
 use Rattle.series_load.specs.Ends.{IsLoaded, IsAtBad, IsAtRefusal, IsTaken, IsPast}
-use Rattle.run_ends.specs.declared.status.Status.{Status}
+use Rattle.run_ends.specs.Statuses.{block_of, refused_at}
+use Rattle.run_ends.specs.declared.ending.End.{End}
+use Rattle.run_ends.specs.declared.ending.End.TheVariants.{Done, NoMemory, ReadFault, SendFault, DiskFault, DamagedPage}
+use Rattle.run_ends.specs.declared.ending.End.TheVariants.{BadInput, InputTooLong, UnknownSeries, Refused}
 use Rattle.store_commands.specs.Traffic.{Traffic}
-use Rattle.store_commands.specs.Damaged.{IsDamagedPlace}
-use Rattle.store_commands.specs.Books.{OfBook, Never, SendsPartOf, HoldsPages}
+use Rattle.store_commands.specs.Damaged.{IsDamagedLater}
+use Rattle.store_commands.specs.Unopened.{IsUnopenedEnd}
+use Rattle.store_commands.specs.Books.{OfBook, Never, LeavesSame, SendsPartOf, HoldsPages}
 
 -- what is said of a load of so many readings
 abbrev pub loaded_text : ℕ → List ℕ
@@ -30,6 +34,14 @@ loaded_text readings = codes "loaded " ++ (decimal readings ++ codes "\n")
 -- this is so of the book that the disk holds, and of its series of this name
 abbrev pub OfSeries : ℕ → View → List ℕ → (ℕ → List Series → Series → Type 0) → Type 0
 OfSeries count disk name IsSo = OfBook count disk (λ total book. (series : Series) → IsNamed book name series → IsSo total book series)
+
+-- the book that the disk holds has no series of this name
+abbrev pub HasNone : ℕ → View → List ℕ → Type 0
+HasNone count disk name = OfSeries count disk name (λ total book series. ⊥)
+
+-- where it has none, a command tells so unless a call of the disk fails or there is no memory
+abbrev pub unnamed_ends : List End
+unnamed_ends = NoMemory ∷ DiskFault ∷ UnknownSeries ∷ []
 
 -- this is so where the book that the disk holds has no series of this name
 abbrev pub Unnamed : ℕ → View → List ℕ → (ℕ → List Series → Type 0) → Type 0
@@ -73,7 +85,12 @@ LoadsWithin name count old new input = OfSeries count old name (λ total book se
 -- and the refusal's number.
 abbrev pub RefusesSet : List ℕ → ℕ → View → View → List ℕ → ℕ → Type 0
 RefusesSet name count old new input place = OfSeries count old name (λ total book series.
-    (at : ℕ) × (refusal : Refusal) × (place ≡ 256 * at + number_of refusal) × HoldsPages count total (IsAtRefusal total name book series input at refusal) new)
+    (at : ℕ) × (refusal : Refusal) × (place ≡ refused_at at (number_of refusal)) × HoldsPages count total (IsAtRefusal total name book series input at refusal) new)
+
+-- the same: the run begins at this offset, and its set is refused with this number
+abbrev pub RefusesRun : List ℕ → ℕ → View → View → List ℕ → ℕ → ℕ → Type 0
+RefusesRun name count old new input at number = OfSeries count old name (λ total book series.
+    OfRefusal number (λ refusal. HoldsPages count total (IsAtRefusal total name book series input at refusal) new))
 
 -- The image recovers to the book after the sets of some first runs; once a byte of the answer was sent, after those of all.
 pub record IsAheadLoad (count total : ℕ) (name : List ℕ) (book : List Series) (series : Series) (input : List ℕ) (from : ℕ) (image : Image) (sent : ℕ) : Type 0 where
@@ -91,37 +108,31 @@ LeavesLoads name count input old new = OfSeries count old name (λ total book se
 abbrev pub LeavesUnnamed : List ℕ → ℕ → View → View → Type 0
 LeavesUnnamed name count old new = Unnamed count old name (λ total book. Since old new (λ image sent. RecoversTo count image total book))
 
--- Where the book has no series of the name, the command says so unless a call of the disk fails or memory is short, and
--- the book stays at each moment.
-pub record KeepsUnnamed (count total : ℕ) (book : List Series) (old new : View) (code : ℕ) : Type 0 where
-  pub codes : Contains (3 ∷ 6 ∷ 14 ∷ []) code
-  pub moments : Since old new (λ image sent. RecoversTo count image total book)
+-- why a load ended, and what was done and sent
+abbrev pub IsLoadEnd : End → List ℕ → View → View → Traffic → Type 0
+IsLoadEnd Done name old new t =
+    IfSome t.left (λ input. length input ≤ 2 ^ 32) × IfSome t.left (λ input. LoadsAll name (page_count old.size) old new input t.sent t.sent_now)
+IsLoadEnd NoMemory name old new t = IfSome t.left (λ input. LoadsSome name (page_count old.size) old new input) × (t.sent_now ≡ t.sent)
+IsLoadEnd ReadFault name old new t =
+    HasRisen t.reads t.reads_now × IfSome t.left (λ input. IfSome t.left_now (LoadsTaken name (page_count old.size) old new input)) × (t.sent_now ≡ t.sent)
+IsLoadEnd SendFault name old new t =
+    HasRisen t.sends t.sends_now × IfSome t.left (λ input. LoadsAndSendsPart name (page_count old.size) old new input t.sent t.sent_now)
+IsLoadEnd DiskFault name old new t = HasRisen old.faults new.faults × (t.sent_now ≡ t.sent)
+IsLoadEnd (DamagedPage page) name old new t =
+    IsDamagedLater IsBadForEdit (page_count old.size) new (block_of page) × Never (page_count old.size) old × (t.sent_now ≡ t.sent)
+IsLoadEnd (BadInput at) name old new t = IfSome t.left (λ input. LoadsToBad name (page_count old.size) old new input at) × (t.sent_now ≡ t.sent)
+IsLoadEnd InputTooLong name old new t = IfSome t.left (λ input. LoadsWithin name (page_count old.size) old new input) × (t.sent_now ≡ t.sent)
+IsLoadEnd UnknownSeries name old new t =
+    HasNone (page_count old.size) old name × OfBook (page_count old.size) old (λ total book. HoldsBook (page_count old.size) total book new)
+    × LeavesSame (page_count old.size) old new × (t.left_now ≡ t.left) × (t.sent_now ≡ t.sent)
+IsLoadEnd (Refused at number) name old new t =
+    IfSome t.left (λ input. RefusesRun name (page_count old.size) old new input at number) × (t.sent_now ≡ t.sent)
+IsLoadEnd end name old new t = IsUnopenedEnd end old new × (t.left_now ≡ t.left) × (t.sent_now ≡ t.sent)
 
--- What a load did, sent and left, and why it ended, by the status.
-pub record LoadEnds (name : List ℕ) (old new : View) (left left' before now : Option (List ℕ)) (reads reads_now sends sends_now code place : ℕ) : Type 0 where
-  pub codes : Contains (0 ∷ 3 ∷ 4 ∷ 5 ∷ 6 ∷ 7 ∷ 8 ∷ 9 ∷ 12 ∷ 14 ∷ []) code
-  pub done : code ≡ 0 → IfSome left (λ input. LoadsAll name (page_count old.size) old new input before now)
-  pub within : code ≡ 0 → IfSome left (λ input. length input ≤ 2 ^ 32)
-  pub memory : code ≡ 3 → IfSome left (λ input. LoadsSome name (page_count old.size) old new input)
-  pub read : code ≡ 4 → HasRisen reads reads_now
-  pub stopped : code ≡ 4 → IfSome left (λ input. IfSome left' (λ bytes. LoadsTaken name (page_count old.size) old new input bytes))
-  pub send : code ≡ 5 → HasRisen sends sends_now
-  pub part : code ≡ 5 → IfSome left (λ input. LoadsAndSendsPart name (page_count old.size) old new input before now)
-  pub fault : code ≡ 6 → HasRisen old.faults new.faults
-  pub damaged : code ≡ 7 → IsDamagedPlace IsBadForEdit old new place
-  pub undamaged : code ≡ 7 → Never (page_count old.size) old
-  pub bad : code ≡ 8 → IfSome left (λ input. LoadsToBad name (page_count old.size) old new input place)
-  pub much : code ≡ 9 → place ≡ 2 ^ 32
-  pub past : code ≡ 9 → IfSome left (λ input. LoadsWithin name (page_count old.size) old new input)
-  pub small : code ≡ 12 → (place ≡ old.size) × (old.size < 128)
-  pub refused : code ≡ 14 → IfSome left (λ input. RefusesSet name (page_count old.size) old new input place)
-  pub unknown : code ≡ 14 → Unnamed (page_count old.size) old name (λ total book. (place ≡ 8) × (left' ≡ left) × HoldsBook (page_count old.size) total book new)
-  pub unnamed : Unnamed (page_count old.size) old name (λ total book. KeepsUnnamed (page_count old.size) total book old new code)
-  pub nothing : code ≢ 0 → code ≢ 5 → now ≡ before
-  pub zero_place : Contains (0 ∷ 3 ∷ 4 ∷ 5 ∷ 6 ∷ []) code → place ≡ 0
-  pub crash : IfSome left (λ input. LeavesLoads name (page_count old.size) input old new)
+-- the same, and what is so however it ended
+pub record LoadEnds (name : List ℕ) (old new : View) (t : Traffic) (end : End) : Type 0 where
+  pub is : IsLoadEnd end name old new t
+  pub unnamed : Unnamed (page_count old.size) old name (λ total book. Contains unnamed_ends end)
+  pub crash : IfSome t.left (λ input. LeavesLoads name (page_count old.size) input old new)
+  pub kept : LeavesUnnamed name (page_count old.size) old new
   pub goes_on : GoesOn old new
-
--- the same by the status of the command, and by what passed through the streams
-abbrev pub EndsLoad : List ℕ → View → View → Traffic → Status → Type 0
-EndsLoad name old new t end = LoadEnds name old new t.left t.left_now t.sent t.sent_now t.reads t.reads_now t.sends t.sends_now end.code end.place

@@ -5,9 +5,8 @@ ghost use Rattle.gate_pages.specs.Shown.{AreSound, count, disk};
 ghost use Rattle.gate_pages.specs.Journal.{page_count};
 ghost use Rattle.series_store.specs.Shown as shown;
 ghost use Rattle.chart_service.specs.Shown as service_shown;
-ghost use Rattle.demo_workload.specs.Ending.{demo_fault};
 ghost use Rattle.demo_workload.specs.Workload.{workload};
-ghost use Rattle.store_commands.specs.Answering.{Answered, HasNumberedKey, demo_end};
+ghost use Rattle.store_commands.specs.Answering.{Answered};
 ghost use Rattle.run_ends.specs.Faults.{end_fault};
 ghost use Rattle.run_ends.specs.Statuses.{status_of};
 ghost use Rattle.store_commands.specs.Away.{TurnsAway};
@@ -18,9 +17,8 @@ ghost use Rattle.store_commands.specs.Traffic.{traffic};
 use crate::opening::opening_end;
 use crate::sending::send_text;
 use block_disk::{Back, World};
-use chart_client::laws::frames_have_one_answer;
 use chart_service::Service;
-use demo_workload::{DemoEnd, Summary, run_workload};
+use demo_workload::{Summary, run_workload};
 use disk_store::{disk_of, open_store};
 use gate_pages::GatePages;
 use run_ends::End;
@@ -42,7 +40,7 @@ pub fn run_demo<W: World>(alloc: Global, seed: u64, rounds: u16, world: W) -> (E
             let (answer, world) = answer_store(alloc, seed, rounds, store);
             match answer {
                 Ok(summary) => send_text(summary.line(alloc), world),
-                Err(end) => (demo_end(end), world),
+                Err(end) => (end, world),
             }
         }
         Err(Back { value, cause }) => (opening_end(cause), value),
@@ -55,15 +53,15 @@ fn answer_store<W: World>(
     seed: u64,
     rounds: u16,
     store: Store<GatePages<W>>,
-) -> (Result<Summary, DemoEnd>, W)
+) -> (Result<Summary, End>, W)
     requires sound { AreSound (shown.pages store) }
     requires rounds { rounds ≤ 4096 }
     ensures answered { let pages = shown.pages store in Answered (workload seed rounds) (count pages) (W.view (disk pages)) (W.view result.1) result.0 }
-    ensures faults { CountsFault (fault_in demo_fault result.0) (W.view (disk (shown.pages store))) (W.view result.1) }
+    ensures faults { CountsFault (fault_in end_fault result.0) (W.view (disk (shown.pages store))) (W.view result.1) }
 {
     match Service::new(alloc, store) {
         Ok(service) => answer_all(alloc, seed, rounds, service),
-        Err(Back { value, cause: _ }) => (Err(DemoEnd::NoMemory), disk_of(value)),
+        Err(Back { value, cause: _ }) => (Err(End::NoMemory), disk_of(value)),
     }
 }
 
@@ -73,28 +71,13 @@ fn answer_all<W: World>(
     seed: u64,
     rounds: u16,
     mut service: Service<GatePages<W>>,
-) -> (Result<Summary, DemoEnd>, W)
+) -> (Result<Summary, End>, W)
     requires sound { AreSound (service_shown.pages service) }
     requires alone { service_shown.sessions service ≡ [] }
     requires rounds { rounds ≤ 4096 }
     ensures answered { let pages = service_shown.pages service in Answered (workload seed rounds) (count pages) (W.view (disk pages)) (W.view result.1) result.0 }
-    ensures faults { CountsFault (fault_in demo_fault result.0) (W.view (disk (service_shown.pages service))) (W.view result.1) }
+    ensures faults { CountsFault (fault_in end_fault result.0) (W.view (disk (service_shown.pages service))) (W.view result.1) }
 {
-    frames_have_one_answer();
     let answer = run_workload(alloc, &mut service, seed, u32::from(rounds));
     (answer, disk_of(service.into_store()))
-}
-
-/// The end where a workload wasn't answered to its end.
-fn demo_end(end: DemoEnd) -> End
-    requires { HasNumberedKey end }
-    ensures { result ≡ demo_end end }
-{
-    match end {
-        DemoEnd::DiskFault => End::DiskFault,
-        DemoEnd::Damaged { page } => End::DamagedPage { page },
-        DemoEnd::Missing { key } => End::Missing { key: key.number() },
-        DemoEnd::BadCoefficient { key } => End::BadCoefficient { key: key.number() },
-        DemoEnd::NoMemory => End::NoMemory,
-    }
 }

@@ -10,9 +10,11 @@ use Rattle.chart_program.specs.Course.{course}
 use Rattle.chart_program.specs.Ran.{CommandEnds}
 use Rattle.chart_program.proofs.DerivePage.{of_derive}
 use Rattle.chart_program.proofs.LivePage.{of_live}
+use Rattle.chart_program.proofs.LoadPage.{of_load}
 use Rattle.chart_program.proofs.RetainPage.{of_retain}
 use Rattle.chart_program.proofs.StorePages.{of_check, of_demo, of_export, of_init, of_list}
-use Rattle.chart_program.proofs.CommandsEnd.{load_ends, run_ends, serve_ends}
+use Rattle.chart_program.proofs.CommandsEnd.{run_ends, serve_ends}
+use Rattle.chart_program.proofs.LoadEnds.{load_ends}
 use Rattle.chart_program.proofs.InitEnds.{init_ends}
 use Rattle.chart_program.proofs.StoreShown.{check_ends, demo_ends, export_ends, list_ends}
 use Rattle.chart_program.proofs.RetainEnds.{retain_ends}
@@ -42,12 +44,18 @@ returns-in-Load-clause-ends g c =
     let reads = g.W.Streams.read_faults in
     let sends = g.W.Streams.send_faults in
     let old = c.args.world in
-    let new = c.load_series.result.1 in
-    let status = c.load_series.result.0 in
-    let e = c.load_series.ensures in
+    let new = c.load_series-end.result.1 in
+    let end = c.load_series-end.result.0 in
+    let e = c.load_series-end.ensures in
     let faults = faults_of (reads old) (reads new) (sends old) (sends new) in
-    let P : Command → Type 0 = λ command. CommandEnds command (view old) (view new) (left old) (left new) (sent old) (sent new) faults status.code status.place in
-    subst P (sym c.in-Load.is) (load_ends c.in-Load.name (view old) (view new) (left old) (left new) (sent old) (sent new) faults status.code status.place e.ends e.away e.holds)
+    let P : Command → Type 0 = λ command. CommandEnds command (view old) (view new) (left old) (left new) (sent old) (sent new) faults (code_of end) (place_of end) in
+    let S : Status → Type 0 = λ s. CommandEnds c.args.command (view old) (view new) (left old) (left new) (sent old) (sent new) faults s.code s.place in
+    subst S (sym c.status_of.ensures.status)
+    (subst P (sym c.in-Load.is) (load_ends c.in-Load.name (view old) (view new) (left old) (left new) (sent old) (sent new) faults end e.ends e.away e.holds))
+
+pub returns-in-Load-clause-faults : goal.returns-in-Load-clause-faults
+returns-in-Load-clause-faults g c =
+    counts_end c.load_series-end.result.0 c.status_of.result (g.W.Disk.view c.args.world) (g.W.Disk.view c.load_series-end.result.1) c.status_of.ensures.status c.load_series-end.ensures.faults
 
 pub returns-in-Demo-clause-ends : goal.returns-in-Demo-clause-ends
 returns-in-Demo-clause-ends g c =
@@ -63,12 +71,12 @@ returns-in-Demo-clause-ends g c =
     let faults = faults_of (reads old) (reads new) (sends old) (sends new) in
     let P : Command → Type 0 = λ command. CommandEnds command (view old) (view new) (left old) (left new) (sent old) (sent new) faults (code_of end) (place_of end) in
     let S : Status → Type 0 = λ s. CommandEnds c.args.command (view old) (view new) (left old) (left new) (sent old) (sent new) faults s.code s.place in
-    subst S (sym c.status_of.ensures.status)
+    subst S (sym c.status_of-in-Demo.ensures.status)
     (subst P (sym c.in-Demo.is) (demo_ends (view old) (view new) (left old) (left new) (sent old) (sent new) faults c.in-Demo.seed c.in-Demo.count end e.ends e.away e.untaken e.holds))
 
 pub returns-in-Demo-clause-faults : goal.returns-in-Demo-clause-faults
 returns-in-Demo-clause-faults g c =
-    counts_end c.run_demo-end.result.0 c.status_of.result (g.W.Disk.view c.args.world) (g.W.Disk.view c.run_demo-end.result.1) c.status_of.ensures.status c.run_demo-end.ensures.faults
+    counts_end c.run_demo-end.result.0 c.status_of-in-Demo.result (g.W.Disk.view c.args.world) (g.W.Disk.view c.run_demo-end.result.1) c.status_of-in-Demo.ensures.status c.run_demo-end.ensures.faults
 
 pub returns-in-Run-clause-ends : goal.returns-in-Run-clause-ends
 returns-in-Run-clause-ends g c =
@@ -298,10 +306,10 @@ returns-in-Cover-clause-does g c =
 pub returns-in-Demo-clause-does : goal.returns-in-Demo-clause-does
 returns-in-Demo-clause-does g c =
     let at = course g.W.Disk.view g.W.Streams.left g.W.Streams.sent c.args.world c.run_demo-end.result.1 in
-    let P : Command → Type 0 = λ command. Does command at c.status_of.result in
+    let P : Command → Type 0 = λ command. Does command at c.status_of-in-Demo.result in
     let end = c.run_demo-end.result.0 in
     let e = c.run_demo-end.ensures in
-    subst P (sym c.in-Demo.is) (end, c.status_of.ensures.status, of_demo at (g.W.Streams.send_faults c.args.world) (g.W.Streams.send_faults c.run_demo-end.result.1) c.in-Demo.seed c.in-Demo.count end e.ends e.away e.untaken)
+    subst P (sym c.in-Demo.is) (end, c.status_of-in-Demo.ensures.status, of_demo at (g.W.Streams.send_faults c.args.world) (g.W.Streams.send_faults c.run_demo-end.result.1) c.in-Demo.seed c.in-Demo.count end e.ends e.away e.untaken)
 
 pub returns-in-Check-clause-does : goal.returns-in-Check-clause-does
 returns-in-Check-clause-does g c =
@@ -337,9 +345,15 @@ returns-in-Init-clause-does g c =
 
 pub returns-in-Load-clause-does : goal.returns-in-Load-clause-does
 returns-in-Load-clause-does g c =
-    let at = course g.W.Disk.view g.W.Streams.left g.W.Streams.sent c.args.world c.load_series.result.1 in
-    let P : Command → Type 0 = λ command. Does command at c.load_series.result.0 in
-    subst P (sym c.in-Load.is) tt
+    let view = g.W.Disk.view in
+    let s = g.W.Streams in
+    let old = c.args.world in
+    let new = c.load_series-end.result.1 in
+    let P : Command → Type 0 = λ command. Does command (course view s.left s.sent old new) c.status_of.result in
+    let end = c.load_series-end.result.0 in
+    let e = c.load_series-end.ensures in
+    let did = of_load c.in-Load.name (view old) (view new) (traffic s.left s.sent s.read_faults s.send_faults old new) end e.ends e.away in
+    subst P (sym c.in-Load.is) (end, c.status_of.ensures.status, did)
 
 pub returns-in-Run-clause-does : goal.returns-in-Run-clause-does
 returns-in-Run-clause-does g c =

@@ -13,7 +13,7 @@ use Rattle.chart_program.proofs.Parsing.{told_good, replies_good, covers_book}
 use Rattle.chart_program.proofs.Codes.{told_both}
 use Rattle.chart_program.proofs.Words.{of_command, with_operands, chart_codes, streams, one_init, one_draw, completes, covers_complete, good_never, wrong_never, wrong_end}
 use Rattle.chart_program.proofs.OneCommand.{by_words}
-use Rattle.program_words.specs.declared.words.Command.TheVariants.{Check, Cover, Demo, Derive, Draw, Export, Init, ListSeries, Live, Plot, Retain}
+use Rattle.program_words.specs.declared.words.Command.TheVariants.{Check, Cover, Demo, Derive, Draw, Export, Init, ListSeries, Live, Load, Plot, Retain}
 use Rattle.chart_program.proofs.top.chart.Goals as goal
 
 pub returns-in-Err-NoMemory-clause-codes : goal.returns-in-Err-NoMemory-clause-codes
@@ -578,6 +578,15 @@ returns-in-Err-Wrong-clause-plot g c = λ w h own. absurd (wrong_never c.in-Err-
 
 pub returns-in-Err-NoMemory-clause-plot : goal.returns-in-Err-NoMemory-clause-plot
 returns-in-Err-NoMemory-clause-plot g c = λ w h own. inl (c.status_of-in-Err-NoMemory.ensures.code, refl)
+
+pub returns-in-Ok-clause-load : goal.returns-in-Ok-clause-load
+returns-in-Ok-clause-load g c = λ name own. inr (by_words c.in-Ok.command (Load name) _ _ _ c.in-Ok.ensures.command own.1 c.status_of_command.ensures.does)
+
+pub returns-in-Err-Wrong-clause-load : goal.returns-in-Err-Wrong-clause-load
+returns-in-Err-Wrong-clause-load g c = λ name own. absurd (wrong_never c.in-Err-Wrong.place _ (Load name) own.0 own.1 (wrong_end c.in-Err-Wrong.field-0 c.in-Err-Wrong.place _ c.in-Err-Wrong.field-0-is c.in-Err-Wrong.ensures.wrong))
+
+pub returns-in-Err-NoMemory-clause-load : goal.returns-in-Err-NoMemory-clause-load
+returns-in-Err-NoMemory-clause-load g c = λ name own. inl (c.status_of-in-Err-NoMemory.ensures.code, refl)
 
 pub returns-in-Ok-clause-demo : goal.returns-in-Ok-clause-demo
 returns-in-Ok-clause-demo g c = λ seed rounds own. inr (by_words c.in-Ok.command (Demo seed rounds) _ _ _ c.in-Ok.ensures.command own.1 c.status_of_command.ensures.does)

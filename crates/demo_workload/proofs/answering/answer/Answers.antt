@@ -1,6 +1,6 @@
 use Rattle.std.proofs.Common.{sym, subst}
 use Rattle.chart_service.specs.Shown as shown
-use Rattle.demo_workload.specs.declared.demo_end.DemoEnd.{DemoEnd}
+use Rattle.run_ends.specs.declared.ending.End.{End}
 use Rattle.demo_workload.specs.Ending.{IsOutside}
 use Rattle.demo_workload.proofs.Faulting.{step_counts, draw_counts}
 use Rattle.demo_workload.proofs.Knowing.{Changes, knows_on}
@@ -9,7 +9,7 @@ use Rattle.demo_workload.proofs.answering.answer.Goals as goal
 
 pub returns-in-Err-clause-standing : goal.returns-in-Err-clause-standing
 returns-in-Err-clause-standing g c = λ total book told stands sound mirrors.
-    let P : DemoEnd → Type 0 = λ end. IsOutside end in
+    let P : End → Type 0 = λ end. IsOutside end in
     subst P (sym c.end_of_step.ensures) (outside_step c.in-Err.error (c.in-Err.ensures.standing total book told stands))
 
 pub returns-in_default-clause-left : goal.returns-in_default-clause-left

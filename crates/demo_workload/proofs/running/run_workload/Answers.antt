@@ -5,8 +5,8 @@ use Rattle.gate_pages.specs.Pages.{Quiet}
 use Rattle.gate_pages.specs.GateLaws.{goes_none, goes_then}
 use Rattle.chart_service.specs.Stepping.{state_of}
 use Rattle.chart_service.specs.Shown as shown
-use Rattle.demo_workload.specs.declared.demo_end.DemoEnd.TheVariants.{DiskFault}
-use Rattle.demo_workload.specs.Ending.{demo_fault}
+use Rattle.run_ends.specs.declared.ending.End.TheVariants.{DiskFault}
+use Rattle.run_ends.specs.Faults.{end_fault}
 use Rattle.demo_workload.specs.Workload.{workload}
 use Rattle.demo_workload.specs.Replying.{IsPartWay}
 use Rattle.demo_workload.proofs.Rounds.{few_requests}
@@ -108,4 +108,4 @@ returns-in-Err-clause-cause g c =
 
 pub returns-in-Err-clause-faults : goal.returns-in-Err-clause-faults
 returns-in-Err-clause-faults g c =
-    counts_then (demo_fault c.in-Err.end) (shown.view c.args.service.now) (shown.view c.requests.service) (shown.view c.answer-answered.new.service) c.requests.invariant.faults c.in-Err.ensures.faults
+    counts_then (end_fault c.in-Err.end) (shown.view c.args.service.now) (shown.view c.requests.service) (shown.view c.answer-answered.new.service) c.requests.invariant.faults c.in-Err.ensures.faults

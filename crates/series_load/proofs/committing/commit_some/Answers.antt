@@ -1,7 +1,7 @@
 use Rattle.std.proofs.Common.{Err, subst, sym}
-use Rattle.series_load.specs.Faults.{load_fault}
+use Rattle.run_ends.specs.Faults.{end_fault}
 use Rattle.series_load.specs.Steps.{IsSetCause}
-use Rattle.series_load.specs.declared.load_end.LoadEnd.{LoadEnd}
+use Rattle.run_ends.specs.declared.ending.End.{End}
 use Rattle.chart_world.specs.Faults.{CountsFault}
 use Rattle.series_load.proofs.Counting.{set_counts}
 use Rattle.series_load.proofs.GroupLemmas.{counted, counted_cause, counted_faults, counted_most, counted_some, counted_sound, counts_as, edit_cause, err_as, group_failed}
@@ -38,7 +38,7 @@ pub returns-in-Err-clause-cause : goal.returns-in-Err-clause-cause
 returns-in-Err-clause-cause g c =
     let store = c.args.store.now in
     let new = c.edit_until_refused.new.self in
-    let P : LoadEnd → Type 0 = λ e. IsSetCause e (shown.IsTold new) (shown.total store) (shown.view store) (shown.view new) in
+    let P : End → Type 0 = λ e. IsSetCause e (shown.IsTold new) (shown.total store) (shown.view store) (shown.view new) in
     subst P (sym c.end_at.ensures) (cause_of _ c.in-Err.error (shown.IsTold store) (shown.IsTold new) (shown.numbers store) (shown.view store) (shown.view new) c.edit_until_refused.ensures.moves.was_told c.edit_until_refused.ensures.moves.size
     (λ t. record { spelled = store.space.spelled c.requires.sound t; rules = store.space.rules }) c.in-Err.ensures.unchanged (edit_cause c.in-Err.error (shown.IsTold store) (shown.numbers store) (shown.view store) (shown.view new) c.in-Err.ensures.cause))
 
@@ -46,6 +46,6 @@ pub returns-in-Err-clause-faults : goal.returns-in-Err-clause-faults
 returns-in-Err-clause-faults g c =
     let store = c.args.store.now in
     let new = c.edit_until_refused.new.self in
-    let P : LoadEnd → Type 0 = λ e. CountsFault (load_fault e) (shown.view store) (shown.view new) in
+    let P : End → Type 0 = λ e. CountsFault (end_fault e) (shown.view store) (shown.view new) in
     subst P (sym c.end_at.ensures) (set_counts _ c.in-Err.error (shown.IsTold store) (shown.numbers store) (shown.view store) (shown.view new) c.edit_until_refused.ensures.moves.beside c.in-Err.ensures.quiet_err
     (edit_cause c.in-Err.error (shown.IsTold store) (shown.numbers store) (shown.view store) (shown.view new) c.in-Err.ensures.cause))

@@ -1,7 +1,7 @@
 use Rattle.std.proofs.Common.{refl, subst, sym, arith}
 use Rattle.block_disk.specs.View.{sent_now}
 use Rattle.series_load.specs.Ends.{Stopped}
-use Rattle.series_load.specs.declared.load_end.LoadEnd.{LoadEnd}
+use Rattle.run_ends.specs.declared.ending.End.{End}
 use Rattle.series_store.specs.Shown as shown
 use Rattle.series_load.proofs.Reached.{finished_so, start, start_stands, stopped_so}
 use Rattle.series_load.proofs.SetLemmas.{edits_none}
@@ -36,9 +36,9 @@ returns-in-Err-clause-outcome g c = λ total book series told stands step scale.
     let begin = start total loader.name book series at.clock (sent_now at) in
     let is = start_stands (shown.IsTold old) total book series loader at told stands c.requires.none c.requires.sets c.requires.ats c.requires.first c.requires.points
     step scale in
-    let E : LoadEnd → Type 0 = λ e. Stopped total loader.name book series (left (shown.pages old)) (left (shown.pages new)) e at
+    let E : End → Type 0 = λ e. Stopped total loader.name book series (left (shown.pages old)) (left (shown.pages new)) e at
     (shown.view new) in
-    subst E (sym c.end_of_stop.ensures)
+    subst E (sym c.stop_end.ensures)
     (stopped_so total loader.name book series at.clock (sent_now at) (shown.IsTold new) c.run_lines.new.work
     (left (shown.pages old)) (left (shown.pages new)) (sent (shown.pages old)) (sent (shown.pages new)) (g.P.Streams.pieces (shown.pages old))
     (g.P.Streams.pieces (shown.pages new)) at (shown.view new)

@@ -3,8 +3,8 @@ use Rattle.std.specs.Prelude.{IsTrue}
 use Rattle.chart_world.specs.Faults.{CountsFault, fault_in}
 use Rattle.gate_pages.specs.GatePages.{IsClosed}
 use Rattle.chart_service.specs.Shown as shown
-use Rattle.demo_workload.specs.declared.demo_end.DemoEnd.TheVariants.{DiskFault}
-use Rattle.demo_workload.specs.Ending.{demo_fault}
+use Rattle.run_ends.specs.declared.ending.End.TheVariants.{DiskFault}
+use Rattle.run_ends.specs.Faults.{end_fault}
 use Rattle.demo_workload.specs.Workload.{workload}
 use Rattle.store_commands.proofs.Stores.{store_disk, store_sound}
 use Rattle.store_commands.specs.Answering.{Answered}
@@ -31,7 +31,7 @@ returns-clause-answered g c =
     let R : ℕ → Type 0 = λ n. Answered (workload c.args.seed n) pages.count (view disk) (view new) answer in
     let D : g.row.W.Denot → Type 0 = λ d. Answered (workload c.args.seed c.args.rounds) pages.count (view disk) (view d) answer in
     subst D (sym same_disk) (subst R c.from.ensures (answered_by (workload c.args.seed c.from.result) pages.count end_pages.count pages.sound end_pages.sound (view disk) (view new) after.sessions
-    made.runs.size made.runs.told made.runs.faults made.runs.beside made.goes_on (rests_new pages.count (view disk) (shown.numbers c.args.service) (pages.at_rest c.requires.sound) (c.args.service.store.space.spelled c.requires.sound)) c.frames_have_one_answer.ensures.numbered answer
+    made.runs.size made.runs.told made.runs.faults made.runs.beside made.goes_on (rests_new pages.count (view disk) (shown.numbers c.args.service) (pages.at_rest c.requires.sound) (c.args.service.store.space.spelled c.requires.sound)) answer
     made.done made.standing made.moments made.left made.cause closed))
 
 pub returns-clause-faults : goal.returns-clause-faults
@@ -40,5 +40,5 @@ returns-clause-faults g c =
     let after = c.run_workload-answer.new.service in
     let answer = c.run_workload-answer.result in
     let same_disk = c.disk_of.ensures.disk ∙ store_disk c.into_store.result after.store c.into_store.ensures in
-    let D : g.row.W.Denot → Type 0 = λ d. CountsFault (fault_in demo_fault answer) (view (shown.pages c.args.service).disk) (view d) in
+    let D : g.row.W.Denot → Type 0 = λ d. CountsFault (fault_in end_fault answer) (view (shown.pages c.args.service).disk) (view d) in
     subst D (sym same_disk) c.run_workload-answer.ensures.faults

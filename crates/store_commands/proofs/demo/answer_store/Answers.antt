@@ -2,7 +2,7 @@ use Rattle.std.proofs.Common.{None, Err, refl, sym, subst, ◌∙◌}
 use Rattle.chart_world.specs.Faults.{CountsFault}
 use Rattle.chart_world.specs.FaultLaws.{counts_none}
 use Rattle.series_store.specs.Shown as shown
-use Rattle.demo_workload.specs.declared.demo_end.DemoEnd.TheVariants.{NoMemory}
+use Rattle.run_ends.specs.declared.ending.End.TheVariants.{NoMemory}
 use Rattle.demo_workload.specs.Workload.{workload}
 use Rattle.store_commands.proofs.Stores.{store_disk}
 use Rattle.store_commands.specs.Answering.{Answered}

@@ -2,13 +2,11 @@ use Rattle.std.proofs.Common.{◌≡◌, None, Result, Ok, Err, sym, subst, ap, 
 use Rattle.block_disk.specs.View.{Beside}
 use Rattle.chart_world.specs.Faults.{CountsFault, fault_in}
 use Rattle.chart_world.specs.FaultLaws.{counts_no_disk, counts_then}
-use Rattle.demo_workload.specs.Ending.{demo_fault}
 use Rattle.series_store.specs.Shown as shown
 use Rattle.run_ends.specs.Statuses.{status_of}
 use Rattle.run_ends.specs.Faults.{end_fault}
 use Rattle.run_ends.specs.declared.ending.End.{End}
-use Rattle.store_commands.specs.Faulting.{counts_told, counts_unopened_end}
-use Rattle.store_commands.proofs.FaultLemmas.{demo_fault_is}
+use Rattle.store_commands.specs.Faulting.{counts_unopened_end}
 use Rattle.demo_workload.specs.Summaries.{summary_line}
 use Rattle.demo_workload.specs.Workload.{workload}
 use Rattle.store_commands.proofs.DemoRequests.{answered_opened}
@@ -17,10 +15,8 @@ use Rattle.store_commands.proofs.DemoEnds.{undemonstrated, stopped_ends}
 use Rattle.std.specs.Prelude.{◌≤◌}
 use Rattle.block_disk.specs.View.{sent_now}
 use Rattle.gate_pages.specs.Journal.{page_count}
-use Rattle.demo_workload.specs.declared.demo_end.DemoEnd.{DemoEnd}
 use Rattle.demo_workload.specs.declared.summaries.Summary.{Summary}
-use Rattle.demo_workload.specs.declared.demo_end.DemoEnd.TheVariants as why
-use Rattle.store_commands.specs.Answering.{demo_end}
+use Rattle.run_ends.specs.declared.ending.End.TheVariants.{DiskFault}
 use Rattle.store_commands.proofs.HoldsAgain.{again_opened, again_sent, again_answered}
 use Rattle.store_commands.proofs.TurnedAway.{away_never}
 use Rattle.store_commands.proofs.WorldLemmas.{away_over, unopened_over}
@@ -54,7 +50,7 @@ returns-in-Err-answer-clause-ends g c =
     let end = c.in-Err-answer.end in
     let w = g.met.W.World in
     let a = answered_opened (workload c.args.seed c.args.rounds) opened.count (view old) (view opened.disk) (view new) c.answer_store-answer.result.0 (Err end) c.in-Ok.ensures.count c.in-Err-answer.is c.in-Ok.ensures.opens c.in-Ok.ensures.quiet c.answer_store-answer.ensures.answered in
-    stopped_ends c.args.seed c.args.rounds (view old) (view new) (sent old) (sent new) (sends old) (sends new) end c.demo_end.result c.demo_end.ensures a
+    stopped_ends c.args.seed c.args.rounds (view old) (view new) (sent old) (sent new) (sends old) (sends new) end a
     (sym (w.beside_sent new) ∙ ap (λ (b : Beside). b.sent) a.beside ∙ w.beside_sent old)
 
 pub returns-in-Err-clause-ends : goal.returns-in-Err-clause-ends
@@ -123,7 +119,7 @@ returns-in-Err-answer-clause-holds g c = λ other.
     let a = answered_opened requests opened.count (view old) (view opened.disk) (view mid) c.answer_store-answer.result.0 (Err c.in-Err-answer.end) c.in-Ok.ensures.count c.in-Err-answer.is c.in-Ok.ensures.opens c.in-Ok.ensures.quiet c.answer_store-answer.ensures.answered in
     let end = c.in-Err-answer.end in
     again_answered requests (page_count (view old).size) (view old) (view mid) (Err end)
-    (λ is. let same : end ≡ why.DiskFault = cc in other (c.demo_end.ensures ∙ ap (λ (e : DemoEnd). demo_end e) same)) a
+    (λ is. let same : end ≡ DiskFault = cc in other same) a
 
 pub returns-in-Err-clause-holds : goal.returns-in-Err-clause-holds
 returns-in-Err-clause-holds g c = λ other. again_opened (g.W.Disk.view c.args.world) (g.W.Disk.view c.in-Err.field-0.value) c.in-Err.ensures.opens
@@ -136,7 +132,7 @@ returns-in-Ok-answer-clause-faults g c =
     let mid = view c.answer_store-answer.result.1 in
     let new = view c.send_text.result.1 in
     let e = c.in-Ok.ensures in
-    let P : Result Summary DemoEnd → Type 0 = λ r. CountsFault (fault_in demo_fault r) start mid in
+    let P : Result Summary End → Type 0 = λ r. CountsFault (fault_in end_fault r) start mid in
     let answered = counts_then None old start mid (counts_no_disk old start e.opens.beside_is e.quiet) (subst P c.in-Ok-answer.is c.answer_store-answer.ensures.faults) in
     counts_then (end_fault c.send_text.result.0) old mid new answered c.send_text.ensures.faults
 
@@ -148,10 +144,8 @@ returns-in-Err-answer-clause-faults g c =
     let new = view c.answer_store-answer.result.1 in
     let end = c.in-Err-answer.end in
     let e = c.in-Ok.ensures in
-    let P : Result Summary DemoEnd → Type 0 = λ r. CountsFault (fault_in demo_fault r) start new in
-    let answered = counts_then (demo_fault end) old start new (counts_no_disk old start e.opens.beside_is e.quiet) (subst P c.in-Err-answer.is c.answer_store-answer.ensures.faults) in
-    let E : End → Type 0 = λ x. CountsFault (end_fault x) old new in
-    subst E (sym c.demo_end.ensures) (counts_told (demo_fault end) (end_fault (demo_end end)) old new (demo_fault_is end) answered)
+    let P : Result Summary End → Type 0 = λ r. CountsFault (fault_in end_fault r) start new in
+    counts_then (end_fault end) old start new (counts_no_disk old start e.opens.beside_is e.quiet) (subst P c.in-Err-answer.is c.answer_store-answer.ensures.faults)
 
 pub returns-in-Err-clause-faults : goal.returns-in-Err-clause-faults
 returns-in-Err-clause-faults g c =

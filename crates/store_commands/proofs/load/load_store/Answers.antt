@@ -1,10 +1,11 @@
 use Rattle.std.proofs.Common.{◌≢◌, Err, sym, ap, subst, arith}
 use Rattle.chart_world.specs.Faults.{CountsFault, fault_in}
 use Rattle.gate_pages.specs.GatePages.{IsClosed, pages_view}
-use Rattle.series_load.specs.declared.load_end.LoadEnd.TheVariants.{DiskFault}
-use Rattle.series_load.specs.Faults.{load_fault}
+use Rattle.run_ends.specs.Faults.{end_fault}
+use Rattle.run_ends.specs.declared.ending.End.TheVariants.{DiskFault}
 use Rattle.series_store.specs.Shown as shown
 use Rattle.store_commands.specs.Storing.{Stores}
+use Rattle.store_commands.specs.Traffic.{traffic}
 use Rattle.store_commands.proofs.Held.{rests_new}
 use Rattle.store_commands.proofs.Stores.{store_disk}
 use Rattle.store_commands.proofs.LoadStored.{stores_by, sound_after}
@@ -30,14 +31,15 @@ returns-clause-stores g c =
     λ other.
     let P : g.row.W.Denot → Type 0 = λ d. IsClosed (view d) in
     subst P c.disk_of.ensures.disk (c.disk_of.ensures.rests (sound_after answer (pages_view end_pages.count end_pages.sound (view new)) made.sound made.sound_for other)) in
-    let all = stores_by name pages.count end_pages.count pages.sound end_pages.sound (view disk) (view new) (left disk) (left new) made.goes.size made.goes.is_told made.goes.goes_on (rests_new pages.count (view disk) (shown.numbers before) (pages.at_rest c.requires) (before.space.spelled c.requires)) answer (sent disk) (sent new) (shown.total before) (reads disk) (reads new) (sends disk) (sends new)
-    made.outcome made.unknown made.within (omega (arith, before.space.rules.total_high, made.goes.size)) made.cause closed (λ is. let same = store_disk after before (made.untouched is) in (ap view same, ap left same)) made.goes.sent_is made.goes.sends made.goes.reads made.goes.faults in
-    let D : g.row.W.Denot → Type 0 = λ d. Stores name pages.count (view disk) (view d) (left disk) (left d) (sent disk) (sent d) (reads disk) (reads d) (sends disk) (sends d) answer in
+    let all = stores_by name pages.count end_pages.count pages.sound end_pages.sound (view disk) (view new) (traffic left sent reads sends disk new) made.goes.size made.goes.is_told made.goes.goes_on
+    (rests_new pages.count (view disk) (shown.numbers before) (pages.at_rest c.requires) (before.space.spelled c.requires)) answer (shown.total before)
+    made.outcome made.unknown made.within (omega (arith, before.space.rules.total_high, made.goes.size)) made.cause closed (λ is. let same = store_disk after before (made.untouched is) in (ap view same, ap left same)) made.goes.sent_is made.goes.sends made.goes.faults in
+    let D : g.row.W.Denot → Type 0 = λ d. Stores name pages.count (view disk) (view d) (traffic left sent reads sends disk d) answer in
     subst D (sym c.disk_of.ensures.disk) all
 
 pub returns-clause-faults : goal.returns-clause-faults
 returns-clause-faults g c =
     let view = g.W.Disk.view in
     let answer = c.load-answer.result in
-    let D : g.row.W.Denot → Type 0 = λ d. CountsFault (fault_in load_fault answer) (view (shown.pages c.args.store).disk) (view d) in
+    let D : g.row.W.Denot → Type 0 = λ d. CountsFault (fault_in end_fault answer) (view (shown.pages c.args.store).disk) (view d) in
     subst D (sym c.disk_of.ensures.disk) c.load-answer.ensures.faults

@@ -6,7 +6,7 @@ use Rattle.series_load.proofs.loader.Loader.stop.Goals as goal
 
 pub returns-in-Ok-clause-does : goal.returns-in-Ok-clause-does
 returns-in-Ok-clause-does g c = λ total book waiting old told stands keeps.
-    stopped c.args.at total c.args.self.now.name book (waiting ++ closed old) c.in-Ok.field-0 (shown.view c.args.store.now) (shown.view c.end.new.store)
+    stopped c.args.at c.from.result total c.args.self.now.name book (waiting ++ closed old) c.in-Ok.field-0 (shown.view c.args.store.now) (shown.view c.end.new.store) c.from.ensures
     (c.in-Ok.ensures.does total book waiting old told stands keeps)
 
 pub returns-in-Err-clause-does : goal.returns-in-Err-clause-does

@@ -2,7 +2,7 @@ use Rattle.std.proofs.Common.{◌∙◌, ap, sym}
 use Rattle.block_disk.specs.View.{Beside}
 use Rattle.series_store.specs.Shown as shown
 use Rattle.series_load.proofs.WorkLemmas.{line_done, line_leaves, line_stops}
-use Rattle.series_load.proofs.load_work.LoaderLineWorkStoreLoadEnd.line.Goals as goal
+use Rattle.series_load.proofs.load_work.LoaderLineWorkStoreEnd.line.Goals as goal
 
 pub returns-clause-does : goal.returns-clause-does
 returns-clause-does g c = λ held stands.

@@ -1,10 +1,10 @@
-use Rattle.std.proofs.Common.{◌∙◌, refl, ap, sym}
+use Rattle.std.proofs.Common.{◌∙◌, ◌++◌, None, refl, ap, sym}
 use Rattle.block_disk.specs.View.{Beside}
-use Rattle.line_runs.specs.Given.{Pause}
-use Rattle.series_load.specs.Steps.{NoBad}
+use Rattle.line_runs.specs.Given.{End}
+use Rattle.series_load.specs.Steps.{NoBad, closed}
 use Rattle.series_store.specs.Shown as shown
-use Rattle.series_load.proofs.WorkLemmas.{pause_done, keeps_named, runs_leave, runs_stops}
-use Rattle.series_load.proofs.load_work.LoaderLineWorkStoreLoadEnd.pause.Goals as goal
+use Rattle.series_load.proofs.WorkLemmas.{end_done, keeps_named, runs_leave, runs_stops}
+use Rattle.series_load.proofs.load_work.LoaderLineWorkStoreEnd.finish.Goals as goal
 
 pub returns-clause-does : goal.returns-clause-does
 returns-clause-does g c = λ held stands.
@@ -12,15 +12,15 @@ returns-clause-does g c = λ held stands.
     let w = g.met.P.PageWorld in
     let loader = c.args.self.now in
     let old = c.args.from.now in
-    let new = c.commit.new.store in
-    let loader' = c.commit.new.self in
-    let e = c.commit.ensures in
-    pause_done (shown.IsTold old) (shown.IsTold new) held loader loader' (shown.view old) (shown.view new) stands
+    let new = c.end.new.store in
+    let loader' = c.end.new.self in
+    let e = c.end.ensures in
+    end_done (shown.IsTold old) (shown.IsTold new) held loader loader' (shown.view old) (shown.view new) stands
     (e.carries.is_told stands.is_told) NoBad
-    (sent (shown.pages old)) (sent (shown.pages new)) c.commit.result (record { name_is = e.name; scale_is = e.scale; step_is = e.step })
+    (sent (shown.pages old)) (sent (shown.pages new)) c.end.result (record { name_is = e.name; scale_is = e.scale; step_is = e.step })
     e.first e.points (sym (w.beside_sent (shown.pages new)) ∙ ap (λ (b : Beside). b.sent) e.carries.beside ∙ w.beside_sent (shown.pages old))
     (e.does held.total held.book held.waiting held.open_run stands.is_told stands.stands stands.keeps)
-    (keeps_named loader.name loader'.name c.commit.result held.open_run loader'.kept loader'.run e.name (e.keeps held.waiting held.open_run stands.keeps))
+    (keeps_named loader.name loader'.name c.end.result None loader'.kept loader'.run e.name (e.keeps held.waiting held.open_run stands.keeps))
 
 pub returns-clause-stops : goal.returns-clause-stops
 returns-clause-stops g c = λ held stands.
@@ -28,11 +28,11 @@ returns-clause-stops g c = λ held stands.
     let w = g.met.P.PageWorld in
     let loader = c.args.self.now in
     let old = c.args.from.now in
-    let new = c.commit.new.store in
-    let loader' = c.commit.new.self in
-    let e = c.commit.ensures in
+    let new = c.end.new.store in
+    let loader' = c.end.new.self in
+    let e = c.end.ensures in
     runs_stops (shown.IsTold old) (shown.IsTold new) held loader loader' (shown.view old) (shown.view new) stands
-    (e.carries.is_told stands.is_told) Pause held.waiting c.commit.result refl
+    (e.carries.is_told stands.is_told) End (held.waiting ++ closed held.open_run) c.end.result refl
     (e.does held.total held.book held.waiting held.open_run stands.is_told stands.stands stands.keeps)
 
 pub returns-clause-leaves : goal.returns-clause-leaves
@@ -41,9 +41,9 @@ returns-clause-leaves g c = λ held stands lasting.
     let w = g.met.P.PageWorld in
     let loader = c.args.self.now in
     let old = c.args.from.now in
-    let new = c.commit.new.store in
-    let loader' = c.commit.new.self in
-    let e = c.commit.ensures in
+    let new = c.end.new.store in
+    let loader' = c.end.new.self in
+    let e = c.end.ensures in
     runs_leave (shown.IsTold old) (shown.IsTold new) held loader loader' (shown.view old) (shown.view new) stands
-    (e.carries.is_told stands.is_told) Pause NoBad held.waiting c.commit.result refl
+    (e.carries.is_told stands.is_told) End NoBad (held.waiting ++ closed held.open_run) c.end.result refl
     (e.does held.total held.book held.waiting held.open_run stands.is_told stands.stands stands.keeps)

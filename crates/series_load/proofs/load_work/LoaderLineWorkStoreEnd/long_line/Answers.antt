@@ -4,7 +4,7 @@ use Rattle.series_load.specs.Loading.{BadBy, seen}
 use Rattle.series_load.specs.Steps.{closed}
 use Rattle.series_store.specs.Shown as shown
 use Rattle.series_load.proofs.WorkLemmas.{runs_leave, runs_stops}
-use Rattle.series_load.proofs.load_work.LoaderLineWorkStoreLoadEnd.long_line.Goals as goal
+use Rattle.series_load.proofs.load_work.LoaderLineWorkStoreEnd.long_line.Goals as goal
 
 pub returns-clause-stops : goal.returns-clause-stops
 returns-clause-stops g c = λ held stands.
