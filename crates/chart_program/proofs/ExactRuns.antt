@@ -2,12 +2,13 @@
 use Rattle.std.proofs.Common.{◌≡◌, ◌≢◌, ℕ, zero, suc, ◌<◌, ◌≤◌, ◌^◌, inl, inr, List, [], ◌++◌, take}
 use Rattle.std.proofs.Common.{drop, Option, None, Some, IfSome, refl, sym, subst, ap, ◌∙◌, arith}
 use Rattle.std.specs.Prelude.{Contains}
-use Rattle.std.proofs.lemmas.List.{append_cancel_left, append-nil, take-append-drop}
+use Rattle.std.proofs.lemmas.List.{append_assoc, append_cancel_left, append-nil, take-append-drop}
 use Rattle.block_disk.specs.Streams.{sent_after}
 use Rattle.block_disk.specs.View.{Image, View, sent_now}
 use Rattle.chart_world.specs.Fronts.{BeginsWith}
 use Rattle.chart_service.specs.State.{State}
 use Rattle.chart_service.specs.Serving.{told, Answers, AreSpelled, SendsFirst}
+use Rattle.chart_service.specs.Telling.{replies_joined}
 use Rattle.disk_store.specs.Held.{HoldsBook}
 use Rattle.draw_command.specs.declared.draw_end.DrawEnd.TheVariants as draw_end
 use Rattle.empty_store.specs.Stores.{IsNewStore}
@@ -17,9 +18,10 @@ use Rattle.program_words.specs.declared.words.Command.TheVariants.{Plot, Load, D
 use Rattle.program_words.specs.declared.words.Command.TheVariants.{Check, ListSeries, Export, Retain, Cover, Live, Derive}
 use Rattle.series_book.specs.declared.one_series.Series.{Series}
 use Rattle.served_fronts.specs.Fronts.{Draws}
-use Rattle.served_fronts.specs.Headline.{IsRun}
-use Rattle.served_fronts.specs.Headline.Task.{serves, looks}
+use Rattle.served_fronts.specs.Headline.{Follows, IsRun}
+use Rattle.served_fronts.specs.Headline.Task.{serves, runs, looks, changes}
 use Rattle.served_fronts.specs.Servings.{SendsFirstBytes, ServingsAreExact}
+use Rattle.served_fronts.proofs.Books.{books_follow}
 use Rattle.served_fronts.proofs.Keeping.{told_join}
 use Rattle.served_fronts.proofs.Starts.{begin_sound}
 use Rattle.stored_book.specs.Standing.{RecoversTo, book_pages}
@@ -27,10 +29,10 @@ use Rattle.store_commands.specs.Books.{begun, LeavesSame}
 use Rattle.chart_program.specs.CommandStatuses.{codes_of}
 use Rattle.chart_program.specs.Exact.{run_of, task_of, drawing_codes, MakesRuns, BeginsRuns, DrawsFronts}
 use Rattle.chart_program.specs.Lives.{BeginsOn, IsLeftAt}
-use Rattle.chart_program.specs.Ran.{CommandEnds}
-use Rattle.chart_program.specs.Served.{Faults}
+use Rattle.chart_program.specs.Ran.{CommandEnds, Leaves}
+use Rattle.chart_program.specs.Served.{Faults, AreTexts, LeavesBooks}
 use Rattle.chart_program.proofs.CommandsEnd.{small_never}
-use Rattle.chart_program.proofs.LivesLemmas.{begun_holds}
+use Rattle.chart_program.proofs.LivesLemmas.{begun_holds, left_by, run_lives, OneBook}
 
 -- ---- what was sent
 
@@ -127,38 +129,89 @@ look_run : (old new : View) (input sent : List ℕ) (code : ℕ) → LeavesSame 
 look_run old new input sent code leaves begins after at b is total book recovers =
     (book, refl, (leaves total book (begun_holds (page_count old.size) total book begins old b recovers)).here at after is.0 is.1.0 is.1.1)
 
+-- ---- a run of texts
+
+text_run : (old new : View) (input sent : List ℕ) (code : ℕ) → LeavesBooks AreTexts (page_count old.size) input old new
+    → (begins after : Image) (at : ℕ) → BeginsOn begins old → IsLeftAt old new at after
+    → IsRun (page_count old.size) (run_of runs begins input sent code old new at after)
+text_run old new input sent code leaves begins after at b is total book recovers =
+    let count = page_count old.size in
+    let start = begun total book in
+    let there = (leaves total book (begun_holds count total book begins old b recovers)).here at after is.0 is.1.0 is.1.1 in
+    let a = there.ahead in
+    let first = told a.front in
+    let split = told_join input a.front a.rest a.begins in
+    (elim a.state as (λ _. (next : List Series) × Follows total book input next × RecoversTo count after total next) [
+      | inl here ↦ (
+        a.between.book,
+        record {
+          lines = first;
+          later = told a.rest;
+          split = split;
+          next_is = (books_follow first a.answers.frames start a.between a.answers.replied).0;
+        },
+        record { readable = there.readable; within = there.within; old = there.old; stands = here.0 },
+      )
+      | inr done ↦
+          let more = told done.next.front in
+          let all = replies_joined start a.between done.after first more a.answers.frames done.next.frames a.answers.replied
+          done.next.replied in (
+            done.after.book,
+            record {
+              lines = first ++ more;
+              later = told done.next.rest;
+              split = split ∙ ap (λ l. first ++ l) (told_join a.rest done.next.front done.next.rest done.next.begins)
+                  ∙ sym (append_assoc first more (told done.next.rest));
+              next_is = (books_follow (first ++ more) (a.answers.frames ++ done.next.frames) start done.after all).0;
+            },
+            record { readable = there.readable; within = there.within; old = there.old; stands = done.stands },
+          )
+    ])
+
+-- ---- another change
+
+change_run : OneBook → (command : Command) (old new : View) (input sent : List ℕ) (code : ℕ) → Leaves command input old new
+    → (begins after : Image) (at : ℕ) → BeginsOn begins old → IsLeftAt old new at after
+    → IsRun (page_count old.size) (run_of changes begins input sent code old new at after)
+change_run one command old new input sent code leaves begins after at b is total book recovers =
+    let life = run_lives command input old new begins after at b leaves is total book recovers in
+    let left = left_by one command input (page_count old.size) total book (sent_now old) after (new.sent_by at) life in
+    (left.0, tt, left.2)
+
 -- ---- any command
 
-command_run : ServingsAreExact → (command : Command) (old new : View) (input was sent bytes : List ℕ) (faults : Faults) (code place : ℕ)
-    → CommandEnds command old new (Some input) (Some bytes) (Some was) (Some (was ++ sent)) faults code place
+command_run : ServingsAreExact → OneBook → (command : Command) (old new : View) (input was sent bytes : List ℕ) (faults : Faults)
+    (code place : ℕ) → CommandEnds command old new (Some input) (Some bytes) (Some was) (Some (was ++ sent)) faults code place
     → (begins after : Image) (at : ℕ) → BeginsOn begins old → IsLeftAt old new at after
-    → IfSome (task_of command) (λ task. IsRun (page_count old.size) (run_of task begins input sent code old new at after))
-command_run law (Plot w h) old new input was sent bytes faults code place e = look_run old new input sent code e.crash
-command_run law Draw old new input was sent bytes faults code place e = look_run old new input sent code e.crash
-command_run law (Cover every) old new input was sent bytes faults code place e = look_run old new input sent code e.crash
-command_run law Init old new input was sent bytes faults code place e = look_run old new input sent code e.crash
-command_run law Check old new input was sent bytes faults code place e = look_run old new input sent code e.crash
-command_run law ListSeries old new input was sent bytes faults code place e = look_run old new input sent code e.crash
-command_run law (Export name window) old new input was sent bytes faults code place e = look_run old new input sent code e.crash
-command_run law Derive old new input was sent bytes faults code place e = look_run old new input sent code e.crash
-command_run law Serve old new input was sent bytes faults code place e = serve_run old new input was sent bytes faults code place e law
-command_run law Run old new input was sent bytes faults code place e = λ begins after at b is. tt
-command_run law (Load name) old new input was sent bytes faults code place e = λ begins after at b is. tt
-command_run law (Demo seed rounds) old new input was sent bytes faults code place e = λ begins after at b is. tt
-command_run law Retain old new input was sent bytes faults code place e = λ begins after at b is. tt
-command_run law Live old new input was sent bytes faults code place e = λ begins after at b is. tt
+    → IsRun (page_count old.size) (run_of (task_of command) begins input sent code old new at after)
+command_run law one (Plot w h) old new input was sent bytes faults code place e = look_run old new input sent code e.crash
+command_run law one Draw old new input was sent bytes faults code place e = look_run old new input sent code e.crash
+command_run law one (Cover every) old new input was sent bytes faults code place e = look_run old new input sent code e.crash
+command_run law one Init old new input was sent bytes faults code place e = look_run old new input sent code e.crash
+command_run law one Check old new input was sent bytes faults code place e = look_run old new input sent code e.crash
+command_run law one ListSeries old new input was sent bytes faults code place e = look_run old new input sent code e.crash
+command_run law one (Export name window) old new input was sent bytes faults code place e = look_run old new input sent code e.crash
+command_run law one Derive old new input was sent bytes faults code place e = look_run old new input sent code e.crash
+command_run law one Serve old new input was sent bytes faults code place e = serve_run old new input was sent bytes faults code place e law
+command_run law one Run old new input was sent bytes faults code place e = text_run old new input sent code e.crash
+command_run law one (Load name) old new input was sent bytes faults code place e =
+    change_run one (Load name) old new input sent code e.crash
+command_run law one (Demo seed rounds) old new input was sent bytes faults code place e =
+    change_run one (Demo seed rounds) old new input sent code e.crash
+command_run law one Retain old new input was sent bytes faults code place e = change_run one Retain old new input sent code e.crash
+command_run law one Live old new input was sent bytes faults code place e = change_run one Live old new input sent code e.crash
 
 -- where the input is told
-pub runs_made : ServingsAreExact → (command : Command) (old new : View) (left left' before now : Option (List ℕ)) (faults : Faults)
-    (code place : ℕ) → CommandEnds command old new left left' before now faults code place
+pub runs_made : ServingsAreExact → OneBook → (command : Command) (old new : View) (left left' before now : Option (List ℕ))
+    (faults : Faults) (code place : ℕ) → CommandEnds command old new left left' before now faults code place
     → IfSome left (λ input. MakesRuns code left' command old new input before now)
-runs_made law command old new None left' before now faults code place e = tt
-runs_made law command old new (Some input) left' before now faults code place e =
+runs_made law one command old new None left' before now faults code place e = tt
+runs_made law one command old new (Some input) left' before now faults code place e =
     λ begins after at was sent bytes b is left_is before_is now_is.
     let L : Option (List ℕ) → Type 0 = λ l. CommandEnds command old new (Some input) l before now faults code place in
     let B : Option (List ℕ) → Type 0 = λ o. CommandEnds command old new (Some input) (Some bytes) o now faults code place in
     let N : Option (List ℕ) → Type 0 = λ o. CommandEnds command old new (Some input) (Some bytes) (Some was) o faults code place in
-    command_run law command old new input was sent bytes faults code place (subst N now_is (subst B before_is (subst L left_is e)))
+    command_run law one command old new input was sent bytes faults code place (subst N now_is (subst B before_is (subst L left_is e)))
     begins after at b is
 
 -- ---- the first run

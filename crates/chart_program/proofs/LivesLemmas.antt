@@ -29,7 +29,8 @@ begun_holds count total book begins old b recovers =
     let P : Image → Type 0 = λ i. RecoversTo count i total book in
     record { honest = b.honest; images = λ image left. subst P (sym (b.only image left)) recovers }
 
-run_lives : (command : Command) (input : List ℕ) (old new : View) (begins left : Image) (at : ℕ) → BeginsOn begins old → Leaves command input old new → IsLeftAt old new at left → IsLife (page_count old.size) (life_of command input begins old new at left)
+pub run_lives : (command : Command) (input : List ℕ) (old new : View) (begins left : Image) (at : ℕ) → BeginsOn begins old
+    → Leaves command input old new → IsLeftAt old new at left → IsLife (page_count old.size) (life_of command input begins old new at left)
 run_lives (Plot w h) input old new begins left at b leaves is = λ total book recovers.
     (leaves total book (begun_holds (page_count old.size) total book begins old b recovers)).here at left is.0 is.1.0 is.1.1
 run_lives Draw input old new begins left at b leaves is = λ total book recovers.
@@ -73,7 +74,7 @@ lives_told command old new (Some input) (Some bytes) now leaves = λ begins cras
 abbrev pub OneBook : Type 0
 OneBook = (image : Image) (total total' : ℕ) (book book' : List Series) → StandsForBook image total book → StandsForBook image total' book' → book' ≡ book
 
-abbrev Left : Command → List ℕ → ℕ → ℕ → List Series → ℕ → Image → ℕ → Type 0
+abbrev pub Left : Command → List ℕ → ℕ → ℕ → List Series → ℕ → Image → ℕ → Type 0
 Left command input count total book from left sent = (next : List Series) × Outlives command input total book next from sent × RecoversTo count left total next
 
 left_lines : (IsText : Says) (input : List ℕ) (count total : ℕ) (book : List Series) (from : ℕ) (left : Image) (sent : ℕ) → IsAheadOn (IsText (begun total book)) input count total (begun total book) from left sent
@@ -162,7 +163,9 @@ left_swept input count total book from left sent is = elim is.state [
   | inr next ↦ (_, record { first = is.first; state = inr (record { rule = next.rule; next = next.next; done = next.done; few = next.few; there = refl; low = next.low; high = next.high; all = next.all }) }, next.there)
 ]
 
-left_by : OneBook → (command : Command) (input : List ℕ) (count total : ℕ) (book : List Series) (from : ℕ) (left : Image) (sent : ℕ) → LeavesFrom command input count total book from left sent → Left command input count total book from left sent
+pub left_by : OneBook → (command : Command) (input : List ℕ) (count total : ℕ) (book : List Series) (from : ℕ) (left : Image) (sent : ℕ)
+    → LeavesFrom command input count total book from left sent
+    → Left command input count total book from left sent
 left_by one (Plot w h) input count total book from left sent leaves = (book, refl, leaves)
 left_by one Draw input count total book from left sent leaves = (book, refl, leaves)
 left_by one (Cover every) input count total book from left sent leaves = (book, refl, leaves)

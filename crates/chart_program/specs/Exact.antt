@@ -1,30 +1,36 @@
 -- What a call of the program is in lists of runs: which run it makes, what it leaves for the first one, and what it draws.
-use Rattle.std.specs.Prelude.{⊤, ◌≡◌, ℕ, ◌-◌, ◌++◌, List, [], ◌∷◌, Option, None, Some, IfSome}
+use Rattle.std.specs.Prelude.{⊤, ◌≡◌, ℕ, ◌-◌, ◌++◌, List, [], ◌∷◌, Option, Some}
 use Rattle.block_disk.specs.View.{Image, View, Honest, sent_now}
 use Rattle.gate_pages.specs.Journal.{page_count}
 use Rattle.program_words.specs.declared.words.Command.{Command}
-use Rattle.program_words.specs.declared.words.Command.TheVariants.{Plot, Serve, Draw, Init, Check, ListSeries, Export, Cover, Derive}
+use Rattle.program_words.specs.declared.words.Command.TheVariants.{Plot, Load, Demo, Run, Serve, Draw, Init}
+use Rattle.program_words.specs.declared.words.Command.TheVariants.{Check, ListSeries, Export, Retain, Cover, Live, Derive}
 use Rattle.served_fronts.specs.Fronts.{Draws}
-use Rattle.served_fronts.specs.Headline.{Task, Run, IsRun}
-use Rattle.served_fronts.specs.Headline.Task.{serves, looks}
+use Rattle.served_fronts.specs.Headline.{Task, IsRun}
+use Rattle.served_fronts.specs.Headline as headline
+use Rattle.served_fronts.specs.Headline.Task.{serves, runs, looks, changes}
 use Rattle.stored_book.specs.Standing.{RecoversTo}
 use Rattle.chart_program.specs.Lives.{BeginsOn, IsLeftAt}
 
--- What a command is for. A store that is there is left alone by `init`; of the commands that aren't named the lists don't speak.
-abbrev pub task_of : Command → Option Task
-task_of Serve = Some serves
-task_of Check = Some looks
-task_of ListSeries = Some looks
-task_of (Export name window) = Some looks
-task_of Derive = Some looks
-task_of (Plot w h) = Some looks
-task_of Draw = Some looks
-task_of (Cover every) = Some looks
-task_of Init = Some looks
-task_of command = None
+-- What a command is for. A store that is there is left alone by `init`.
+abbrev pub task_of : Command → Task
+task_of Serve = serves
+task_of Run = runs
+task_of (Load name) = changes
+task_of (Demo seed rounds) = changes
+task_of Retain = changes
+task_of Live = changes
+task_of Check = looks
+task_of ListSeries = looks
+task_of (Export name window) = looks
+task_of Derive = looks
+task_of (Plot w h) = looks
+task_of Draw = looks
+task_of (Cover every) = looks
+task_of Init = looks
 
 -- the run of a call from one disk to another that sent these bytes, and a crash at a moment of it
-abbrev pub run_of : Task → Image → List ℕ → List ℕ → ℕ → View → View → ℕ → Image → Run
+abbrev pub run_of : Task → Image → List ℕ → List ℕ → ℕ → View → View → ℕ → Image → headline.Run
 run_of task begins input sent status old new at after = record {
   task = task;
   begins = begins;
@@ -41,7 +47,7 @@ abbrev pub MakesRuns : ℕ → Option (List ℕ) → Command → View → View �
 MakesRuns status left command old new input before now =
     (begins after : Image) (at : ℕ) (was sent bytes : List ℕ) → BeginsOn begins old → IsLeftAt old new at after
     → left ≡ Some bytes → before ≡ Some was → now ≡ Some (was ++ sent)
-    → IfSome (task_of command) (λ task. IsRun (page_count old.size) (run_of task begins input sent status old new at after))
+    → IsRun (page_count old.size) (run_of (task_of command) begins input sent status old new at after)
 
 -- what `init` made stands for the book without a series, with nothing pending
 abbrev pub BeginsRuns : Command → View → View → Type 0

@@ -40,7 +40,7 @@ use run_ends::codes::{
 use run_ends::{End, Status, status_of};
 use served_fronts::laws::servings_are_exact;
 use std::alloc::Global;
-use stored_book::laws::empty_stores_have_no_series;
+use stored_book::laws::{empty_stores_have_no_series, pages_stand_for_one_book};
 
 /// Does the command of the words, with the world's input and output, and gives the world back.
 ///
@@ -102,7 +102,7 @@ pub fn chart<W: World>(alloc: Global, words: &[String], world: W) -> (Status, W)
     // so each run is a life, as the law on lists of lives has it
     ensures life { result.0.code ≢ WRONG_WORDS → IsUnread result.0 world result.1 ⊎ ForCommand words.now W.view W.left W.sent world result.1 IsLived }
 
-    // and one of those of which the law `charts_are_exact` speaks, where it serves lines or leaves the book alone
+    // and one of those of which the law `charts_are_exact` speaks
     ensures exact { result.0.code ≢ WRONG_WORDS → IsUnread result.0 world result.1 ⊎ ForCommand words.now W.view W.left W.sent world result.1 (MakesRuns result.0.code (W.left result.1)) }
     // the first one may begin on what `init` made
     ensures begins { result.0.code ≡ DONE → ByCommand words.now (λ command. BeginsRuns command (W.view world) (W.view result.1)) }
@@ -149,6 +149,7 @@ pub fn chart<W: World>(alloc: Global, words: &[String], world: W) -> (Status, W)
     own_replies_are_accepted();
     servings_are_exact();
     empty_stores_have_no_series();
+    pages_stand_for_one_book();
     match command_of(alloc, words) {
         Err(WordsEnd::Wrong { place }) => (status_of(End::WrongWords { word: place }), world),
         Err(WordsEnd::NoMemory) => (status_of(End::NoMemory), world),

@@ -11,10 +11,12 @@ use Rattle.served_fronts.specs.Answers.{Answer, AreAnswers, FrontsAreDrawn, byte
 
 -- ---- runs
 
--- what a run is for: it serves lines, or it leaves the book alone
+-- what a run is for: it serves lines, it answers them by texts, it leaves the book alone, or it changes the book otherwise
 pub data Task : Type 0 where
   serves : Task
+  runs : Task
   looks : Task
+  changes : Task
 
 -- A run over a disk, and a crash at a moment of it or at its end: what stood on the disk at first, the input, all bytes that the
 -- run sent, its status, how many bytes were sent by the crash, and what the crash left.
@@ -57,10 +59,19 @@ pub record LeavesBook (total : ℕ) (book : List Series) (run : Run) (next : Lis
   pub few : length answers ≤ length (whole_in run.by_then answers) + 64
   pub next_is : next ≡ after_lines total book lines
 
--- from one book to the next a run was exact
+-- the book is the one after some first lines
+pub record Follows (total : ℕ) (book : List Series) (input : List ℕ) (next : List Series) : Type 0 where
+  pub lines : List Line
+  pub later : List Line
+  pub split : told input ≡ lines ++ later
+  pub next_is : next ≡ after_lines total book lines
+
+-- From one book to the next a run was exact. What a run leaves that changes the book otherwise isn't said here.
 abbrev pub IsExact : Task → ℕ → List Series → Run → List Series → Type 0
 IsExact serves total book run next = Says total book run × LeavesBook total book run next
+IsExact runs total book run next = Follows total book run.input next
 IsExact looks total book run next = next ≡ book
+IsExact changes total book run next = ⊤
 
 -- ---- what a run of the program is, as the clause `exact` of its call has it
 
