@@ -133,7 +133,7 @@ module _ (requests : List Request) (count count' : ℕ) (sound sound' : Bool) (o
     stopped = tt;
     outside = tt;
     cause = tt;
-      crash = leaves passes;
+    crash = leaves passes;
     quiet = quiet_by passes;
     beside = beside;
     faults = faults;
