@@ -11,22 +11,24 @@ pub(crate) fn write_rows(rows: &mut [u8], bitmap: &Bitmap)
     ensures { rows.new ≡ rows_below bitmap.now bitmap.now.h }
 {
     let strips = bitmap.width().div_ceil(8);
+    let mut column = [0; 4096];
     for k in 0..strips {
-        write_strip(rows, bitmap, k);
+        write_strip(rows, &mut column, bitmap, k);
     }
 }
 
-// Writes byte `k` of each row. They are read into a column of their own first: while that is written,
-// the bitmap plainly stays as it is, so its size is looked up once and no more.
-fn write_strip(rows: &mut [u8], bitmap: &Bitmap, k: u16)
+// Writes byte `k` of each row. They are read into `column` first, which needs one look at the bitmap's
+// size, since nothing of the bitmap can lie in memory that is local.
+fn write_strip(rows: &mut [u8], column: &mut [u8], bitmap: &Bitmap, k: u16)
+    requires room { length column.old ≡ 4096 }
     requires size { length rows.old ≡ bitmap.now.h * row_bytes bitmap.now.w }
     requires strip { k < row_bytes bitmap.now.w }
-    ensures { IsStrip bitmap.now k bitmap.now.h rows.old rows.new }
+    ensures strip { IsStrip bitmap.now k bitmap.now.h rows.old rows.new }
+    ensures room { length column.new ≡ 4096 }
 {
     let height = bitmap.height();
     let row_bytes = usize::from(bitmap.width().div_ceil(8));
-    let mut column = [0; 4096];
-    read_strip(&mut column, bitmap, k);
+    read_strip(column, bitmap, k);
     for y in 0..height {
         let above = usize::from(height - 1 - y);
         let place = above * row_bytes + usize::from(k);

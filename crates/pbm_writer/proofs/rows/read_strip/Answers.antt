@@ -1,4 +1,4 @@
-use Rattle.std.proofs.Common.{arith, ◌≡◌, ap, ◌∙◌}
+use Rattle.std.proofs.Common.{arith}
 use Rattle.pbm_writer.proofs.StripLemmas.{column_more}
 use Rattle.pbm_writer.proofs.rows.read_strip.Goals as goal
 
