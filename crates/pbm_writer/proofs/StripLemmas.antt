@@ -5,7 +5,7 @@ use Rattle.std.proofs.lemmas.Bool.{cases_eq}
 use Rattle.std.proofs.lemmas.Nat.{mul-add-lt, mod-mul-add, same_from_place}
 use Rattle.line_raster.specs.Canvas.{Canvas}
 use Rattle.pbm_writer.specs.Picture.{byte_at, row_bytes, row, rows_below}
-use Rattle.pbm_writer.specs.Strip.{IsStrip}
+use Rattle.pbm_writer.specs.Strip.{IsStrip, IsColumn}
 
 -- one row more
 pub strip_more : (c : Canvas) (k y i v : ℕ) (old now : List ℕ) → length old ≡ c.h * row_bytes c.w → k < row_bytes c.w → y < c.h → i ≡ (c.h - 1 - y) * row_bytes c.w + k → v ≡ byte_at c k y → IsStrip c k y old now → IsStrip c k (y + 1) old (set now i v)
@@ -72,3 +72,14 @@ pub place_in_rows : (c : Canvas) (above r k y : ℕ) (rows : List ℕ) → lengt
 place_in_rows c above r k y rows size is_above is_r in_h in_row =
     let e : above * r ≡ (c.h - 1 - y) * row_bytes c.w = λ t. is_above t * is_r t in
     omega (arith, size, e, mul-add-lt (c.h - 1 - y) (row_bytes c.w) k c.h (omega (arith, in_h)) in_row)
+
+-- one byte of a column more
+pub column_more : (c : Canvas) (k y i v : ℕ) (old now : List ℕ) → y < length old → i ≡ y → v ≡ byte_at c k y → IsColumn c k y old now → IsColumn c k (y + 1) old (set now i v)
+column_more c k y i v old now room is_i is_v before = record {
+  size = length-set now i v ∙ before.size;
+  written = λ b below.
+      elim (cases_eq b y) [
+        | inl same ↦ ap (λ m. get_or (set now i v) m 0) (same ∙ sym is_i) ∙ get_or-set_same now i v 0 (omega (arith, is_i, before.size, room)) ∙ is_v ∙ ap (byte_at c k) (sym same)
+        | inr apart ↦ get_or-set_other now i b v 0 (λ e. apart (e ∙ is_i)) ∙ before.written b (omega (arith, below, apart))
+      ];
+}

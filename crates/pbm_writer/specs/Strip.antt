@@ -7,3 +7,8 @@ pub record IsStrip (c : Canvas) (k y : ℕ) (old new : List ℕ) : Type 0 where
   pub size : length new ≡ length old
   pub written : (b : ℕ) → b < y → slice_index new ((c.h - 1 - b) * row_bytes c.w + k) ≡ byte_at c k b
   pub others : (i : ℕ) → i % row_bytes c.w ≢ k → slice_index new i ≡ slice_index old i
+
+-- the first y bytes of a column are byte k of the rows, from the bottom row
+pub record IsColumn (c : Canvas) (k y : ℕ) (old new : List ℕ) : Type 0 where
+  pub size : length new ≡ length old
+  pub written : (b : ℕ) → b < y → slice_index new b ≡ byte_at c k b
