@@ -1,17 +1,14 @@
 -- How often the lines of an input have synced so far.
-use Rattle.std.proofs.Common.{◌≡◌, ◌≢◌, ◌⊎◌, ◌≤◌, ◌<◌, ◌+◌, ◌*◌, ◌-◌, ◌/◌, ◌^◌, arith, ℕ, List, [], ◌∷◌, ◌++◌, length, zero, suc, take, drop, Option, None, Some, Result, Ok, Err, IfSome, refl, ap, sym, subst, inl, inr, ◌∙◌, length-append, append_assoc}
+use Rattle.std.proofs.Common.{◌≡◌, ◌⊎◌, ◌≤◌, ◌<◌, ◌+◌, ◌*◌, ◌-◌, ◌/◌, ◌^◌, arith, ℕ, List, [], ◌∷◌, ◌++◌, length, zero, suc, take, drop, Option, None, Some, Result, Ok, Err, IfSome, refl, ap, sym, subst, inl, inr, ◌∙◌, length-append, append_assoc}
 use Rattle.std.specs.Prelude.{OnOk}
-use Rattle.std.specs.List.{filter, after_first, before_first, position_or_len}
+use Rattle.std.specs.List.{filter}
 use Rattle.std.proofs.Math.Nat.{div-mul-le_self, le-div_iff_mul-le}
 use Rattle.std.proofs.Math.Seq.{take-add}
 use Rattle.std.proofs.lemmas.List.{append-nil, take-append-drop, length-drop, length-map, length-take}
 use Rattle.block_disk.specs.View.{Image, View, DiskKept}
-use Rattle.chart_world.proofs.NextLine.{contains_early, here_lines}
-use Rattle.chart_world.specs.FrontLaws.{passes}
-use Rattle.chart_world.specs.Fronts.{says, IsWhole, BeginsWith, Gives, first_piece}
-use Rattle.chart_world.specs.LineLaws.{lines_none, lines_joined, piece_line, told_so}
-use Rattle.chart_world.specs.Lines.{is_line_feed, text_of, lines}
-use Rattle.chart_world.specs.Reading.{Reading, HasLine, Took, unread, unread_input, behind_first}
+use Rattle.chart_world.specs.Fronts.{says, IsWhole}
+use Rattle.chart_world.specs.LineLaws.{lines_none, lines_joined}
+use Rattle.chart_world.specs.Lines.{lines}
 use Rattle.chart_frames.specs.declared.frame.Frame.{Frame}
 use Rattle.request_lines.specs.declared.requests.Request.{Request}
 use Rattle.request_lines.specs.declared.requests.Request.TheVariants.{Edit as EditRequest, Open, View as ViewRequest, Zoom, Pan, Close}
@@ -22,17 +19,13 @@ use Rattle.series_book.specs.declared.one_series.Series.{Series}
 use Rattle.series_book.specs.declared.refusals.Refusal.{Refusal}
 use Rattle.series_book.specs.EditLists.{after_edits, book_behind, edits_give}
 use Rattle.series_book.specs.Edits.{Edited, apply}
-use Rattle.series_book.proofs.EditListLemmas.{after_append}
 use Rattle.series_store.specs.Groups.{AreMany, weight}
 use Rattle.series_store.specs.Results.{IsUnchanged}
-use Rattle.stored_book.specs.Standing.{StandsForBook}
-use Rattle.chart_service.specs.EditGroups.{DoesSome, IsGroupOf, RepliesToEdits, SpellsEdit, SpellEdits, frame_of, frames_of}
+use Rattle.chart_service.specs.EditGroups.{DoesSome, RepliesToEdits, SpellsEdit, SpellEdits, frame_of, frames_of}
 use Rattle.chart_service.specs.Replies.{Edits, line_text}
 use Rattle.chart_service.specs.Serving.{told}
 use Rattle.chart_service.specs.State.{State}
-use Rattle.chart_service.specs.Syncing.{EndsGroup, FirstLinesSyncLess, IsOtherNext, SyncsLines, edit_asked, edit_of, edit_read, edits_of, group_syncs}
-use Rattle.chart_service.proofs.GatherLemmas.{both_none, spelled_length}
-use Rattle.chart_service.proofs.Progress.{PassesLines}
+use Rattle.chart_service.specs.Syncing.{FirstLinesSyncLess, SyncsLines, edit_asked, edit_of, edit_read, edits_of, group_syncs}
 
 -- ---- the edits of lines
 
@@ -183,302 +176,19 @@ group_stop total book edits done from count count' more most g =
 
 -- ---- the lines of an input
 
--- What is owed for the last edits: nothing, or one commit, which the next line pays; at the end of the input one more.
-abbrev pub Owes : Reading → List ℕ → ℕ → Type 0
-Owes r rest debt = (debt ≡ 0) ⊎ (((debt ≡ 1) × IsOtherNext r) ⊎ ((debt ≤ 2) × (rest ≡ [])))
-
--- the lines given so far, what they may sync, and what paid for it
-pub record SyncedSoFar (input : List ℕ) (r : Reading) (left : Option (List ℕ)) (total : ℕ) (book : List Series) (image : Image) (from count before now : ℕ) : Type 0 where
-  pub rest : List ℕ
-  pub told_rest : unread r left ≡ Some rest
-  pub front : List ℕ
-  pub begins : BeginsWith input front rest
-  pub counted : r.given ≡ length front
-  pub stands : StandsForBook image total (after_edits total book (edits_of (lines front)))
-  pub others : ℕ
-  pub others_are : length (lines front) ≡ others + length (edits_of (lines front))
-  pub risen : ℕ
-  pub full : ℕ
-  pub heavy : ℕ
-  pub debt : ℕ
-  pub few : count ≤ from + 4 * (others + risen + full + heavy + debt)
-  pub taken : before + risen ≤ now
-  pub full_paid : full * 64 ≤ length (edits_of (lines front))
-  pub heavy_paid : heavy * 22 ≤ weight total book (edits_of (lines front))
-  pub owes : Owes r rest debt
-
-owes_most : (r : Reading) (rest : List ℕ) (debt : ℕ) → Owes r rest debt → debt ≤ 2
-owes_most r rest debt (inl none) = omega (arith, none)
-owes_most r rest debt (inr (inl one)) = omega (arith, one.0)
-owes_most r rest debt (inr (inr end)) = end.0
-
-owes_one : (r : Reading) (rest : List ℕ) (debt : ℕ) → rest ≢ [] → Owes r rest debt → debt ≤ 1
-owes_one r rest debt some (inl none) = omega (arith, none)
-owes_one r rest debt some (inr (inl one)) = omega (arith, one.0)
-owes_one r rest debt some (inr (inr end)) = absurd (some end.1)
-
--- the line that is given is the one that stood ready
-ready_line : (input front rest : List ℕ) (r m : Reading) (left left' line : Option (List ℕ)) → unread r left ≡ Some rest → r.given ≡ length front → BeginsWith input front rest → Gives r m left left' line → HasLine r → text_of (before_first is_line_feed r.pending) ≡ line
-ready_line input front rest r m None left' line told_rest counted begins given has = absurd (cc (told_rest))
-ready_line input front rest r m (Some l) left' line told_rest counted begins given has =
-    let early = contains_early (2 ^ 32 - r.given) r.pending has in
-    let text = text_of (before_first is_line_feed r.pending) in
-    let q = passes input front rest r m (Some l) left' line told_rest counted begins given in
-    let here = here_lines r.pending (Some l) (behind_first (Some (r.pending ++ l))) (position_or_len is_line_feed r.pending) text refl early.0 refl refl in
-    let same : r.pending ++ l ≡ rest = cc (told_rest) in
-    let lines_are = q.lines_are in
-    cc (here, same, lines_are)
-
--- where all is read behind a line, nothing stands behind those that were ready
-none_later : (m r' : Reading) (front : List ℕ) (left' : Option (List ℕ)) (later : List ℕ) → m.pending ≡ front ++ r'.pending → IfSome (unread m left') (λ t. t ≡ []) → unread r' left' ≡ Some later → later ≡ []
-none_later m r' front None later split none told = absurd (cc (told))
-none_later m r' front (Some l) later split none told =
-    let both = both_none m.pending l none in
-    let pending = (both_none front r'.pending (sym split ∙ both.0)).1 in
-    let same : r'.pending ++ l ≡ later = cc (told) in
-    sym same ∙ ap (λ p. p ++ l) pending ∙ both.1
-
--- over pages that stand for a book, of an input that may be told
-module _ (o : Option (List ℕ)) (total : ℕ) (book : List Series) (from before : ℕ) where
-  abbrev So : List ℕ → Reading → Option (List ℕ) → Image → ℕ → ℕ → Type 0
-  So input r left image count now = SyncedSoFar input r left total book image from count before now
-
-  -- the pages stand for the book that the lines so far have left, and these have synced no more often than they may, where
-  -- the pieces are counted
-  abbrev pub HasSynced : Reading → Option (List ℕ) → Image → ℕ → ℕ → Type 0
-  HasSynced r left image count now = IfSome o (λ input. now < 2 ^ 64 - 1 → So input r left image count now)
-
-  -- the lines so far did no more
-  abbrev pub Synced : ℕ → ℕ → Type 0
-  Synced count now = IfSome o (λ input. now < 2 ^ 64 - 1 → SyncsLines input total book (now - before) from count)
-
-  first_at : (input : List ℕ) (image : Image) → StandsForBook image total book → So input unread_input (Some input) image from before
-  first_at input image stands =
-      let S : List (Option (List ℕ)) → Type 0 = λ l. StandsForBook image total (after_edits total book (edits_of l)) in
-      let C : List (Option (List ℕ)) → Type 0 = λ l. length l ≡ 0 + length (edits_of l) in
-      record {
-        rest = input;
-        told_rest = refl;
-        front = [];
-        begins = record { split = refl; whole = inl (inl refl) };
-        counted = refl;
-        stands = subst S (sym lines_none) stands;
-        others = 0;
-        others_are = subst C (sym lines_none) refl;
-        risen = 0;
-        full = 0;
-        heavy = 0;
-        debt = 0;
-        few = omega arith;
-        taken = omega arith;
-        full_paid = omega arith;
-        heavy_paid = omega arith;
-        owes = inl refl;
-      }
-
-  first_in : (p : Option (List ℕ)) (image : Image) → StandsForBook image total book → IfSome p (λ input. before < 2 ^ 64 - 1 → So input unread_input p image from before)
-  first_in None image stands = tt
-  first_in (Some input) image stands = λ small. first_at input image stands
-
-  -- before the first line
-  pub sync_first : (image : Image) (r : Reading) → StandsForBook image total book → r ≡ unread_input → HasSynced r o image from before
-  sync_first image r stands fresh =
-      let P : Reading → Type 0 = λ x. IfSome o (λ input. before < 2 ^ 64 - 1 → So input x o image from before) in
-      subst P (sym fresh) (first_in o image stands)
-
-  all_at : (input : List ℕ) (r : Reading) (left : Option (List ℕ)) (image : Image) (count now count' now' : ℕ) → count' ≡ count → now ≤ now' → So input r left image count now → SyncsLines input total book (now' - before) from count'
-  all_at input r left image count now count' now' same later p =
-      let edits = edits_of (lines p.front) in
-      record {
-        front = p.front;
-        rest = p.rest;
-        begins = p.begins;
-        others = p.others;
-        counted = p.others_are;
-        few = omega (arith, p.few, same, later, p.taken, divided p.full 64 (length edits) (omega arith) p.full_paid, divided p.heavy 22 (weight total book edits) (omega arith) p.heavy_paid, owes_most r p.rest p.debt p.owes);
-      }
-
-  -- no line was given, or it wasn't answered
-  pub sync_all : (r : Reading) (left : Option (List ℕ)) (image : Image) (count now count' now' : ℕ) → count' ≡ count → now ≤ now' → HasSynced r left image count now → Synced count' now'
-  sync_all r left image count now count' now' same later has =
-      told_so (λ input. now < 2 ^ 64 - 1 → So input r left image count now) (λ input. now' < 2 ^ 64 - 1 → SyncsLines input total book (now' - before) from count') o
-      (λ input so small. all_at input r left image count now count' now' same later (so (omega (arith, small, later)))) has
-
-  -- a line is given that spells no edit
-  module _ (r r' : Reading) (left left' line : Option (List ℕ)) (image image' : Image) (count count' now now' : ℕ) (given : Gives r r' left left' line) (none : edit_of line ≡ []) (same_image : image' ≡ image) (same : count' ≡ count) (later : now ≤ now') where
-    other_at : (input : List ℕ) → So input r left image count now → So input r' left' image' count' now'
-    other_at input p =
-        let q = passes input p.front p.rest r r' left left' line p.told_rest p.counted p.begins given in
-        let piece = first_piece p.rest in
-        let here = edits_of (lines p.front) in
-        let all : lines (p.front ++ piece) ≡ lines p.front ++ line ∷ [] = lines_joined p.front piece q.whole ∙ ap (λ l. lines p.front ++ l) (piece_line p.rest line q.lines_are) in
-        let edits : edits_of (lines (p.front ++ piece)) ≡ here = ap edits_of all ∙ edits_joined (lines p.front) (line ∷ []) ∙ ap (λ e. here ++ (e ++ [])) none ∙ append-nil here in
-        let S : List Edit → Type 0 = λ e. StandsForBook image' total (after_edits total book e) in
-        let I : Image → Type 0 = λ i. StandsForBook i total (after_edits total book here) in
-        record {
-          rest = after_first is_line_feed p.rest;
-          told_rest = q.told_rest;
-          front = p.front ++ piece;
-          begins = q.begins;
-          counted = q.counted;
-          stands = subst S (sym edits) (subst I (sym same_image) p.stands);
-          others = p.others + 1;
-          others_are = omega (arith, p.others_are, ap length all, length-append (lines p.front) (line ∷ []), ap length edits);
-          risen = p.risen;
-          full = p.full;
-          heavy = p.heavy;
-          debt = 0;
-          few = omega (arith, p.few, same, owes_one r p.rest p.debt q.some p.owes);
-          taken = omega (arith, p.taken, later);
-          full_paid = omega (arith, p.full_paid, ap length edits);
-          heavy_paid = omega (arith, p.heavy_paid, ap (weight total book) edits);
-          owes = inl refl;
-        }
-
-    -- it was answered; later calls may not have taken more
-    pub sync_other : (left'' : Option (List ℕ)) → left'' ≡ left' → HasSynced r left image count now → HasSynced r' left'' image' count' now'
-    sync_other left'' same_left has =
-        let L : Option (List ℕ) → Type 0 = λ l. HasSynced r' l image' count' now' in
-        subst L (sym same_left) (told_so (λ input. now < 2 ^ 64 - 1 → So input r left image count now) (λ input. now' < 2 ^ 64 - 1 → So input r' left' image' count' now') o
-        (λ input so small. other_at input (so (omega (arith, small, later)))) has)
-
-  -- edits are given, whose lines stood ready behind the first
-  module _ (r m r' : Reading) (left left' : Option (List ℕ)) (edits : List Edit) (all : List (Option (List ℕ))) (image : Image) (count count' now now' : ℕ) (given : Gives r m left left' (Some m.line)) (group : IsGroupOf m r' edits) (passed : PassesLines r r' left left' all) (spells : SpellEdits all edits)
-      (few : (b : List Series) → StandsForBook image total b → count' ≤ count + group_syncs total b edits) (later : now ≤ now') where
-    -- the lines with these edits, and what they may sync
-    record WithEdits (input : List ℕ) (p : So input r left image count now) : Type 0 where
-      piece : List ℕ
-      behind : List ℕ
-      begins : BeginsWith input (p.front ++ piece) behind
-      told_rest : unread r' left' ≡ Some behind
-      counted : r'.given ≡ length (p.front ++ piece)
-      edits_are : edits_of (lines (p.front ++ piece)) ≡ edits_of (lines p.front) ++ edits
-      more : ℕ
-      lines_are : length (lines (p.front ++ piece)) ≡ length (lines p.front) + length edits + more
-      heavy : ℕ
-      heavy_paid : (p.heavy + heavy) * 22 ≤ weight total book (edits_of (lines p.front) ++ edits)
-      some : p.rest ≢ []
-      few_more : count' ≤ count + 4 * (1 + heavy)
-
-    with_edits : (input : List ℕ) (p : So input r left image count now) → WithEdits input p
-    with_edits input p =
-        let q = passed input p.front p.rest p.told_rest p.counted p.begins in
-        let here = edits_of (lines p.front) in
-        let b = after_edits total book here in
-        let told_edits : edits_of (lines q.piece) ≡ edits = sym (edits_told (lines q.piece)) ∙ ap edits_of q.told_piece ∙ spelled_edits all edits spells in
-        let lines_are : lines (p.front ++ q.piece) ≡ lines p.front ++ lines q.piece = lines_joined p.front q.piece q.whole in
-        let some : length edits ≤ length (lines q.piece) = omega (arith, told_less (lines q.piece), ap length q.told_piece, spelled_length all edits spells) in
-        let heavy = weight total b edits / 22 in
-        record {
-          piece = q.piece;
-          behind = q.later;
-          begins = q.begins;
-          told_rest = q.told_rest;
-          counted = q.counted;
-          edits_are = ap edits_of lines_are ∙ edits_joined (lines p.front) (lines q.piece) ∙ ap (λ e. here ++ e) told_edits;
-          more = length (lines q.piece) - length edits;
-          lines_are = omega (arith, ap length lines_are, length-append (lines p.front) (lines q.piece), some);
-          heavy = heavy;
-          heavy_paid = omega (arith, p.heavy_paid, weight_joined total book here edits, div-mul-le_self (weight total b edits) 22);
-          some = (passes input p.front p.rest r m left left' (Some m.line) p.told_rest p.counted p.begins given).some;
-          few_more = few b p.stands;
-        }
-
-    stop_at : (input : List ℕ) → So input r left image count now → SyncsLines input total book (now' - before) from count'
-    stop_at input p =
-        let w = with_edits input p in
-        let here = edits_of (lines p.front) in
-        let full = divided p.full 64 (length (here ++ edits)) (omega arith) (omega (arith, p.full_paid, length-append here edits)) in
-        let heavy = divided (p.heavy + w.heavy) 22 (weight total book (here ++ edits)) (omega arith) w.heavy_paid in
-        record {
-          front = p.front ++ w.piece;
-          rest = w.behind;
-          begins = w.begins;
-          others = p.others + w.more;
-          counted = omega (arith, w.lines_are, p.others_are, ap length w.edits_are, length-append here edits);
-          few = omega (
-            arith,
-            p.few,
-            w.few_more,
-            later,
-            p.taken,
-            full,
-            heavy,
-            owes_one r p.rest p.debt w.some p.owes,
-            ap (λ e. length e / 64) w.edits_are,
-            ap (λ e. weight total book e / 22) w.edits_are,
-          );
-        }
-
-    -- they weren't answered
-    pub sync_stop : HasSynced r left image count now → Synced count' now'
-    sync_stop has =
-        told_so (λ input. now < 2 ^ 64 - 1 → So input r left image count now) (λ input. now' < 2 ^ 64 - 1 → SyncsLines input total book (now' - before) from count') o
-        (λ input so small. stop_at input (so (omega (arith, small, later)))) has
-
-    -- they were answered
-    module _ (mid : ℕ) (image' : Image) (behind : (b : List Series) → StandsForBook image total b → StandsForBook image' total (after_edits total b edits)) (ends : EndsGroup r' edits) (took : (HasLine r → ⊥) → Took now mid (unread m left')) (risen : mid ≤ now') where
-      finish : (input : List ℕ) (p : So input r left image count now) (w : WithEdits input p) (rises full debt : ℕ) → before + rises ≤ now' → full * 64 ≤ length (edits_of (lines p.front) ++ edits) → p.risen + p.full + p.debt + 1 ≤ rises + full + debt → Owes r' w.behind debt → So input r' left' image' count' now'
-      finish input p w rises full debt taken full_paid paid owes =
-          let here = edits_of (lines p.front) in
-          let S : List Edit → Type 0 = λ e. StandsForBook image' total (after_edits total book e) in
-          let B : List Series → Type 0 = λ b. StandsForBook image' total b in
-          record {
-            rest = w.behind;
-            told_rest = w.told_rest;
-            front = p.front ++ w.piece;
-            begins = w.begins;
-            counted = w.counted;
-            stands = subst S (sym w.edits_are) (subst B (sym (after_append total book here edits)) (behind (after_edits total book here) p.stands));
-            others = p.others + w.more;
-            others_are = omega (arith, w.lines_are, p.others_are, ap length w.edits_are, length-append here edits);
-            risen = rises;
-            full = full;
-            heavy = p.heavy + w.heavy;
-            debt = debt;
-            few = omega (arith, p.few, w.few_more, paid);
-            taken = taken;
-            full_paid = omega (arith, full_paid, ap length w.edits_are);
-            heavy_paid = omega (arith, w.heavy_paid, ap (weight total book) w.edits_are);
-            owes = owes;
-          }
-
-      -- by why no more edits were gathered
-      finish_by : (input : List ℕ) (p : So input r left image count now) (rises : ℕ) → before + rises ≤ now' → p.risen + p.debt ≤ rises → So input r' left' image' count' now'
-      finish_by input p rises taken paid =
-          let w = with_edits input p in
-          let here = edits_of (lines p.front) in
-          elim ends [
-            | inl full ↦ finish input p w rises (p.full + 1) 0 taken (omega (arith, full, p.full_paid, length-append here edits)) (omega (arith, paid)) (inl refl)
-            | inr next ↦ finish input p w rises p.full 1 taken (omega (arith, p.full_paid, length-append here edits)) (omega (arith, paid)) (inr (inl (refl, next)))
-          ]
-
-      -- what was owed is paid by the piece that was taken, or nothing is left
-      paid_by : (input : List ℕ) (p : So input r left image count now) → now' < 2 ^ 64 - 1 → (p.debt ≡ 1) × IsOtherNext r → So input r' left' image' count' now'
-      paid_by input p small owes =
-          let w = with_edits input p in
-          let here = edits_of (lines p.front) in
-          let unready : HasLine r → ⊥ = λ has.
-          let line = ready_line input p.front p.rest r m left left' (Some m.line) p.told_rest p.counted p.begins given has in
-          let none : edit_of (Some m.line) ≡ [] = sym (ap edit_of line) ∙ owes.1 has in
-          let one = spelled_edit (Some m.line) group.first group.spelled in
-          cc (none, one) in
-          elim (took unready) [
-            | inl (inl up) ↦ finish_by input p (p.risen + 1) (omega (arith, p.taken, up, risen)) (omega (arith, owes.0))
-            | inl (inr top) ↦ absurd (omega (arith, top, risen, small))
-            | inr none ↦ finish input p w p.risen p.full 2 (omega (arith, p.taken, later)) (omega (arith, p.full_paid, length-append here edits)) (omega (arith, owes.0)) (inr (inr (omega arith, none_later m r' group.group.gathers.front left' w.behind group.group.gathers.split none w.told_rest)))
-          ]
-
-      group_at : (input : List ℕ) (p : So input r left image count now) → now' < 2 ^ 64 - 1 → Owes r p.rest p.debt → So input r' left' image' count' now'
-      group_at input p small (inl none) = finish_by input p p.risen (omega (arith, p.taken, later)) (omega (arith, none))
-      group_at input p small (inr (inl owes)) = paid_by input p small owes
-      group_at input p small (inr (inr end)) = absurd ((with_edits input p).some end.1)
-
-      pub sync_group : (left'' : Option (List ℕ)) → left'' ≡ left' → HasSynced r left image count now → HasSynced r' left'' image' count' now'
-      sync_group left'' same_left has =
-          let L : Option (List ℕ) → Type 0 = λ l. HasSynced r' l image' count' now' in
-          subst L (sym same_left) (told_so (λ input. now < 2 ^ 64 - 1 → So input r left image count now) (λ input. now' < 2 ^ 64 - 1 → So input r' left' image' count' now') o
-          (λ input so small. let p = so (omega (arith, small, later)) in group_at input p small p.owes) has)
+-- where no line was given
+pub sync_none : (o : Option (List ℕ)) (total : ℕ) (book : List Series) (count pieces : ℕ) → IfSome o (λ input. pieces < 2 ^ 64 - 1 → SyncsLines input total book (pieces - pieces) count count)
+sync_none None total book count pieces = tt
+sync_none (Some input) total book count pieces =
+    let C : List (Option (List ℕ)) → Type 0 = λ l. length l ≡ 0 + length (edits_of l) in
+    λ small. record {
+      front = [];
+      rest = input;
+      begins = record { split = refl; whole = inl (inl refl) };
+      others = 0;
+      counted = subst C (sym lines_none) refl;
+      few = omega arith;
+    }
 
 -- ---- all of the input
 

@@ -1,10 +1,7 @@
 -- Edits that are done together, and the lines that spell them.
 use Rattle.std.specs.Prelude.{ℕ, ◌≡◌, ◌+◌, ◌*◌, ◌≤◌, List, [], ◌∷◌, ◌++◌, length, map, take, Option, None, Some, Result, Ok, Err, ⊤}
 use Rattle.block_disk.specs.View.{Image}
-use Rattle.chart_world.specs.Fronts.{IsWhole}
-use Rattle.std.specs.List.{before_first}
-use Rattle.chart_world.specs.Lines.{is_line_feed, text_of, lines}
-use Rattle.chart_world.specs.Reading.{Reading, HasLine}
+use Rattle.chart_world.specs.Lines.{lines}
 use Rattle.chart_frames.specs.declared.frame.Frame.{Frame}
 use Rattle.chart_frames.specs.declared.frame.Frame.TheVariants.{Done, Refused, Opened, Closed, View, Rows, Live}
 use Rattle.request_lines.specs.declared.requests.Request.TheVariants.{Edit as EditRequest}
@@ -115,31 +112,3 @@ ReadsByFrames before now old new = new + 96 * length before ≤ old + 96 * lengt
 -- so of all lines that spell these edits
 abbrev pub SpelledBy : List Edit → (List (Option (List ℕ)) → Type 0) → Type 0
 SpelledBy edits AreSo = (lines : List (Option (List ℕ))) → SpellEdits lines edits → AreSo lines
-
--- some first lines of what is pending are passed, and they spell these edits
-pub record Gathers (old new : Reading) (edits : List Edit) : Type 0 where
-  pub front : List ℕ
-  pub split : old.pending ≡ front ++ new.pending
-  pub whole : IsWhole front
-  pub given : new.given ≡ old.given + length front
-  pub taken : new.taken ≡ old.taken
-  pub spells : SpellEdits (lines front) edits
-
--- the next line is ready, and spells this edit
-pub record IsEditAhead (reading : Reading) (edit : Edit) : Type 0 where
-  pub ready : HasLine reading
-  pub line : Option (List ℕ)
-  pub line_is : text_of (before_first is_line_feed reading.pending) ≡ line
-  pub spells : SpellsEdit line edit
-
--- these edits are the first one and those that were gathered
-pub record IsGroup (first : Edit) (old new : Reading) (edits : List Edit) : Type 0 where
-  pub later : List Edit
-  pub edits_are : edits ≡ first ∷ later
-  pub gathers : Gathers old new later
-
--- the same, where the last line spells the first one
-pub record IsGroupOf (old new : Reading) (edits : List Edit) : Type 0 where
-  pub first : Edit
-  pub spelled : SpellsEdit (Some old.line) first
-  pub group : IsGroup first old new edits

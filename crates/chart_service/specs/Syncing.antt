@@ -1,16 +1,13 @@
 -- How often edits sync the disk that are committed together, and the lines of an input that spell them.
-use Rattle.std.specs.Prelude.{ℕ, ◌≡◌, ◌+◌, ◌*◌, ◌/◌, ◌≤◌, ◌⊎◌, List, [], ◌∷◌, ◌++◌, length, Option, None, Some, Result, Ok, Err}
-use Rattle.std.specs.List.{before_first}
+use Rattle.std.specs.Prelude.{ℕ, ◌≡◌, ◌+◌, ◌*◌, ◌/◌, ◌≤◌, List, [], ◌∷◌, ◌++◌, length, Option, None, Some, Result, Ok, Err}
 use Rattle.chart_world.specs.Fronts.{BeginsWith}
-use Rattle.chart_world.specs.Lines.{is_line_feed, text_of, lines}
-use Rattle.chart_world.specs.Reading.{Reading, HasLine}
+use Rattle.chart_world.specs.Lines.{lines}
 use Rattle.request_lines.specs.declared.requests.Request.{Request}
 use Rattle.request_lines.specs.declared.requests.Request.TheVariants.{Edit as EditRequest, Open, View, Zoom, Pan, Close}
 use Rattle.request_lines.specs.Requests.{read_line}
 use Rattle.series_book.specs.declared.edits.Edit.{Edit}
 use Rattle.series_book.specs.declared.one_series.Series.{Series}
 use Rattle.series_store.specs.Groups.{weight}
-use Rattle.chart_service.specs.Serving.{most_ahead}
 
 -- How often edits may sync that are done together, from this book on: four times, and four times more for each 22 of their
 -- weight, the sum of 1 and the pages touched over the accepted ones.
@@ -39,14 +36,6 @@ edit_of (Some text) = edit_read (read_line text)
 abbrev pub edits_of : List (Option (List ℕ)) → List Edit
 edits_of [] = []
 edits_of (line ∷ later) = edit_of line ++ edits_of later
-
--- the next line is not ready, or spells no edit
-abbrev pub IsOtherNext : Reading → Type 0
-IsOtherNext reading = HasLine reading → edit_of (text_of (before_first is_line_feed reading.pending)) ≡ []
-
--- edits that stood ready were gathered until there were as many as are done together, or no other was ready
-abbrev pub EndsGroup : Reading → List Edit → Type 0
-EndsGroup reading edits = (length edits ≡ most_ahead) ⊎ IsOtherNext reading
 
 -- How often lines may sync from this book on, of which these are edits and so many others, while so many pieces are taken:
 -- four times for each other line, for each piece, for each 64 edits and for each 22 of their weight, and eight times more.

@@ -1,87 +1,31 @@
 //! The lines of a service's streams are answered.
-ghost use Rattle.std.specs.Prelude.{◌≡◌, ◌≢◌, ◌≤◌, ◌<◌, ◌+◌, ◌*◌, ◌^◌, ℕ, Bool, [], All, Some, None, length, IfErr, IfSome, OnOk};
+ghost use Rattle.std.specs.Prelude.{◌≡◌, ◌≢◌, ◌≤◌, ◌<◌, ◌+◌, ◌*◌, ℕ, Bool, [], All, Some, None, length, IfErr, IfSome, OnOk};
 ghost use Rattle.block_disk.specs.Counts.{HasRisen};
-ghost use Rattle.block_disk.specs.View.{Now, Only};
 ghost use Rattle.chart_frames.specs.Frames.{Fits};
 ghost use Rattle.chart_world.specs.Faults.{CountsFault, fault_in};
-ghost use Rattle.chart_world.specs.Reading.{IsReadUp};
 ghost use Rattle.gate_pages.specs.Pages.{GoesOn};
 ghost use Rattle.series_book.specs.Edits.{IsEdit};
 ghost use Rattle.series_book.specs.EditLists.{after_edits};
 ghost use Rattle.series_store.specs.Results.{IsUnchanged};
 ghost use Rattle.stored_book.specs.Standing.{StandsForBook};
-ghost use Rattle.chart_service.specs.Answering.{SendsAll, EndsBy, LastsBy, ReadsByLines, SyncsByLines, EndsAtBad, AnswersOn, StopsOn, LeavesBy, LeavesTold, ReadsAsFirst};
+ghost use Rattle.chart_service.specs.Answering.{EndsAtBad, AnswersOn, StopsOn, LeavesBy, LeavesTold, ReadsAsFirst};
 ghost use Rattle.chart_service.specs.Knowing.{Follows, KnowsOpen, EndsKnown};
 ghost use Rattle.chart_service.specs.EditGroups.{IsEditReply, SpelledBy};
 ghost use Rattle.chart_service.specs.Faulting.{answer_fault};
-ghost use Rattle.chart_service.specs.Making.{AreMade, AreMadeFrom, FrameSent, FrameStops, FramesCut, FramesMoments, FramesSent, IsReplyEnd, FrameMoments};
+ghost use Rattle.chart_service.specs.Making.{FrameSent, FrameStops, FramesCut, FramesMoments, FramesSent, IsReplyEnd, FrameMoments};
 ghost use Rattle.chart_service.specs.Naming.{GivesBy};
 ghost use Rattle.chart_service.specs.Serving.{KeepsPages, Serves, most_ahead, unless_empty};
 ghost use Rattle.chart_service.specs.Shown as shown;
 ghost use Rattle.chart_service.specs.Syncing.{edit_of, group_syncs};
 
 use crate::failure::{AnswerEnd, ServeEnd};
-use crate::gathering::edits_ready;
 use crate::refusals::refused;
 use crate::replying::Reply;
 use crate::service::Service;
 use block_disk::Streams;
 use chart_frames::Frame;
-use chart_world::{LineAnswer, Lines};
 use gate_pages::PageWorld;
 use series_book::{Edit, Refusal};
-
-/// Answers each line of the input that isn't empty, in order, by sending the bytes that `reply` makes of
-/// its frame. A line of more than 8,192 bytes is refused as too long. After `Ok` the input was read to its
-/// end.
-///
-/// Consecutive edits whose lines stand ready are done together, up to 64, and then answered; nothing is
-/// taken from the input before.
-pub fn answer_lines<P: PageWorld, S, F, R: Reply<S, F>>(
-    service: &mut Service<P>,
-    reply: &R,
-    kept: &mut S,
-) -> Result<(), AnswerEnd<F>>
-    requires { (shown.view service.old).fit }
-    ensures done { shown.ForBook service.old (λ total book. OnOk result (SendsAll P.left P.sent (AreMade R.makes kept.old kept.new) total book service.old service.new)) }
-    ensures within { OnOk result (IfSome (P.left (shown.pages service.old)) (λ input. length input ≤ 2 ^ 32)) }
-    ensures ends { shown.ForBook service.old (λ total book. IfErr result (EndsBy P.left P.sent R.makes kept.old kept.new total book service.old service.new)) }
-    // at each moment a crash leaves a book with each edit whose bytes were sent by then, and at most 64 edits more
-    ensures crash { shown.ForBook service.old (λ total book. LastsBy P.left P.sent (AreMadeFrom R.makes kept.old) total book service.old service.new) }
-    // blocks are read for lines alone, for each as few as its request may read
-    ensures reads { shown.ForBook service.old (λ total book. ReadsByLines P.left total book service.old service.new) }
-    // edits whose lines stand ready are committed together
-    ensures syncs { shown.ForBook service.old (λ total book. SyncsByLines P.left P.pieces total book service.old service.new) }
-    // whatever the pages are
-    ensures whole { OnOk result (IsReadUp (P.left (shown.pages service.old)) (P.left (shown.pages service.new))) }
-    ensures long { result ≡ Err (AnswerEnd.Serve ServeEnd.InputTooLong) → IfSome (P.left (shown.pages service.old)) (λ input. 2 ^ 32 < length input) }
-    ensures read { result ≡ Err (AnswerEnd.Serve ServeEnd.ReadFault) → HasRisen (P.read_faults (shown.pages service.old)) (P.read_faults (shown.pages service.new)) }
-    ensures send { result ≡ Err (AnswerEnd.Serve ServeEnd.SendFault) → HasRisen (P.send_faults (shown.pages service.old)) (P.send_faults (shown.pages service.new)) }
-    ensures disk { result ≡ Err (AnswerEnd.Serve ServeEnd.DiskFault) → HasRisen (shown.view service.old).faults (shown.view service.new).faults }
-    ensures faults { CountsFault (fault_in answer_fault result) (shown.view service.old) (shown.view service.new) }
-    // where the open sessions are known, a frame whose bytes weren't made names known ones
-    ensures known { (knows : S → ℕ → Bool) → Follows R.makes knows → KnowsOpen knows kept.old service.old.sessions → IfErr result (EndsKnown R.makes knows) }
-    // each frame that closes a session or answers in it names one that is open by those before it
-    ensures gives { GivesBy R.makes kept.old kept.new service.old.sessions service.new.sessions (P.sent (shown.pages service.old)) (P.sent (shown.pages service.new)) result }
-    ensures bad { IfErr result (EndsAtBad (shown.IsTold service.new) (shown.view service.new).size (shown.image service.new)) }
-    ensures serves { Serves (shown.IsTold service.old) (shown.IsTold service.new) (shown.view service.old) (shown.view service.new) }
-    ensures goes_on { GoesOn (shown.under service.old) (shown.under service.new) }
-    ensures sound { result ≢ Err (AnswerEnd.Serve ServeEnd.DiskFault) → (shown.view service.new).fit }
-    ensures rests { result ≢ Err (AnswerEnd.Serve ServeEnd.DiskFault) → Only (shown.image service.new) (Now (shown.view service.new)) }
-    ensures total { shown.total service.new ≡ shown.total service.old }
-{
-    let mut lines = Lines::new(service.alloc)?;
-    'lines: loop {
-        match lines.next(service)? {
-            LineAnswer::End => return Ok(()),
-            LineAnswer::TooLong => answer_long_line(service, reply, kept)?,
-            LineAnswer::Line => match edits_ready(service.alloc, &mut lines)? {
-                Some(edits) => answer_edits(service, edits.as_slice(), reply, kept)?,
-                None => answer_line(service, lines.line(), reply, kept)?,
-            },
-        }
-    }
-}
 
 /// Answers the lines that spell these edits: does the edits, and then sends their replies one by one.
 pub fn answer_edits<P: PageWorld, S, F, R: Reply<S, F>>(

@@ -16,7 +16,7 @@ pub enum ServiceError {
     NoMemory,
 }
 
-/// Why `serve` didn't answer all lines of its input. What the lines before did stays.
+/// Why serving didn't answer all lines of its input. What the lines before did stays.
 #[derive(Clone, Copy, Debug, Error)]
 pub enum ServeEnd {
     /// A take failed. Each line that ended before was answered.
@@ -39,7 +39,7 @@ pub enum ServeEnd {
     NoMemory,
 }
 
-/// Why `answer_lines` didn't answer all lines of its input. What the lines before did stays.
+/// Why not all lines of an input were answered. What the lines before did stays.
 #[derive(Drop)]
 pub enum AnswerEnd<F> {
     /// As a serving ends.

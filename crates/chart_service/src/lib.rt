@@ -11,8 +11,8 @@
 //! - A view with a filter, and a zoom or pan of one, is answered by the rows of the points that it
 //!   keeps, and leaves the list of coefficients that the client keeps.
 //!
-//! `answer_lines` answers the lines of the stream that stands beside the pages, each by the bytes that a
-//! `Reply` makes of its frame; `serve` does so by the frames' spellings. After a fault
+//! `answer_line`, `answer_long_line` and `answer_edits` send the bytes that a `Reply` makes of the frames
+//! that answer lines; served_lines gives them the lines of the stream beside the pages. After a fault
 //! of the disk the store has to be opened again; with every other error nothing was committed for the
 //! request, and its session may be closed. Invariant: the last view of each session is of a series that
 //! the store has. Drawing is the client's.
@@ -33,7 +33,6 @@ mod replying;
 mod selecting;
 mod service;
 mod service_calls;
-mod serving;
 mod shown;
 mod shown_rows;
 mod stepping;
@@ -41,10 +40,9 @@ mod streams;
 mod viewing;
 mod viewport;
 
-pub use answers::{answer_edits, answer_line, answer_lines, answer_long_line};
+pub use answers::{answer_edits, answer_line, answer_long_line};
 pub use failure::{AnswerEnd, ServeEnd, ServiceError};
 pub use gathering::edit_in;
 pub use refusals::refused;
 pub use replying::Reply;
 pub use service::Service;
-pub use serving::serve;

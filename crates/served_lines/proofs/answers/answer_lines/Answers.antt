@@ -1,16 +1,17 @@
-use Rattle.std.proofs.Common.{rules, refl, subst, arith}
+use Rattle.std.proofs.Common.{rules, refl, subst}
 use Rattle.std.specs.Prelude.{OnOk}
 use Rattle.chart_service.specs.Making.{AreMade}
 use Rattle.chart_service.specs.Answering.{SendsAll}
 use Rattle.chart_world.specs.Reading.{unread_input}
 use Rattle.zoom_session.specs.Sessions.{is_open}
 use Rattle.chart_service.specs.Shown as shown
+use Rattle.chart_service.specs.Stepping.{state_of}
 use Rattle.chart_service.specs.declared.failure.AnswerEnd.TheVariants.{Serve}
 use Rattle.chart_service.specs.declared.failure.ServeEnd.TheVariants.{NoMemory}
 use Rattle.chart_service.proofs.Naming.{first_memory, gives_none}
 use Rattle.chart_service.proofs.Stands.{far_first, lasts_first, no_memory_first}
-use Rattle.chart_service.proofs.SyncLemmas.{sync_all, sync_first}
-use Rattle.chart_service.proofs.TurnLemmas.{read_all, read_first}
+use Rattle.chart_service.proofs.SyncLemmas.{sync_none}
+use Rattle.chart_service.proofs.TurnLemmas.{no_line_read}
 use Rattle.served_lines.proofs.answers.answer_lines.Goals as goal
 
 pub returns-in-Err-clause-ends : goal.returns-in-Err-clause-ends
@@ -34,19 +35,12 @@ returns-in-Err-clause-crash g c = λ total book told stands.
 pub returns-in-Err-clause-reads : goal.returns-in-Err-clause-reads
 returns-in-Err-clause-reads g c = λ total book told stands.
     let it = c.args.service.now in
-    let left = g.P.Streams.left (shown.pages it) in
-    let reads = (shown.view it).reads in
-    read_all left total book it.sessions reads unread_input left (shown.view it).image it.sessions reads
-    (read_first left total book it.sessions reads (shown.view it).image unread_input stands refl)
+    no_line_read (g.P.Streams.left (shown.pages it)) (state_of book total it.sessions) (shown.view it).reads
 
 pub returns-in-Err-clause-syncs : goal.returns-in-Err-clause-syncs
 returns-in-Err-clause-syncs g c = λ total book told stands.
     let it = c.args.service.now in
-    let left = g.P.Streams.left (shown.pages it) in
-    let pieces = g.P.Streams.pieces (shown.pages it) in
-    let syncs = (shown.view it).syncs in
-    sync_all left total book syncs pieces unread_input left (shown.view it).image syncs pieces syncs pieces refl (omega arith)
-    (sync_first left total book syncs pieces (shown.view it).image unread_input stands refl)
+    sync_none (g.P.Streams.left (shown.pages it)) total book (shown.view it).syncs (g.P.Streams.pieces (shown.pages it))
 
 pub returns-in-Err-clause-gives : goal.returns-in-Err-clause-gives
 returns-in-Err-clause-gives g c =
