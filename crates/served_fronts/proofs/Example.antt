@@ -1,20 +1,19 @@
 -- The example worked through.
-use Rattle.std.proofs.Common.{◌≡◌, ℕ, ℤ, pos, zero, suc, ◌+◌, ◌-◌, ◌<◌, ◌≤◌, ◌^◌, Bool, true, false, List, [], ◌∷◌, ◌++◌, length, take, Option, None, Some, Result, Ok, Err, slice_get, refl, sym, ap, subst, ◌∙◌, arith, inl, inr, length-append}
-use Rattle.std.specs.Prelude.{◌⊎◌, nat_lt, nat_le, if◌then◌else◌, codes}
+use Rattle.std.proofs.Common.{◌≡◌, ℕ, ℤ, pos, suc, ◌+◌, ◌-◌, ◌≤◌, ◌^◌, true, false, List, [], ◌∷◌, ◌++◌, length}
+use Rattle.std.proofs.Common.{take, Option, None, Some, Result, Ok, Err, slice_get}
+use Rattle.std.proofs.Common.{refl, sym, ap, subst, ◌∙◌, arith, inl, inr, length-append}
+use Rattle.std.specs.Prelude.{◌⊎◌, nat_le, if◌then◌else◌, codes}
 use Rattle.std.proofs.lemmas.Bool.{le-ltb}
-use Rattle.block_disk.specs.View.{Image}
 use Rattle.block_disk.specs.Streams.{sent_after}
 use Rattle.gate_pages.specs.Journal.{page_count}
-use Rattle.stored_book.specs.Standing.{RecoversTo}
 use Rattle.series_book.specs.declared.one_series.Series.{Series}
 use Rattle.series_book.specs.declared.refusals.Refusal.TheVariants.{Full}
 use Rattle.series_book.specs.Edits.{id_of, created, appended, fitted}
 use Rattle.whole_number.specs.SlotTimes.{ends_in_time}
-use Rattle.series_book.specs.Pages.{count_below, range_has_value, ranges_with_value, level_pages, first_covering, page_levels, series_pages, pages_of}
+use Rattle.series_book.specs.Pages.{count_below, range_has_value, ranges_with_value, level_pages}
+use Rattle.series_book.specs.Pages.{first_covering, page_levels, series_pages, pages_of}
 use Rattle.request_lines.specs.declared.requests.Request.{Request}
 use Rattle.request_lines.specs.declared.ranges.RangeWord.TheVariants.{Fixed}
-use Rattle.request_lines.specs.Requests.{read_line}
-use Rattle.value_filter.specs.declared.steps.Step.{Step}
 use Rattle.zoom_session.specs.declared.view_spec.ViewSpec.{ViewSpec}
 use Rattle.zoom_session.specs.declared.view_spec.RangeSpec.{RangeSpec}
 use Rattle.plain_chart.specs.declared.sample.Sample.{Sample}
@@ -27,11 +26,12 @@ use Rattle.chart_service.specs.Serving.{told}
 use Rattle.chart_service.specs.Viewing.{kept_by, ShowsRange}
 use Rattle.served_fronts.specs.Books.{Line, after_line, after_lines, after_request, or_same}
 use Rattle.served_fronts.specs.Fronts.{Draws}
-use Rattle.served_fronts.specs.Answers.{Answer, AreAnswers, ArePictures, FitsRead, FitsLine, FitsIn, CantShow, HasPicture, IsAsked, IsPicture, Keeps}
+use Rattle.served_fronts.specs.Answers.{Answer, AreAnswers, ArePictures, FitsRead, FitsLine}
+use Rattle.served_fronts.specs.Answers.{FitsIn, CantShow, HasPicture, IsAsked, IsPicture, Keeps}
 use Rattle.served_fronts.specs.Answers.{OpenSession, Reply, opened, closed, shown, no_picture, after_reply, bytes_of, whole_in}
 use Rattle.served_fronts.specs.Laws.{ChartsHaveOnePicture}
-use Rattle.served_fronts.specs.Headline.{Task, Run, serves, Says, LeavesBook, IsExact, AreRuns, AreExact, ChartsAreExact}
-use Rattle.served_fronts.specs.Example.{first_input, second_input, book_with, bitmap, IsDrawnAfter, TheExampleIsDrawn}
+use Rattle.served_fronts.specs.Headline.{Task, Run, Says, LeavesBook, IsExact, AreExact, ChartsAreExact}
+use Rattle.served_fronts.specs.Example.{first_input, second_input, book_with, bitmap, TheExampleIsDrawn}
 use Rattle.served_fronts.proofs.Fronts.{high_of}
 use Rattle.served_fronts.proofs.ExampleLines.{first_lines, second_lines, read_open, read_create, read_append, read_one, read_view}
 use Rattle.served_fronts.proofs.ExampleChart.{canvas, its_bytes, two_samples, kept_two, kept_three, chart}
@@ -46,14 +46,16 @@ unfolding created id_of
 after_create total = ap (after_request total []) read_create
 
 after_append : (total : ℕ) → 62 ≤ total → after_line total empty (Some (codes "append A 0 3")) ≡ book_with []
-unfolding ends_in_time id_of appended fitted pages_of series_pages page_levels first_covering level_pages ranges_with_value range_has_value count_below
+unfolding ends_in_time id_of appended fitted pages_of series_pages page_levels first_covering level_pages ranges_with_value
+    range_has_value count_below
 after_append total large =
     ap (after_request total empty) read_append
     ∙ ap (λ full. or_same empty (if full then Err (Full 18 total) else Ok (record { book = book_with []; slots = 2 })))
     (le-ltb total 18 (omega (arith, large)))
 
 after_one : (total : ℕ) → 62 ≤ total → after_line total (book_with []) (Some (codes "append A 1")) ≡ book_with (Some (pos 1) ∷ [])
-unfolding ends_in_time id_of appended fitted pages_of series_pages page_levels first_covering level_pages ranges_with_value range_has_value count_below
+unfolding ends_in_time id_of appended fitted pages_of series_pages page_levels first_covering level_pages ranges_with_value
+    range_has_value count_below
 after_one total large =
     ap (after_request total (book_with [])) read_one
     ∙ ap (λ full. or_same (book_with []) (if full then Err (Full 18 total)
@@ -69,7 +71,8 @@ as_many total book sessions (x ∷ xs) (a ∷ l) fit =
 
 few_whole : (n : ℕ) (answers : List Answer) → length (whole_in n answers) ≤ length answers
 few_whole n [] = omega arith
-few_whole n (a ∷ l) = elim (nat_le (length a.bytes) n) as (λ b. length (if b then a ∷ whole_in (n - length a.bytes) l else []) ≤ suc (length l)) [
+few_whole n (a ∷ l) = elim (nat_le (length a.bytes) n) as (λ b. length (if b then a ∷ whole_in (n - length a.bytes) l else [])
+    ≤ suc (length l)) [
   | true ↦ omega (arith, few_whole (n - length a.bytes) l)
   | false ↦ omega arith
 ]
@@ -90,19 +93,22 @@ book_after : (total : ℕ) (lines : List Line) → 62 ≤ total
     ⊎ (lines ≡ Some (codes "create A 0 4 0") ∷ Some (codes "append A 0 3") ∷ Some (codes "append A 1") ∷ [])
     → MayHold (after_lines total [] lines)
 book_after total lines large (inl is) =
-    inl (ap (after_lines total []) is ∙ ap (λ b. after_line total b (Some (codes "append A 0 3"))) (after_create total) ∙ after_append total large)
+    inl (ap (after_lines total []) is ∙ ap (λ b. after_line total b (Some (codes "append A 0 3"))) (after_create total)
+    ∙ after_append total large)
 book_after total lines large (inr is) =
     let second = ap (λ b. after_line total b (Some (codes "append A 0 3"))) (after_create total) ∙ after_append total large in
     inr (ap (after_lines total []) is ∙ ap (λ b. after_line total b (Some (codes "append A 1"))) second ∙ after_one total large)
 
-held_by : (total : ℕ) (first : Run) (book : List Series) → 62 ≤ total → first.input ≡ first_input → (leaves : LeavesBook total [] first book)
+held_by : (total : ℕ) (first : Run) (book : List Series) → 62 ≤ total → first.input ≡ first_input
+    → (leaves : LeavesBook total [] first book)
     → 2 ≤ length (whole_in first.by_then leaves.answers) → MayHold book
 held_by total first book large input leaves many =
     let size = as_many total [] [] leaves.lines leaves.answers leaves.first.fit in
     let low = few_whole first.by_then leaves.answers in
     let split = sym first_lines ∙ ap told (sym input) ∙ leaves.first.split in
     let some : 2 ≤ length leaves.lines = omega (arith, many, size, low) in
-    let after = book_after total leaves.lines large (two_or_three (Some (codes "create A 0 4 0")) (Some (codes "append A 0 3")) (Some (codes "append A 1"))
+    let after = book_after total leaves.lines large (two_or_three (Some (codes "create A 0 4 0")) (Some (codes "append A 0 3"))
+    (Some (codes "append A 1"))
     leaves.lines leaves.first.later split some) in
     subst MayHold (sym leaves.next_is) after
 
@@ -144,7 +150,8 @@ record ShowsIt (values : List (Option ℤ)) (reply : Reply) : Type 0 where
   keeps : Keeps (book_with values) view samples
 
 shows_it : (values : List (Option ℤ)) (reply : Reply)
-    → FitsIn (book_with values) 1 (λ s view. Asks values view) (λ s. CantShow (book_with values) (codes "A") 8 4 (pos 0) (pos 8) (Fixed (pos 0) (pos 3)) None s) (Some session) reply
+    → FitsIn (book_with values) 1 (λ s view. Asks values view) (λ s. CantShow (book_with values) (codes "A") 8 4 (pos 0) (pos 8)
+    (Fixed (pos 0) (pos 3)) None s) (Some session) reply
     → ShowsIt values reply
 shows_it values (opened m cache) fit = absurd fit
 shows_it values (closed m) fit = absurd fit
@@ -211,9 +218,11 @@ place_or None = 0
 place_or (Some n) = n
 
 abbrev KeepsTwo : List (Option ℤ) → Type 0
-KeepsTwo values = (view : ViewSpec) (samples : List Sample) → Asks values view → Keeps (book_with values) view samples → samples ≡ two_samples
+KeepsTwo values = (view : ViewSpec) (samples : List Sample) → Asks values view → Keeps (book_with values) view samples
+    → samples ≡ two_samples
 
-the_series : (values : List (Option ℤ)) (view : ViewSpec) (series : Series) → Asks values view → slice_get (book_with values) view.series ≡ Some series
+the_series : (values : List (Option ℤ)) (view : ViewSpec) (series : Series) → Asks values view
+    → slice_get (book_with values) view.series ≡ Some series
     → series ≡ record { name = codes "A"; start = pos 0; step = 4; scale = 0; slots = Some (pos 0) ∷ Some (pos 3) ∷ values }
 unfolding id_of
 the_series values view series asked stored =
@@ -223,13 +232,14 @@ the_series values view series asked stored =
 keeps_without : KeepsTwo []
 keeps_without view samples asked keeps =
     keeps.are ∙ ap (kept_by view) (the_series [] view keeps.series asked keeps.stored)
-    ∙ unfiltered view (record { start = pos 0; step = 4; slots = 2 }) (Some (pos 0) ∷ Some (pos 3) ∷ []) two_samples asked.filter (kept_two view.grid asked.window)
+    ∙ unfiltered view (record { start = pos 0; step = 4; slots = 2 }) (Some (pos 0) ∷ Some (pos 3) ∷ []) two_samples asked.filter
+    (kept_two view.grid asked.window)
 
 keeps_with : KeepsTwo (Some (pos 1) ∷ [])
 keeps_with view samples asked keeps =
     keeps.are ∙ ap (kept_by view) (the_series (Some (pos 1) ∷ []) view keeps.series asked keeps.stored)
-    ∙ unfiltered view (record { start = pos 0; step = 4; slots = 3 }) (Some (pos 0) ∷ Some (pos 3) ∷ Some (pos 1) ∷ []) two_samples asked.filter
-    (kept_three view.grid asked.window)
+    ∙ unfiltered view (record { start = pos 0; step = 4; slots = 3 }) (Some (pos 0) ∷ Some (pos 3) ∷ Some (pos 1) ∷ [])
+    two_samples asked.filter (kept_three view.grid asked.window)
 
 whole_all : (n : ℕ) (answers : List Answer) → length (bytes_of answers) ≤ n → whole_in n answers ≡ answers
 whole_all n [] low = refl
@@ -251,7 +261,8 @@ nothing_behind [] = refl
 nothing_behind (x ∷ xs) = ap (λ l. x ∷ l) (nothing_behind xs)
 
 module _ (one : ChartsHaveOnePicture) where
-  its_picture : (view : ViewSpec) (samples : List Sample) (bytes : List ℕ) (values : List (Option ℤ)) → Asks values view → samples ≡ two_samples
+  its_picture : (view : ViewSpec) (samples : List Sample) (bytes : List ℕ) (values : List (Option ℤ)) → Asks values view
+      → samples ≡ two_samples
       → IsPicture view samples bytes → bytes ≡ bitmap
   its_picture view samples bytes values asked are is =
       let S : RangeSpec → Type 0 = λ r. ShowsRange r (values_of samples) is.range in
@@ -301,7 +312,8 @@ module _ (one : ChartsHaveOnePicture) where
       let B : List Series → Type 0 = λ b. Says total b second in
       drawn_over total (Some (pos 1) ∷ []) second left before now keeps_with input (subst B is says) status small draws
 
-exact_behind : (total : ℕ) (book : List Series) (run : Run) (later : List Run) → (steps : AreExact total book (run ∷ later)) → AreExact total steps.0 later
+exact_behind : (total : ℕ) (book : List Series) (run : Run) (later : List Run) → (steps : AreExact total book (run ∷ later))
+    → AreExact total steps.0 later
 exact_behind total book run later steps = steps.2
 
 pub worked : ChartsAreExact → ChartsHaveOnePicture → TheExampleIsDrawn

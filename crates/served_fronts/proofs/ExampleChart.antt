@@ -1,5 +1,6 @@
 -- The chart of the example.
-use Rattle.std.proofs.Common.{◌≡◌, ℕ, ℤ, pos, zero, suc, ◌+◌, ◌*◌, ◌/◌, ◌<◌, ◌≤◌, Bool, true, false, List, [], ◌∷◌, ◌++◌, Option, None, Some, slice_get, refl, sym, ap, subst, ◌∙◌, arith, inl, inr}
+use Rattle.std.proofs.Common.{◌≡◌, ℕ, ℤ, pos, zero, suc, ◌+◌, ◌*◌, ◌/◌, ◌<◌, ◌≤◌, Bool, true, false, List}
+use Rattle.std.proofs.Common.{[], ◌∷◌, ◌++◌, Option, None, Some, slice_get, refl, sym, ap, subst, ◌∙◌, arith, inl, inr}
 use Rattle.std.specs.Prelude.{◌⊎◌, ◌↔◌, ◌&&◌, IsTrue, int_le, int_lt, unsigned_abs, if◌then◌else◌, slice_index_or, codes}
 use Rattle.std.specs.List.{enumerate_from, filter_map}
 use Rattle.chart_grid.specs.declared.grid.Grid.{Grid}
@@ -82,7 +83,8 @@ on_line n x y low column row = inr (record {
 drawn : (x y : ℕ) → y < 4 → OneOf (0 ∷ 5 ∷ 10 ∷ 14 ∷ 19 ∷ []) (0 + (x * 4 + y)) → InRaster two x (pos y)
 drawn x y low (inl at) = on_line 0 x y (omega arith) (omega (arith, low, at)) (let is : y ≡ 0 = omega (arith, low, at) in ap pos is)
 drawn x y low (inr (inl at)) = on_line 1 x y (omega arith) (omega (arith, low, at)) (let is : y ≡ 1 = omega (arith, low, at) in ap pos is)
-drawn x y low (inr (inr (inl at))) = on_line 2 x y (omega arith) (omega (arith, low, at)) (let is : y ≡ 2 = omega (arith, low, at) in ap pos is)
+drawn x y low (inr (inr (inl at))) =
+    on_line 2 x y (omega arith) (omega (arith, low, at)) (let is : y ≡ 2 = omega (arith, low, at) in ap pos is)
 drawn x y low (inr (inr (inr (inl at)))) =
     on_line 3 x y (omega arith) (omega (arith, low, at)) (let is : y ≡ 2 = omega (arith, low, at) in ap pos is)
 drawn x y low (inr (inr (inr (inr (inl at))))) =
@@ -123,7 +125,8 @@ on_segment x y (inl dot) = absurd (omega (arith, dot.no_columns))
 on_segment x y (inr (inl is)) = in_column is.n x y is.reached (omega (arith, is.column)) is.row
 on_segment x y (inr (inr is)) = absurd (omega (arith, is.high))
 
-between : (x y i : ℕ) (p q : Point) → slice_get two i ≡ Some p → slice_get two (i + 1) ≡ Some q → On p q x (pos y) → black_at canvas x y ≡ true
+between : (x y i : ℕ) (p q : Point) → slice_get two i ≡ Some p → slice_get two (i + 1) ≡ Some q → On p q x (pos y)
+    → black_at canvas x y ≡ true
 between x y zero p q here next on =
     let P : Point → Type 0 = λ r. On r q x (pos y) in
     let Q : Point → Type 0 = λ r. On from_point r x (pos y) in

@@ -1,7 +1,6 @@
 -- What the lines of the example are read as.
-use Rattle.std.proofs.Common.{◌≡◌, ℕ, ℤ, pos, List, [], ◌∷◌, ◌++◌, Option, None, Some, Result, Ok, Err, refl}
+use Rattle.std.proofs.Common.{◌≡◌, pos, [], ◌∷◌, None, Some, Ok, refl}
 use Rattle.std.specs.Prelude.{codes}
-use Rattle.request_lines.specs.declared.requests.Request.{Request}
 use Rattle.request_lines.specs.declared.requests.Request.TheVariants.{Edit, Open, View}
 use Rattle.request_lines.specs.Requests.{read_line, create_of, append_of, open_of, view_of, filter_of, value_of}
 use Rattle.request_lines.specs.Grammar.{allows, kind_of, first_misfit, ending_fault, fault, fault_of}
@@ -31,15 +30,18 @@ unfolding read_line create_of allows kind_of ending_fault fault fault_of is_natu
 read_create = refl
 
 pub read_append : read_line (codes "append A 0 3") ≡ Ok (Edit (Append (codes "A") (Some (pos 0) ∷ Some (pos 3) ∷ [])))
-unfolding read_line append_of value_of allows kind_of first_misfit ending_fault fault fault_of is_natural is_integer integer_value is_name_byte
+unfolding read_line append_of value_of allows kind_of first_misfit ending_fault fault fault_of is_natural is_integer integer_value
+    is_name_byte
     is_name
 read_append = refl
 
 pub read_one : read_line (codes "append A 1") ≡ Ok (Edit (Append (codes "A") (Some (pos 1) ∷ [])))
-unfolding read_line append_of value_of allows kind_of first_misfit ending_fault fault fault_of is_natural is_integer integer_value is_name_byte
+unfolding read_line append_of value_of allows kind_of first_misfit ending_fault fault fault_of is_natural is_integer integer_value
+    is_name_byte
     is_name
 read_one = refl
 
 pub read_view : read_line (codes "view 1 A 8 4 0 8 0..3") ≡ Ok (View 1 (codes "A") 8 4 (pos 0) (pos 8) (Fixed (pos 0) (pos 3)) None)
-unfolding read_line view_of filter_of allows kind_of ending_fault fault fault_of is_natural is_integer integer_value is_name_byte is_name is_fixed range_of
+unfolding read_line view_of filter_of allows kind_of ending_fault fault fault_of is_natural is_integer integer_value is_name_byte is_name
+    is_fixed range_of
 read_view = refl
