@@ -11,3 +11,6 @@ pub mod Keeping
 pub mod Starts
 pub mod Exact
 pub mod Witness
+pub mod ExampleLines
+pub mod ExampleChart
+pub mod Example

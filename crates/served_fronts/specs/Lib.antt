@@ -6,3 +6,4 @@ pub mod Laws
 pub mod Headline
 pub mod Servings
 pub mod Witness
+pub mod Example

@@ -6,6 +6,7 @@ ghost use Rattle.served_fronts.specs.Laws.{FirstBytesAgree, ChartsHaveOnePicture
 ghost use Rattle.served_fronts.specs.Headline.{ChartsAreExact};
 ghost use Rattle.served_fronts.specs.Servings.{ServingsAreExact};
 ghost use Rattle.served_fronts.specs.Witness.{StoresCanBe, DisksInMemoryAreHonest};
+ghost use Rattle.served_fronts.specs.Example.{TheExampleIsDrawn};
 
 use chart_frames::laws::{
     length_is_told, more_bytes_mend_nothing, one_frame_a_spelling, spellings_are_good,
@@ -144,3 +145,12 @@ pub fn stores_can_be()
 pub fn disks_in_memory_are_honest()
     ensures { DisksInMemoryAreHonest }
 {}
+
+/// The law on all runs, worked through for the lines of two, with a crash between them: the values that were acknowledged before
+/// the crash are in the book behind it, and `draw` makes this very bitmap of what the second run sent.
+pub fn the_example_is_drawn()
+    ensures { TheExampleIsDrawn }
+{
+    charts_are_exact();
+    charts_have_one_picture();
+}

@@ -1,0 +1,5 @@
+use Rattle.served_fronts.proofs.Example.{worked}
+use Rattle.served_fronts.proofs.laws.the_example_is_drawn.Goals as goal
+
+pub returns : goal.returns
+returns c = worked c.charts_are_exact.ensures c.charts_have_one_picture.ensures
