@@ -166,9 +166,9 @@ def call_by_labels(page):
     """A series with labels is called by these, in the list and in its panel, and found by them."""
     from gateway_server import T
 
-    page.write("\n".join(f"lake,site=north\\ shore v={at % 50} {T + at}" for at in range(500)))
     page.browser.click("#open_picker")
     page.browser.type("#find", "north", ends="")
+    page.write("\n".join(f"lake,site=north\\ shore v={at % 50} {T + at}" for at in range(500)))
     shown = 'lake_v{site="north shore"}'
     listed = "return [...document.querySelectorAll('#rows button.name')].map((it) => it.textContent)"
     wait_for(lambda: page.browser.run(listed) == [shown], lambda: f"found by a label are {page.browser.run(listed)}")
