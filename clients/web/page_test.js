@@ -81,7 +81,8 @@ test("times are spelled, and read again", () => {
   assert.strictEqual(spelled(5n, { unit: "milliseconds", zone: "utc" }), "1970-01-01 00:00:00.005 UTC");
   assert.deepStrictEqual([spelled(2n * 10n ** 18n, UTC), timeOf("1.11.2026", UTC), timeOf("2026-11-01", { unit: "numbers" })], ["2000000000000000000", null, null]);
   const here = { unit: "seconds", zone: "" };
-  assert.strictEqual(timeOf(spelled(time, here), here), time);
+  const summer = secondsOf("2026-06-15T12:34:56Z"); // no clock is put back then, so it is spelled like no other time
+  assert.strictEqual(timeOf(spelled(summer, here), here), summer);
 });
 
 test("ticks stand at round times", () => {

@@ -160,7 +160,7 @@ def main():
             server.origins = origins_of(words.origin, server.server_address[1])
             server.changes, server.streams = Changes(), threading.BoundedSemaphore(MOST_STREAMS)
             server.program = started(words, server.changes)
-            server.sessions = Sessions(server.program)
+            server.sessions = Sessions(server.program, server.changes)
             serve(server, words)
     except Stopped as why:
         print(f"serve.py: {why}", file=sys.stderr)

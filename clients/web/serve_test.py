@@ -23,6 +23,7 @@ from serve_probe import PROGRAM, ROOT, SECONDS, Served, made_store, read_until, 
 
 sys.path.insert(0, os.path.join(ROOT, "clients/python"))
 
+from page_server.changes import Changes  # noqa: E402
 from page_server.sessions import Sessions  # noqa: E402
 
 OPENED, CLOSED, DONE, REFUSED, VIEW = 3, 4, 1, 2, 5
@@ -68,6 +69,12 @@ class Answers(Page):
             self.served.request(b"append a 9")
             told = read_until(stream, b"}]\n\n")
             self.assertIn(b'event: changed\ndata: [{"name": "a", "start": "0", "step": 1, "scale": 1, "slots": 4}]\n\n', told)
+
+    def test_a_page_is_told_what_changed_before_its_stream_stood(self):
+        self.served.request(b"open 1")
+        self.served.request(b"append a 9")
+        with self.served.events(1) as stream:
+            self.assertIn(b'[{"name": "a", "start": "0", "step": 1, "scale": 1, "slots": 4}]', read_until(stream, b"}]\n\n"))
 
     def test_what_no_page_of_this_server_sends_is_refused(self):
         edit = b"append a 9"
@@ -137,7 +144,7 @@ class Sweeps(unittest.TestCase):
     def test_sessions_of_nobody_are_closed_within_a_minute(self):
         program = self.Program()
         self.addCleanup(program.over.set)
-        sessions = Sessions(program)
+        sessions = Sessions(program, Changes())
         for line in (b"open 1", b"open 2", b"open 3"):
             sessions.answer(line)
         held = sessions.attach(b"2")
@@ -153,13 +160,15 @@ class Sweeps(unittest.TestCase):
     def test_who_is_idle_longest_gives_way_first_those_that_no_page_holds(self):
         program = self.Program()
         self.addCleanup(program.over.set)
-        sessions = Sessions(program)
+        sessions = Sessions(program, Changes())
         for line in (b"open 1", b"open 2", b"open 3"):
             sessions.answer(line)
         sessions.attach(b"1")
+        for session in sessions.held.values():
+            session.asked += 10 * SECONDS
         self.assertFalse(sessions.make_room())
         for number, idle in ((b"1", 500), (b"2", 10), (b"3", 20)):
-            sessions.held[number].asked -= idle
+            sessions.held[number].asked -= 10 * SECONDS + idle
         self.assertTrue(sessions.make_room() and sessions.make_room() and sessions.make_room())
         self.assertEqual(program.lines[-3:], [b"close 3", b"close 2", b"close 1"])
 

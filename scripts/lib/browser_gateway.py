@@ -3,12 +3,13 @@ import os
 import signal
 import subprocess
 import sys
+import time
 
 import browser_lines
 import browser_page
 from browser_driver import require, wait_for
 from browser_page import PROGRAM, ROOT, Page
-from built_program import Failed
+from built_program import SECONDS, Failed
 
 sys.path[:0] = [os.path.join(ROOT, "clients/python"), os.path.join(ROOT, "clients/python/tests")]
 
@@ -37,6 +38,17 @@ class Behind(Page):
         (name,) = told["names"]
         self.store = self.stores[name]
         return super().wanted(number, told, size)
+
+    def compare(self):
+        """Waits until all canvases are what `draw` makes. What a write changes in two stores is told in two parts, and drawn in two."""
+        ends = time.monotonic() + SECONDS
+        while True:
+            try:
+                return super().compare()
+            except Failed:
+                if time.monotonic() > ends:
+                    raise
+                time.sleep(0.02)
 
     def write(self, lines):
         status, text = self.gateway.write(lines)
@@ -123,8 +135,6 @@ def draw_in_a_crowd(page):
 
 def show_alarms(page):
     """An alarm that stands is told in a strip, aloud and by name, and goes when it ends."""
-    import time
-
     now, none = int(time.time()), {"hidden": True, "count": "", "items": []}
     page.open("panel=tide_v&zone=utc")
     page.do(lambda: page.write(f"sea v=950.5 {now}\ntide v=3 {now}"))
@@ -156,9 +166,9 @@ def call_by_labels(page):
     """A series with labels is called by these, in the list and in its panel, and found by them."""
     from gateway_server import T
 
-    page.write("\n".join(f"lake,site=north\\ shore v={at % 50} {T + at}" for at in range(500)))
     page.browser.click("#open_picker")
     page.browser.type("#find", "north", ends="")
+    page.write("\n".join(f"lake,site=north\\ shore v={at % 50} {T + at}" for at in range(500)))
     shown = 'lake_v{site="north shore"}'
     listed = "return [...document.querySelectorAll('#rows button.name')].map((it) => it.textContent)"
     wait_for(lambda: page.browser.run(listed) == [shown], lambda: f"found by a label are {page.browser.run(listed)}")
@@ -171,9 +181,7 @@ def call_by_labels(page):
 
 def lose_gateway(page):
     """A gateway that is gone is told, and one that comes back is used; what stood when it went is marked as old."""
-    import time
-
-    page.write(f"sea v=1000 {int(time.time())}")
+    page.write(f"sea v=1000 {int(time.time()) + 60}")  # behind all that was written before, however fast this is
     wait_for(lambda: page.alarms()["count"] == "1 alarm stands", lambda: f"the strip says {page.alarms()}")
     require(page.gateway.stop() == 0, "the gateway doesn't end well")
     wait_for(lambda: page.read()["state"] == "cut", lambda: f"the page says {page.read()['status']}")

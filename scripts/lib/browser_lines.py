@@ -115,9 +115,10 @@ def draw_pushes(page):
     """Each edit is drawn as it comes, in the panels that show its series."""
     page.open(f"panel=few&panel=sea&from={START}&to={START + 100 * STEP}")
     page.do(lambda: page.browser.type("#line", f"set sea {START + 50 * STEP} 7777"))
-    told = page.read()
     slots = (page.end("sea") - START) // STEP
-    require(told["answer"] == f"done: {slots} slots" and told["panels"][1]["label"].endswith("to 7777"), f"the corrected value isn't drawn: {told}")
+    wait_for(lambda: page.read()["answer"] == f"done: {slots} slots", lambda: f"an edit is answered by {page.read()['answer']!r}")
+    told = page.read()
+    require(told["panels"][1]["label"].endswith("to 7777"), f"the corrected value isn't drawn: {told}")
     page.compare()
     drawn = [panel["drawings"] for panel in told["panels"]]
     for value in (9000, -5000, 12):

@@ -1,4 +1,5 @@
 """Alarms of a gateway: what begins and ends them, that each is told once, also behind kills, and what a command is given."""
+import asyncio
 import http.client
 import http.server
 import json
@@ -9,6 +10,7 @@ import threading
 import time
 import types
 import unittest
+import unittest.mock
 from decimal import Decimal
 
 from gateway_server import SECOND, Gateway, T, require_all
@@ -98,6 +100,30 @@ class Watches(unittest.TestCase):
                     configuration.read(file.name)
                 self.assertIn(f"line {line}:", str(caught.exception))
                 self.assertIn(words, str(caught.exception))
+
+
+class Kept(unittest.IsolatedAsyncioTestCase):
+    async def test_the_file_is_written_by_one_at_a_time(self):
+        given = types.SimpleNamespace(alarms=None, alarm=[], read=None, stores=types.SimpleNamespace(folder="/nowhere"))
+        kept = alarms.Alarms(given, None, None, None)
+        done, begun, may_end = [], threading.Event(), threading.Event()
+
+        def replace(*_):
+            done.append("begin")
+            begun.set()
+            may_end.wait(SECONDS)
+            done.append("end")
+
+        with unittest.mock.patch.object(alarms, "replace", replace):
+            first = asyncio.create_task(kept._keep())
+            await asyncio.to_thread(begun.wait, SECONDS)
+            # Who waits for it is broken off, and it goes on all the same.
+            first.cancel()
+            second = asyncio.create_task(kept._keep())
+            await asyncio.sleep(0.1)
+            may_end.set()
+            await second
+        self.assertEqual(done, ["begin", "end"] * 2)
 
 
 class Told(unittest.TestCase):

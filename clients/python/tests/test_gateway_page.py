@@ -164,6 +164,13 @@ class Pushes(Viewed):
             self.require_exact(viewers, lambda _: [words])
         self.assertNotEqual(self.gateway.children(), [child])
 
+    def test_what_changes_before_the_stream_stands_is_told(self):
+        viewer = Viewer(self.gateway.port, 5)
+        viewer.open()
+        self.require_written(f"sea v=1 {T + SLOTS}")
+        self.addCleanup(viewer.listen().hang_up)
+        self.assertEqual(viewer.changed(), {"sea_v": slots_of(viewer, "sea_v")})
+
     def test_a_new_series_is_told(self):
         (viewer,) = self.viewers(1)
         self.require_written(f"fresh v=1 {T}")

@@ -108,8 +108,13 @@ class Growing(unittest.TestCase):
             try:
                 self.assertEqual(gateway.write("\n".join(f"w,n={at} v={at} {T}" for at in range(31)))[0], 204)
                 self.assertEqual(gateway.write("\n".join(f"w,n={at} v={at} {T + 1}" for at in range(60)))[0], 204)
-                os.kill(gateway.children()[0], signal.SIGKILL)
+                # A run that is lost in the middle of that.
+                child = gateway.children()[0]
+                os.kill(child, signal.SIGSTOP)
+                killing = threading.Timer(0.5, os.kill, (child, signal.SIGKILL))
+                killing.start()
                 self.assertEqual(gateway.write("\n".join(f"w,n={at} v={at} {T + 2}" for at in range(90)))[0], 204)
+                killing.join()
                 metrics = gateway.metrics()
                 counts = [metrics[f'zurtkvani_gateway_series{{store="{name}.store"}}'] for name in "abc"]
                 self.assertEqual(sum(counts), 90)

@@ -61,16 +61,26 @@ export class Picker {
   /** Lists the series that what is typed finds, and then their last values. */
   async list() {
     const number = (this.number += 1);
-    const { catalog, connection } = this.page;
-    const found = catalog.matching(part("find").value.trim());
+    const { connection } = this.page;
+    const found = this.found();
     this.rows = new Map(found.slice(0, MOST_ROWS).map((series) => [series.name, this.row(series)]));
     part("rows").replaceChildren(...this.rows.values());
-    const more = found.length > MOST_ROWS ? `; the first ${MOST_ROWS} are listed` : "";
-    tell(part("found"), catalog.series.size === 0 ? "This store has no series yet." : `${found.length} of ${catalog.series.size} series${more}.`);
+    this.tellFound(found);
     this.tellChosen();
     for (let at = 0; at < this.rows.size && connection.number && number === this.number; at += AT_ONCE) {
       await this.findLasts(found.slice(at, Math.min(at + AT_ONCE, MOST_ROWS)));
     }
+  }
+
+  /** The series that what is typed finds. */
+  found() {
+    return this.page.catalog.matching(part("find").value.trim());
+  }
+
+  tellFound(found) {
+    const { size } = this.page.catalog.series;
+    const more = found.length > MOST_ROWS ? `; the first ${MOST_ROWS} are listed` : "";
+    tell(part("found"), size === 0 ? "This store has no series yet." : `${found.length} of ${size} series${more}.`);
   }
 
   /** Asks for the last values of some series of the list, and shows them. */
@@ -81,16 +91,28 @@ export class Picker {
     }
   }
 
-  /** Shows what changed of series that are listed, at most once a second. */
+  /** Shows what changed of series that are listed, and lists new ones, at most once a second. */
   refresh(names) {
     names.forEach((name) => this.changed.add(name));
     this.timer ??= setTimeout(() => {
-      const listed = [...this.changed].filter((name) => this.isOpen() && this.rows.has(name)).map((name) => this.page.catalog.get(name));
-      this.timer = null;
-      this.changed.clear();
-      listed.forEach(({ name, slots }) => tell(this.rows.get(name).children[LENGTH], slots.toLocaleString("en")));
-      this.findLasts(listed.slice(0, AT_ONCE));
+      const { changed } = this;
+      [this.timer, this.changed] = [null, new Set()];
+      if (this.isOpen()) {
+        this.listNew(changed);
+        const listed = [...changed].filter((name) => this.rows.has(name)).map((name) => this.page.catalog.get(name));
+        listed.forEach(({ name, slots }) => tell(this.rows.get(name).children[LENGTH], slots.toLocaleString("en")));
+        this.findLasts(listed.slice(0, AT_ONCE));
+      }
     }, EVERY);
+  }
+
+  /** Lists those of some series that aren't listed, though what is typed finds them. */
+  listNew(names) {
+    const found = this.found();
+    const fresh = found.slice(0, MOST_ROWS).filter(({ name }) => names.has(name) && !this.rows.has(name));
+    fresh.forEach((series) => this.rows.set(series.name, this.row(series)));
+    part("rows").append(...fresh.map(({ name }) => this.rows.get(name)));
+    this.tellFound(found);
   }
 
   row(series) {

@@ -167,7 +167,7 @@ class Handler(http.server.BaseHTTPRequestHandler):
 
     def send_changes(self, session):
         program, changes = self.server.program, self.server.changes
-        seen, beaten = changes.count, 0
+        beaten = 0
         while not self.is_left():
             if time.monotonic() - beaten > BEAT:
                 beaten = time.monotonic()
@@ -177,7 +177,7 @@ class Handler(http.server.BaseHTTPRequestHandler):
             if session.over.is_set():
                 return self.event("closed", session.gave_way)
             self.wfile.flush()
-            seen, series = changes.since(seen, 1)
+            session.seen, series = changes.since(session.seen, 1)
             if series:
                 self.event("changed", [page_rules.told(one) for one in series])
                 time.sleep(REST)

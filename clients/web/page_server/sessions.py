@@ -11,7 +11,8 @@ from zurtkvani_client.page_rules import CLOSED, EDITS, GONE, OPENED, SWEEP, TOO_
 
 
 class Session:
-    def __init__(self):
+    def __init__(self, seen):
+        self.seen = seen  # how many changes its page was told, or had been before it was opened
         self.asked, self.streams, self.over, self.gave_way = time.monotonic(), 0, threading.Event(), False
 
     def idle(self):
@@ -19,8 +20,8 @@ class Session:
 
 
 class Sessions:
-    def __init__(self, program):
-        self.program, self.lock, self.held = program, threading.RLock(), {}
+    def __init__(self, program, changes):
+        self.program, self.changes, self.lock, self.held = program, changes, threading.RLock(), {}
         threading.Thread(target=self.sweep, daemon=True).start()
 
     def answer(self, line):
@@ -45,7 +46,7 @@ class Sessions:
     def note(self, number, frame):
         if frame[4] == OPENED:
             self.let_go(number)
-            self.held[number] = Session()
+            self.held[number] = Session(self.changes.count)
         elif frame[4] == CLOSED or refusal_in(frame) == UNKNOWN_SESSION:
             self.let_go(number)
         elif number in self.held:

@@ -231,6 +231,10 @@ class Alarms:
         self.tellers.wake()
 
     async def _keep(self):
+        """Writes the file, to its end also where who waits for that is broken off, since two at once would spoil it."""
+        await asyncio.shield(asyncio.create_task(self._write()))
+
+    async def _write(self):
         """Writes the file. Where that fails it is tried again, and nothing waits for that."""
         async with self.writing:
             watches = [watch.kept() for watches in self.watches.values() for watch in watches if watch.slot is not None]

@@ -139,7 +139,6 @@ async def events(gateway, request):
 
 async def send_changes(gateway, request, response, viewer):
     news, alarms, beaten, shown = gateway.news, gateway.alarms, float("-inf"), None
-    seen = news.count
     while not (viewer.is_over or gateway.is_ending.is_set() or request.transport is None or request.transport.is_closing()):
         if time.monotonic() - beaten > page_rules.BEAT:
             beaten = time.monotonic()
@@ -147,7 +146,7 @@ async def send_changes(gateway, request, response, viewer):
         if alarms.changes != shown:
             shown, listed = alarms.changes, alarms.listed()
             await send(gateway, response, page_rules.event("alarms", {"alarms": listed[:MOST_ALARMS], "count": len(listed)}))
-        seen, series = await news.since(seen, 1)
+        viewer.seen, series = await news.since(viewer.seen, 1)
         if series:
             await send(gateway, response, page_rules.event("changed", [told(known) for known in series]))
             await asyncio.sleep(max(page_rules.REST, len(gateway.viewers.held) / MOST_PUSHES))

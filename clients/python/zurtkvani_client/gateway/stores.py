@@ -145,18 +145,32 @@ class Stores:
 
     async def _create(self, grids):
         lost = 0
-        while grids := {key: grid for key, grid in grids.items() if key not in self.by_key}:
+        while grids := self._missing(grids):
             # A run that is started again may have made some of them, which it lists then: so none is made twice.
             await asyncio.gather(*(asyncio.wait_for(keeper.is_up.wait(), START_SECONDS) for keeper in self.keepers))
+            if not (grids := self._missing(grids)):
+                return
             keepers = await self._keepers_with_room()
-            # Spread over all of them, since stores that are written side by side take less time than one.
-            share, left = -(-len(grids) // len(keepers)), iter(grids.items())
-            parts = [dict(itertools.islice(left, min(share, MOST_SERIES - self.count(keeper)))) for keeper in keepers]
-            works = [self._create_in(keeper, part) for keeper, part in zip(keepers, parts) if part]
+            left = iter(grids.items())
+            parts = [(keeper, dict(itertools.islice(left, share))) for keeper, share in self._shares(keepers, len(grids)).items()]
+            works = [self._create_in(keeper, part) for keeper, part in parts if part]
             for why in await asyncio.gather(*works, return_exceptions=True):
                 lost += isinstance(why, child.Lost)
                 if why and (not isinstance(why, child.Lost) or lost > MOST_LOST):
                     raise why
+
+    def _missing(self, grids):
+        return {key: grid for key, grid in grids.items() if key not in self.by_key}
+
+    def _shares(self, keepers, wanted):
+        """How many of so many series each store gets: each goes where the fewest are. So they are spread over all stores, which are written side by
+        side in less time than one, also where a run is lost."""
+        counts, shares = {keeper: self.count(keeper) for keeper in keepers}, dict.fromkeys(keepers, 0)
+        for _ in range(min(wanted, sum(MOST_SERIES - count for count in counts.values()))):
+            fewest = min(counts, key=counts.get)
+            counts[fewest] += 1
+            shares[fewest] += 1
+        return shares
 
     def count(self, keeper):
         return sum(known.keeper is keeper for known in self.by_key.values())

@@ -27,8 +27,9 @@ class Full(Exception):
 
 
 class Viewer:
-    def __init__(self, cache, numbers):
+    def __init__(self, cache, numbers, seen):
         self.cache, self.numbers, self.own_numbers = cache, numbers, {}
+        self.seen = seen  # how many changes were told, or had been before it came
         self.streams, self.asked, self.turn, self.is_over = 0, time.monotonic(), asyncio.Lock(), False
 
     def number_in(self, sessions):
@@ -103,7 +104,7 @@ class Viewers:
             return refusal(SESSION_OPEN)
         if len(self.held) >= self.given.viewers:
             raise Full(f"{self.given.viewers} pages look at this gateway, as many as it takes at once")
-        self.held[number] = Viewer(cache, self.numbers)
+        self.held[number] = Viewer(cache, self.numbers, self.news.count)
         return struct.pack(">IBII", 9, OPENED, number, cache)
 
     def closed(self, number):
