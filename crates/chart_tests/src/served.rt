@@ -12,10 +12,8 @@ use std::test::Fail;
 /// Lines of each kind, with 70 edits in a row among them, and a last one without a line feed.
 fn lines_of(alloc: Global) -> Result<Vec<u8>, Fail> {
     let mut lines = Vec::from_slice(alloc, b"create s 0 1 0\nopen 1 64\nnothing\n")?;
-    let mut slot = 0;
-    while slot < 70 {
+    for _number in 0..70 {
         lines.extend_from_slice(b"set s 5 7\n")?;
-        slot += 1;
     }
     lines.extend_from_slice(b"\nview 1 s 8 4 0 10 auto\nset x 1 1\nclose 1\nclose 1\nset s 6 8")?;
     Ok(lines)
@@ -71,10 +69,8 @@ fn sent_singly(alloc: Global) -> Result<Vec<u8>, Fail> {
     add_reply(alloc, &mut service, b"create s 0 1 0", &mut sent)?;
     add_reply(alloc, &mut service, b"open 1 64", &mut sent)?;
     add_reply(alloc, &mut service, b"nothing", &mut sent)?;
-    let mut slot = 0;
-    while slot < 70 {
+    for _number in 0..70 {
         add_reply(alloc, &mut service, b"set s 5 7", &mut sent)?;
-        slot += 1;
     }
     add_reply(alloc, &mut service, b"view 1 s 8 4 0 10 auto", &mut sent)?;
     add_reply(alloc, &mut service, b"set x 1 1", &mut sent)?;
