@@ -73,9 +73,9 @@ few_whole : (n : ℕ) (answers : List Answer) → length (whole_in n answers) �
 few_whole n [] = omega arith
 few_whole n (a ∷ l) = elim (nat_le (length a.bytes) n) as (λ b. length (if b then a ∷ whole_in (n - length a.bytes) l else [])
     ≤ suc (length l)) [
-  | true ↦ omega (arith, few_whole (n - length a.bytes) l)
-  | false ↦ omega arith
-]
+      | true ↦ omega (arith, few_whole (n - length a.bytes) l)
+      | false ↦ omega arith
+    ]
 
 two_or_three : (a b c : Line) (lines later : List Line) → a ∷ b ∷ c ∷ [] ≡ lines ++ later → 2 ≤ length lines
     → (lines ≡ a ∷ b ∷ []) ⊎ (lines ≡ a ∷ b ∷ c ∷ [])
