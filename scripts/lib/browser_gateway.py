@@ -9,7 +9,7 @@ import browser_lines
 import browser_page
 from browser_driver import require, wait_for
 from browser_page import PROGRAM, ROOT, Page
-from built_program import SECONDS, Failed
+from built_program import Failed
 
 sys.path[:0] = [os.path.join(ROOT, "clients/python"), os.path.join(ROOT, "clients/python/tests")]
 
@@ -40,15 +40,8 @@ class Behind(Page):
         return super().wanted(number, told, size)
 
     def compare(self):
-        """Waits until all canvases are what `draw` makes. What a write changes in two stores is told in two parts, and drawn in two."""
-        ends = time.monotonic() + SECONDS
-        while True:
-            try:
-                return super().compare()
-            except Failed:
-                if time.monotonic() > ends:
-                    raise
-                time.sleep(0.02)
+        """What a write changes in two stores is told in two parts."""
+        return self.compare_in_the_end()
 
     def write(self, lines):
         status, text = self.gateway.write(lines)

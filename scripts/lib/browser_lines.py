@@ -269,16 +269,24 @@ def show_sunspots(browser, folder, screenshots):
         require(os.path.exists(os.path.join(examples, name)), f"examples/{name} isn't there")
     subprocess.run([os.path.join(examples, "make_store"), store, "2400"], stdout=subprocess.PIPE, check=True)
     browser.size(1000, 560)
-    with subprocess.Popen([os.path.join(examples, "later_months"), "2400", "0.02"], stdout=subprocess.PIPE) as feeder:
-        with served(browser, store, screenshots, "sunspots", "--feed", stdin=feeder.stdout) as (page, _):
+    taken, given = os.pipe()
+    try:
+        with served(browser, store, screenshots, "sunspots", "--feed", stdin=taken) as (page, _):
             page.open("panel=sunspots&zone=utc")
             before = page.window()
-            wait_for(lambda: page.window()[1] > before[1], "the later months aren't drawn as they come")
-            feeder.terminate()
-            feeder.wait()
+            # They come from now on, so that not all of them are there before the page is, however slow it is.
+            with subprocess.Popen([os.path.join(examples, "later_months"), "2400", "0.02"], stdout=given, start_new_session=True) as feeder:
+                try:
+                    wait_for(lambda: page.window()[1] > before[1], "the later months aren't drawn as they come")
+                finally:
+                    with contextlib.suppress(ProcessLookupError):
+                        os.killpg(feeder.pid, signal.SIGTERM)  # all of it, so that nothing more comes
             wait_until_quiet(page)
-            page.compare()
+            page.compare_in_the_end()
             page.show("page")
+    finally:
+        os.close(taken)
+        os.close(given)
 
 
 def wait_until_quiet(page):

@@ -8,12 +8,13 @@ import shutil
 import subprocess
 import sys
 import tempfile
+import time
 import urllib.parse
 import urllib.request
 
 from book_model import frames_of, spelled
 from browser_driver import OPENER, require, started, wait_for
-from built_program import ROOT, SECONDS
+from built_program import ROOT, SECONDS, Failed
 
 PROGRAMS = [os.path.join(ROOT, path) for path in ("crates/chart_program/out/chart_program", "dist/chart_program")]
 PROGRAM = next((path for path in PROGRAMS if os.access(path, os.X_OK)), None)
@@ -223,6 +224,17 @@ class Page:
                 require(one[0] == other, f"the canvas of {name} in panel {number + 1} isn't what `draw` makes: {panel}")
         pbm, size = self.canvas(0)
         return sum(bin(byte).count("1") for byte in pbm[pbm.index(b"\n", 3) + 1 :]), *size
+
+    def compare_in_the_end(self):
+        """Compares, again and again until all is equal: where what changes comes in parts, each told and drawn behind the other."""
+        ends = time.monotonic() + SECONDS
+        while True:
+            try:
+                return Page.compare(self)
+            except Failed:
+                if time.monotonic() > ends:
+                    raise
+                time.sleep(0.02)
 
     def show(self, name):
         if self.screenshots:
