@@ -138,16 +138,20 @@ class Crowd(Viewed):
 
 
 class Pushes(Viewed):
+    def require_told(self, viewers, words, turn):
+        """One value more is told to all viewers, and they draw it."""
+        self.require_written(f"sea v={turn * 300} {T + SLOTS + turn}")
+        slots = slots_of(viewers[0], "sea_v")
+        for viewer in viewers:
+            while viewer.changed().get("sea_v") != slots:
+                pass
+        self.require_exact(viewers, lambda _: [words])
+
     def test_forty_viewers_are_told_what_changes_and_draw_it(self):
         viewers, words = self.viewers(40), f"sea_v 200 60 {T} {T + 2 * SLOTS} auto"
         self.require_exact(viewers, lambda _: [words])
         for turn in range(4):
-            self.require_written(f"sea v={turn * 300} {T + SLOTS + turn}")
-            slots = slots_of(viewers[0], "sea_v")
-            for viewer in viewers:
-                while viewer.changed().get("sea_v") != slots:
-                    pass
-            self.require_exact(viewers, lambda _: [words])
+            self.require_told(viewers, words, turn)
 
     def test_a_killed_run_is_started_again_and_viewers_go_on(self):
         viewers, words = self.viewers(20), f"sea_v 200 60 {T} {T + 2 * SLOTS} auto"
@@ -156,12 +160,7 @@ class Pushes(Viewed):
             (child,) = self.gateway.children()
             os.kill(child, signal.SIGKILL)
             self.require_exact(viewers, lambda _: [words])
-            self.require_written(f"sea v={turn * 300} {T + SLOTS + turn}")
-            slots = slots_of(viewers[0], "sea_v")
-            for viewer in viewers:
-                while viewer.changed().get("sea_v") != slots:
-                    pass
-            self.require_exact(viewers, lambda _: [words])
+            self.require_told(viewers, words, turn)
         self.assertNotEqual(self.gateway.children(), [child])
 
     def test_what_changes_before_the_stream_stands_is_told(self):
