@@ -31,8 +31,8 @@ pub trait Streams: Drop {
     /// Moves the next bytes left to the front of `buf`, and answers how many: 0 exactly at the end
     /// of the input. The rest of `buf`, and all of it after `Failed`, may hold anything.
     fn take(&mut self, buf: &mut [u8]) -> Result<usize, Failed>
-        requires { length buf.old ≡ 16384 }
-        ensures fits { IfOk result (λ count. count ≤ 16384) }
+        requires { 16384 ≤ length buf.old }
+        ensures fits { IfOk result (λ count. count ≤ length buf.old) }
         ensures given { IfOk result (λ count. IfSome (left self.old) (λ bytes. Given count bytes buf.new)) }
         ensures left { IfOk result (λ count. left self.new ≡ left_after count (left self.old)) }
         ensures left_on_err { OnErr result (left self.new ≡ left self.old) }

@@ -9,7 +9,7 @@ use block_disk::{Failed, Streams};
 use std::alloc::{AllocError, Global};
 
 /// The bytes of a piece.
-const PIECE: usize = 16384;
+const PIECE: usize = 65536;
 
 /// The most bytes of a line that is not too long.
 pub(crate) const LONGEST: usize = 8192;
@@ -27,11 +27,11 @@ pub(crate) struct Feed {
     pub(crate) taken: u64,
     pub(crate) spill: Vec<u8>,
     pub(crate) ended: bool,
-    ghost sized: { vec_len bytes ≡ 16384 },
+    ghost sized: { vec_len bytes ≡ 65536 },
     ghost ordered: { start ≤ end },
-    ghost within: { end ≤ 16384 },
+    ghost within: { end ≤ 65536 },
     ghost counted: { end - start ≤ taken },
-    ghost bounded: { taken ≤ 2 ^ 32 + 16384 },
+    ghost bounded: { taken ≤ 2 ^ 32 + 65536 },
     ghost short: { vec_len spill ≤ 8192 },
     ghost room: { 8192 ≤ vec_capacity spill },
     ghost passed: { IsTrue ended → start ≡ end },

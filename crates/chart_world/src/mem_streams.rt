@@ -79,14 +79,14 @@ impl<D: Clocked> Streams for MemWorld<D> {
     ghost sends = { λ count old new. (new.disk ≡ old.disk) × SentOn count (timed (D.view old.disk) old.log.items alone) (timed (D.view new.disk) new.log.items alone) };
 
     fn take(&mut self, buf: &mut [u8]) -> Result<usize, Failed>
-        requires { length buf.old ≡ 16384 }
+        requires { 16384 ≤ length buf.old }
         // the takes that the list names fail, and no others
         ensures fails { IsErr result ↔ Contains self.old.take_fails.items self.old.takes }
         ensures counted { self.new.takes ≡ counted self.old.takes }
         ensures fault { OnErr result (self.new.read_faults ≡ counted self.old.read_faults) }
         ensures no_fault { OnOk result (self.new.read_faults ≡ self.old.read_faults) }
         // the buffer is filled as far as bytes are left
-        ensures fills { IfOk result (λ count. count ≡ min 16384 (length (bytes_left self.old))) }
+        ensures fills { IfOk result (λ count. count ≡ min (length buf.old) (length (bytes_left self.old))) }
         ensures front { IfOk result (λ count. take count buf.new ≡ take count (bytes_left self.old)) }
         ensures left { IfOk result (λ count. bytes_left self.new ≡ drop count (bytes_left self.old)) }
         ensures left_on_err { OnErr result (bytes_left self.new ≡ bytes_left self.old) }

@@ -139,7 +139,7 @@ fn draw_pieces<S: World>(
 fn take_piece<S: World>(buffer: &mut [u8], streams: &mut S) -> Result<usize, DrawEnd>
     requires sized { length buffer.old ≡ 16384 }
     ensures sized { length buffer.new ≡ 16384 }
-    ensures fits { IfOk result (λ count. count ≤ 16384) }
+    ensures fits { IfOk result (λ count. count ≤ length buffer.old) }
     ensures given { IfOk result (λ count. IfSome (S.left streams.old) (λ bytes. Given count bytes buffer.new)) }
     ensures left { IfOk result (λ count. S.left streams.new ≡ left_after count (S.left streams.old)) }
     ensures fault { IfErr result (λ end. end ≡ draw_end.ReadFault) }

@@ -23,4 +23,4 @@ invariant-loop-self g l =
     }
 
 abbrev pub decreases-loop-self : goal.decreases-loop-self
-decreases-loop-self g l = 2 ^ 32 + 16384 - l.self.taken
+decreases-loop-self g l = 2 ^ 32 + 65536 - l.self.taken
