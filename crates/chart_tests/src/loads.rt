@@ -10,20 +10,20 @@ use store_commands::{check_store, load_series};
 /// An empty series `a` of two decimals.
 const CREATED: &[u8] = b"create a 0 1 2\n";
 
-/// 3,000 rows of 8 bytes each, from time 10,000 on.
-fn rows(alloc: Global) -> Result<Vec<u8>, Fail> {
+/// So many rows of this value, from time 10,000 on, each of 7 bytes and those of the value.
+fn rows(alloc: Global, count: u32, value: &str) -> Result<Vec<u8>, Fail> {
     let mut input = Vec::new(alloc);
-    for time in 10_000..13_000u32 {
-        let line = format!(in alloc; "{time},1\n")?;
+    for time in 10_000..10_000 + count {
+        let line = format!(in alloc; "{time},{value}\n")?;
         input.extend_from_slice(line.as_bytes())?;
     }
     Ok(input)
 }
 
-/// Loads them where the take of this number fails, each of 16,384 bytes, and checks the store: whether the load has
-/// this code, and what is sent begins so.
+/// Loads 3,000 rows of 25 bytes where the take of this number fails, each of 65,536 bytes, and checks the store: whether the
+/// load has this code, and what is sent begins so.
 fn is_loaded(alloc: Global, take: u64, code: u8, text: &[u8]) -> Result<bool, Fail> {
-    let input = rows(alloc)?;
+    let input = rows(alloc, 3_000, "123456789012345.67")?;
     let world = world_of(alloc, behind(alloc, CREATED)?, input.as_slice(), &[take])?;
     let name = Name::new(alloc, b"a")?;
     let (end, world) = load_series(alloc, &name, world);
@@ -36,7 +36,7 @@ fn is_loaded(alloc: Global, take: u64, code: u8, text: &[u8]) -> Result<bool, Fa
 fn an_input_fails_in_mid_stream(rt: HostRuntime) -> Result<(), Fail> {
     let alloc = rt.alloc();
     assert!(rt; is_loaded(alloc, 0, 4, b"series 1\nvalues 0\n")?);
-    assert!(rt; is_loaded(alloc, 1, 4, b"series 1\nvalues 2048\n")?);
+    assert!(rt; is_loaded(alloc, 1, 4, b"series 1\nvalues 2560\n")?);
     assert!(rt; is_loaded(alloc, 2, 4, b"series 1\nvalues 2816\n")?);
     assert!(rt; is_loaded(alloc, 3, 0, b"loaded 3000\nseries 1\nvalues 3000\n")?);
     Ok(())
@@ -56,11 +56,21 @@ fn syncs_of(alloc: Global, input: &[u8]) -> Result<u64, Fail> {
     Ok(loaded.saturating_sub(world.into_disk().syncs()))
 }
 
-/// The twelve runs are stored in three commits, one for each take and one for the run that stands open at the end, with
-/// four syncs each.
+/// The twelve runs of these rows are stored in three commits, one for each take and one for the run that stands open at the end,
+/// with four syncs each.
 #[test]
 fn runs_are_stored_by_groups(rt: HostRuntime) -> Result<(), Fail> {
     let alloc = rt.alloc();
-    assert_eq!(rt; syncs_of(alloc, rows(alloc)?.as_slice())?, 12);
+    let input = rows(alloc, 3_000, "123456789012345.67")?;
+    assert_eq!(rt; syncs_of(alloc, input.as_slice())?, 12);
+    Ok(())
+}
+
+/// One take brings 32 runs of rows of 8 bytes, for which two commits have room.
+#[test]
+fn commits_have_room_for_many_runs(rt: HostRuntime) -> Result<(), Fail> {
+    let alloc = rt.alloc();
+    let input = rows(alloc, 8_192, "1")?;
+    assert_eq!(rt; syncs_of(alloc, input.as_slice())?, 8);
     Ok(())
 }

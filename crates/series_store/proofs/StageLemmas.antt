@@ -11,6 +11,8 @@ use Rattle.page_space.specs.Transactions.{held, left_by}
 use Rattle.page_space.specs.declared.superblock.Superblock.{Superblock}
 use Rattle.page_space.specs.declared.txn.Txn.{Txn}
 use Rattle.om3_coeff.specs.Keys.{page_levels}
+use Rattle.path_repair.proofs.EditLemmas.{levels_few}
+use Rattle.path_repair.proofs.TouchLemmas.{touch_wide}
 use Rattle.path_repair.specs.Costs.{touch}
 use Rattle.path_repair.specs.Edited.{IsErrorFor}
 use Rattle.path_repair.specs.Keeping.{KeepsCatalog}
@@ -21,6 +23,8 @@ use Rattle.catalog_page.specs.Entries.{IsEntry, entry_at}
 use Rattle.catalog_page.specs.Layout.{KeepsLayout}
 use Rattle.catalog_page.specs.Places.{page_of, number_of, records_of}
 use Rattle.series_book.specs.declared.limits.TheConstants.{MOST_SLOTS}
+use Rattle.series_book.specs.declared.edits.Edit.{Edit}
+use Rattle.series_book.specs.declared.edits.Edit.TheVariants.{Create, Append, Set, Clear}
 use Rattle.series_book.specs.declared.one_series.Series.{Series}
 use Rattle.series_book.specs.declared.outcomes.Outcome.{Outcome}
 use Rattle.series_book.specs.declared.refusals.Refusal.{Refusal}
@@ -35,7 +39,7 @@ use Rattle.tree_walk.proofs.SpaceLemmas.{stays_then}
 use Rattle.tree_walk.specs.declared.tree.Tree.{Tree}
 use Rattle.series_store.specs.Changing.{IsRefusedBy}
 use Rattle.series_store.specs.Errors.{error_of}
-use Rattle.series_store.specs.Staging.{IsCatalogOf, IsWholeOf, IsStaging, IsStagedBy, IsStageCause, IsAnswer, IsRefusal, TakesBack}
+use Rattle.series_store.specs.Staging.{IsCatalogOf, IsWholeOf, IsStaging, IsStagedBy, IsStageCause, IsAnswer, IsRefusal, TakesBack, most_puts}
 use Rattle.series_store.specs.declared.errors.StoreError.{StoreError}
 use Rattle.series_store.specs.declared.errors.StoreError.TheVariants.{DiskFault}
 use Rattle.series_store.specs.declared.staged.Staged.{Staged}
@@ -232,3 +236,15 @@ staging_nothing told at under s txn items outcome are few = record {
 
 pub last_changes : undo.Last ≡ undo.Nothing → ⊥
 last_changes none = cc
+
+-- at most 256 slots lie in at most fifteen pages of a tree
+pub run_pages : (first n slots len : ℕ) → n ≤ 256 → touch first (first + n) (page_levels slots) (page_levels len) 0 ≤ 15
+run_pages first n slots len few =
+    omega (arith, touch_wide 3 first (first + n) n (page_levels slots) (page_levels len) (omega arith) (omega arith) (omega (arith, few)) (omega (arith, few)), levels_few len)
+
+-- no edit puts more pages than one that clears
+pub most_few : (edit : Edit) → most_puts edit ≤ 41
+most_few (Create name start step scale) = omega arith
+most_few (Append name values) = omega arith
+most_few (Set name time values) = omega arith
+most_few (Clear name time count) = omega arith

@@ -15,6 +15,7 @@ use Rattle.series_book.specs.declared.refusals.Refusal.{Refusal}
 use Rattle.series_book.specs.Books.{IsBook}
 use Rattle.series_book.specs.Edits.{Edited, apply, with_slots}
 use Rattle.series_book.specs.declared.edits.Edit.{Edit}
+use Rattle.series_book.specs.declared.edits.Edit.TheVariants.{Create, Append, Set, Clear}
 use Rattle.series_catalog.specs.Catalogs.{AreFit, AreAsTold, entry_of, with_tree}
 use Rattle.series_catalog.specs.Shown.{series_in}
 use Rattle.series_catalog.specs.declared.catalog.Catalog.{Catalog}
@@ -85,6 +86,14 @@ IsRefusal NotAStore = ⊥
 IsRefusal DiskFault = ⊥
 IsRefusal (Damaged page) = ⊥
 IsRefusal NoMemory = ⊥
+
+-- the most pages that staging an edit puts into a transaction: at most 256 values lie in three pages of the lowest level and two
+-- of each above it, 4,096 slots in 33 and two, and the record of a series in one
+abbrev pub most_puts : Edit → ℕ
+most_puts (Create name start step scale) = 1
+most_puts (Append name values) = 16
+most_puts (Set name time values) = 16
+most_puts (Clear name time count) = 41
 
 -- what staging an edit does, whatever the pages are
 pub record IsStaging (told told' : Type 0) (old new under under' : View) (s s' : Superblock) (txn txn' : Txn) (items items' : List StoredSeries) (result : Result Staged StoreError) : Type 0 where

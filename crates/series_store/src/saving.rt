@@ -54,7 +54,7 @@ pub(crate) fn put<P: Pages>(
 ) -> Result<Staged, StoreError>
     requires sound { spaces.IsSound space.old }
     requires staged { stages.IsStaged space.old txn.old catalog.old }
-    requires few { length (held txn.old) ≤ 22 }
+    requires few { length (held txn.old) ≤ 47 }
     requires there { id < length (series_in catalog.old) }
     requires some { 0 < length values.now }
     requires short { length values.now ≤ 256 }

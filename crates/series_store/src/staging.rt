@@ -1,5 +1,5 @@
 //! Edits are staged: done in a transaction and in the catalog, and not committed.
-ghost use Rattle.std.specs.Prelude.{◌≡◌, ◌≤◌, length, IfOk, ◌≢◌, OnOk, IfErr};
+ghost use Rattle.std.specs.Prelude.{◌≡◌, ◌≤◌, ◌+◌, length, IfOk, ◌≢◌, OnOk, IfErr};
 ghost use Rattle.page_space.specs.Shown as spaces;
 ghost use Rattle.page_space.specs.Transactions.{held};
 ghost use Rattle.series_store.specs.Staging as stages;
@@ -19,7 +19,7 @@ use series_book::{Edit, Name, Outcome, Refusal, Values};
 use series_catalog::Catalog;
 
 /// Stages an edit. It is refused exactly where a refusal stands, with the first that does. It reads 96 blocks at
-/// most, and the transaction gets at most 41 pages more.
+/// most, and puts so many pages at most.
 pub(crate) fn stage<P: Pages>(
     space: &mut Space<P>,
     txn: &mut Txn,
@@ -28,7 +28,7 @@ pub(crate) fn stage<P: Pages>(
 ) -> Result<Staged, StoreError>
     requires sound { spaces.IsSound space.old }
     requires staged { stages.IsStaged space.old txn.old catalog.old }
-    requires few { length (held txn.old) ≤ 22 }
+    requires few { length (held txn.old) + stages.most_puts edit.now ≤ 63 }
     requires is_edit { IsEdit edit.now }
     ensures answered { stages.AnswersEdit edit.now result space.old space.new txn.old txn.new }
     ensures carried { stages.Stages result space.old space.new txn.old txn.new catalog.old catalog.new }
@@ -60,7 +60,7 @@ fn append<P: Pages>(
 ) -> Result<Staged, StoreError>
     requires sound { spaces.IsSound space.old }
     requires staged { stages.IsStaged space.old txn.old catalog.old }
-    requires few { length (held txn.old) ≤ 22 }
+    requires few { length (held txn.old) ≤ 47 }
     requires is_edit { IsEdit (Append name.now values.now) }
     ensures answered { stages.AnswersEdit (Append name.now values.now) result space.old space.new txn.old txn.new }
     ensures carried { stages.Stages result space.old space.new txn.old txn.new catalog.old catalog.new }
@@ -89,7 +89,7 @@ fn set<P: Pages>(
 ) -> Result<Staged, StoreError>
     requires sound { spaces.IsSound space.old }
     requires staged { stages.IsStaged space.old txn.old catalog.old }
-    requires few { length (held txn.old) ≤ 22 }
+    requires few { length (held txn.old) ≤ 47 }
     requires is_edit { IsEdit (Set name.now time values.now) }
     ensures answered { stages.AnswersEdit (Set name.now time values.now) result space.old space.new txn.old txn.new }
     ensures carried { stages.Stages result space.old space.new txn.old txn.new catalog.old catalog.new }

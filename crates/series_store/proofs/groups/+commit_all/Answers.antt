@@ -31,26 +31,26 @@ returns-in_default-clause-grouped g t c = λ total book told stands clean.
     closed_by (g.P.Pages.told old.pages) (g.P.Pages.told new.pages) (view old.pages) (view new.pages) c.args.txn c.args.ends c.args.is_changed total book c.args.edits.now c.args.answers.now.items c.close.result told (inl c.in_default.ensures.cases) c.close.ensures.commits c.close.ensures.done
     (λ none. ap (λ s. view (s.pages)) (c.close.ensures.none none)) clean c.close.ensures.error stands
 
-pub returns-then-held-gt-MOST_HELD-clause-groups : goal.returns-then-held-gt-MOST_HELD-clause-groups
-returns-then-held-gt-MOST_HELD-clause-groups g t c =
+pub returns-then-is_full-clause-groups : goal.returns-then-is_full-clause-groups
+returns-then-is_full-clause-groups g t c =
     let told = g.P.Pages.told in
     let view = g.P.Pages.view in
     let under = g.P.Pages.under in
     let old = c.args.space.now in
-    let close = c.close-then-held-gt-MOST_HELD in
+    let close = c.close-then-is_full in
     let new = close.new.space in
     closed (told old.pages) (told new.pages) (view old.pages) (view new.pages) (under old.pages) (under new.pages) old.superblock new.superblock c.args.txn c.args.is_changed c.args.catalog.now.series.items c.args.edits.now c.args.answers.now.items close.result
-    (λ some few. omega (arith, few, c.if-held-gt-MOST_HELD.true, c.len-held.ensures.len)) (omega (arith, c.len-held.ensures.few, c.len-held.ensures.len)) close.ensures.commits close.ensures.goes_on close.ensures.done close.ensures.superblock
+    (λ some few. omega (arith, few, (c.is_full.ensures.full c.if-is_full.true).1, c.len-held.ensures.len)) (omega (arith, c.len-held.ensures.few, c.len-held.ensures.len)) close.ensures.commits close.ensures.goes_on close.ensures.done close.ensures.superblock
     (λ none. (ap (λ s. (view (s.pages)).image) (close.ensures.none none), ap (λ s. s.superblock) (close.ensures.none none))) close.ensures.old_superblock close.ensures.sound close.ensures.unsound close.ensures.error close.ensures.cause
     c.requires.staged c.requires.clean
 
-pub returns-then-held-gt-MOST_HELD-clause-grouped : goal.returns-then-held-gt-MOST_HELD-clause-grouped
-returns-then-held-gt-MOST_HELD-clause-grouped g t c = λ total book told stands clean.
+pub returns-then-is_full-clause-grouped : goal.returns-then-is_full-clause-grouped
+returns-then-is_full-clause-grouped g t c = λ total book told stands clean.
     let view = g.P.Pages.view in
     let old = c.args.space.now in
-    let close = c.close-then-held-gt-MOST_HELD in
+    let close = c.close-then-is_full in
     let new = close.new.space in
-    closed_by (g.P.Pages.told old.pages) (g.P.Pages.told new.pages) (view old.pages) (view new.pages) c.args.txn c.args.ends c.args.is_changed total book c.args.edits.now c.args.answers.now.items close.result told (inr (omega (arith, c.if-held-gt-MOST_HELD.true, c.len-held.ensures.len))) close.ensures.commits close.ensures.done
+    closed_by (g.P.Pages.told old.pages) (g.P.Pages.told new.pages) (view old.pages) (view new.pages) c.args.txn c.args.ends c.args.is_changed total book c.args.edits.now c.args.answers.now.items close.result told (inr (omega (arith, (c.is_full.ensures.full c.if-is_full.true).1, c.len-held.ensures.len))) close.ensures.commits close.ensures.done
     (λ none. ap (λ s. view (s.pages)) (close.ensures.none none)) clean close.ensures.error stands
 
 pub returns-in_err-undo-clause-groups : goal.returns-in_err-undo-clause-groups

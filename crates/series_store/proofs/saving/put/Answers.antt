@@ -2,7 +2,6 @@ use Rattle.std.proofs.Common.{◌≡◌, ℕ, ℤ, ◌+◌, ◌⊎◌, max, List
 use Rattle.block_disk.specs.View.{Image}
 use Rattle.om3_coeff.specs.Keys.{page_levels}
 use Rattle.page_space.specs.Transactions.{left_by}
-use Rattle.path_repair.proofs.CallLemmas.{run_puts}
 use Rattle.path_repair.specs.Costs.{touch}
 use Rattle.path_repair.specs.Edited.{IsEditedTree}
 use Rattle.series_book.specs.declared.refusals.Refusal.{Refusal}
@@ -22,7 +21,7 @@ use Rattle.series_store.proofs.ChangeLemmas.{root_below, own_tree, put_edited}
 use Rattle.series_store.proofs.KeptLemmas.{with_same, staging_kept, staged_kept, kept_stands, put_keeps}
 use Rattle.series_store.proofs.RecordLemmas.{known_some}
 use Rattle.series_store.proofs.SlotLemmas.{are_values}
-use Rattle.series_store.proofs.StageLemmas.{full_same, later_staged, staged_error, staged_saved, staged_store, staging_error, staging_saved}
+use Rattle.series_store.proofs.StageLemmas.{full_same, later_staged, run_pages, staged_error, staged_saved, staged_store, staging_error, staging_saved}
 use Rattle.tree_walk.proofs.StepLemmas.{error_so}
 use Rattle.series_store.proofs.saving.put.Goals as goal
 
@@ -46,7 +45,7 @@ put_run-requires-clause-room g c =
     let long : ℕ = length c.args.values.now in
     let n : ℕ = max tree.slots (c.args.slot + long) in
     let few = (c.requires.staged.catalog.fits c.args.id c.series.result.now c.series.ensures).slots in
-    omega (arith, c.requires.few, run_puts c.args.slot long tree.slots n c.requires.short, levels_few n)
+    omega (arith, c.requires.few, run_pages c.args.slot long tree.slots n c.requires.short, levels_few n)
 
 pub save-requires-clause-staged : goal.save-requires-clause-staged
 save-requires-clause-staged g c =
@@ -79,7 +78,7 @@ save-requires-clause-room g c =
     let n : ℕ = max tree.slots (c.args.slot + long) in
     let fewer = (c.requires.staged.catalog.fits c.args.id one c.series.ensures).slots in
     let five = levels_few n in
-    omega (arith, c.requires.few, c.put_run.ensures.moved.held, run_puts c.args.slot long tree.slots n c.requires.short, five)
+    omega (arith, c.requires.few, c.put_run.ensures.moved.held, run_pages c.args.slot long tree.slots n c.requires.short, five)
 
 pub returns-in_err-tree-clause-carried : goal.returns-in_err-tree-clause-carried
 returns-in_err-tree-clause-carried g c =
@@ -97,7 +96,7 @@ returns-in_err-tree-clause-carried g c =
     let n : ℕ = max tree.slots (c.args.slot + long) in
     let fewer = (c.requires.staged.catalog.fits c.args.id one c.series.ensures).slots in
     let five = levels_few n in
-    let puts = run_puts c.args.slot long tree.slots n c.requires.short in
+    let puts = run_pages c.args.slot long tree.slots n c.requires.short in
     staging_error (told old.pages) (told mid.pages) (view old.pages) (view mid.pages) (under old.pages) (under mid.pages) old.superblock mid.superblock txn changed items c.from_residual.result c.in_err-tree.field-0.0
     (omega (arith, puts, five)) (omega (arith, puts, five)) c.from_residual.ensures.1 c.put_run.ensures.moved (λ t. c.put_run.ensures.catalog (view old.pages).image (record { are_told = t; are = refl })) c.requires.staged c.in_err-tree.ensures.cause
     (names_below (told old.pages) (view old.pages).image txn c.args.id one c.in_err-tree.field-0.0 (omega (arith, c.requires.there, c.requires.staged.catalog.count)) c.requires.staged.catalog.small
@@ -119,7 +118,7 @@ returns-clause-carried g c =
     let n : ℕ = max tree.slots (c.args.slot + long) in
     let fewer = (c.requires.staged.catalog.fits c.args.id one c.series.ensures).slots in
     let five = levels_few n in
-    let puts = run_puts c.args.slot long tree.slots n c.requires.short in
+    let puts = run_pages c.args.slot long tree.slots n c.requires.short in
     let new = c.save.new.space in
     staging_saved (told old.pages) (told mid.pages) (told new.pages) (view old.pages) (view mid.pages) (view new.pages) (under old.pages) (under mid.pages) (under new.pages) old.superblock mid.superblock new.superblock txn changed c.save.new.txn
     items c.save.new.catalog.series.items c.in_ok-tree.tree.slots c.save.result (omega (arith, puts, five)) (omega (arith, puts, five)) (omega (arith, c.in_ok-tree.ensures.tree.slots_are, fewer, c.requires.within))
@@ -214,7 +213,7 @@ returns-then-is_kept-clause-carried g c =
     let n : ℕ = max tree.slots (c.args.slot + long) in
     let fewer = (c.requires.staged.catalog.fits c.args.id one c.series.ensures).slots in
     let five = levels_few n in
-    let puts = run_puts c.args.slot long tree.slots n c.requires.short in
+    let puts = run_pages c.args.slot long tree.slots n c.requires.short in
     let kept = c.is_kept.ensures.0 c.if-is_kept.true in
     let same : changed ≡ txn = c.in_ok-tree.ensures.kept kept.0 in
     staging_kept (told old.pages) (told mid.pages) (view old.pages) (view mid.pages) (under old.pages) (under mid.pages) old.superblock mid.superblock txn changed items c.nothing.result (omega (arith, puts, five)) (omega (arith, puts, five))
