@@ -119,7 +119,7 @@ impl Batch {
     }
 
     /// The number of the page at a place.
-    pub(crate) fn number(&self, at: usize) -> u32
+    pub fn number(&self, at: usize) -> u32
         requires { at < length (entries self.now) }
         ensures { result ≡ (slice_index_or (entries self.now) at (0, [])).0 }
     {

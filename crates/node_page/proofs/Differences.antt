@@ -1,8 +1,10 @@
 -- The differences of all nodes, by their places and by the bytes of the flags.
-use Rattle.std.proofs.Common.{◌≡◌, ℕ, zero, suc, ◌+◌, ◌*◌, ◌/◌, ◌%◌, ◌<◌, ◌≤◌, min, Bool, true, false, cond, ◌&&◌, ◌==◌, List, get_or, refl, ap, subst, inl, inr, ◌∙◌, arith}
+use Rattle.std.proofs.Common.{◌≡◌, ℕ, zero, suc, ℤ, pos, negsuc, of_z, ◌+◌, ◌*◌, ◌/◌, ◌%◌, ◌^◌, ◌<◌, ◌≤◌, min, Bool, true, false, cond, ◌&&◌, ◌==◌, List, get_or, refl, ap, subst, inl, inr, ◌∙◌, arith}
 use Rattle.std.proofs.lemmas.Bool.{eq-eqb, ne_eqb}
 use Rattle.std.proofs.lemmas.Bool.Decides.{eqb_tells}
-use Rattle.std.specs.Int.{bit_at}
+use Rattle.std.proofs.lemmas.Int.{ints}
+use Rattle.std.specs.Int.{bit_at, w64}
+use Rattle.std.specs.Prelude.{FitsSigned}
 use Rattle.whole_number.specs.Range.{IsTime}
 use Rattle.node_page.specs.Fields.{signed_at, flag_at, coef_at}
 use Rattle.node_page.specs.Layout.{HasDifferences, AreDifferences, AreEightSmall, AreFourInRange, IsFullOrFlat, has_child}
@@ -23,7 +25,7 @@ unfolding flag_at
 flag_of_full page byte flag full is =
     ap (λ (b : ℕ). bit_at (get_or page (8 + b) 0) (flag % 8) == 1) is ∙ ap (λ (x : ℕ). bit_at x (flag % 8) == 1) full ∙ bit_of_full (flag % 8) (omega arith)
 
-both : (left right : Bool) → left ≡ true → right ≡ true → (left && right) ≡ false → ⊥
+pub both : (left right : Bool) → left ≡ true → right ≡ true → (left && right) ≡ false → ⊥
 both true true l r half = cc (half)
 both true false l r half = cc (r)
 both false right l r half = cc (l)
@@ -49,6 +51,24 @@ in_range_from page byte first within is small flat n low high few =
       greatest = subst IsSmall second (small (2 * n + 1) (omega (arith, from)) to);
       flat = flat n low high few;
     }
+
+-- the same for all nodes, by all places
+pub in_range_all : (page : List ℕ) → ((place : ℕ) → place < 254 → IsTime (signed_at page (40 + 8 * place))) → ((n : ℕ) → n < 127 → IsFullOrFlat page n) → AreDifferences page
+unfolding coef_at
+in_range_all page small flat n few =
+    let second : 40 + 8 * (2 * n + 1) ≡ 40 + 16 * n + 8 = omega arith in
+    let one : 40 + 8 * (2 * n) ≡ 40 + 16 * n = omega arith in
+    let IsSmall : ℕ → Type 0 = λ at. IsTime (signed_at page at) in
+    record {
+      least = subst IsSmall one (small (2 * n) (omega (arith, few)));
+      greatest = subst IsSmall second (small (2 * n + 1) (omega (arith, few)));
+      flat = flat n few;
+    }
+
+-- a number that is below 2^57 once 2^56 is added to it, mod 2^64, is in range
+pub raised_small : (z : ℤ) (r : ℕ) → FitsSigned w64 z → r ≡ (of_z w64 z + 2 ^ 56) % 2 ^ 64 → r < 2 ^ 57 → IsTime z
+raised_small (pos n) r fits is few = omega (arith, ints, fits.sfits, is, few)
+raised_small (negsuc n) r fits is few = omega (arith, ints, fits.sfits, is, few)
 
 -- a place is one of a node's two
 halves : (page : List ℕ) (n rest place : ℕ) → place ≡ 2 * n + rest → rest < 2 → HasDifferences (coef_at page n) → IsTime (signed_at page (40 + 8 * place))

@@ -3,8 +3,8 @@ use Rattle.std.proofs.Common.{◌≡◌, ℕ, zero, suc, ◌+◌, ◌*◌, ◌/�
 use Rattle.std.proofs.lemmas.Bool.{cases_lt}
 use Rattle.std.specs.Int.{bit_at}
 use Rattle.node_page.specs.Fields.{flag_at, coef_at}
-use Rattle.node_page.specs.Layout.{AreFlags}
-use Rattle.node_page.proofs.Differences.{flag_of_full}
+use Rattle.node_page.specs.Layout.{AreFlags, IsFullOrFlat}
+use Rattle.node_page.proofs.Differences.{flag_of_full, both}
 
 bit_of_last : (i : ℕ) → i < 6 → (bit_at 63 i == 1) ≡ true
 bit_of_last zero few = refl
@@ -47,3 +47,9 @@ flags_of_full page full last =
       spare_even = (spare_unset page last).0;
       spare_odd = (spare_unset page last).1;
     }
+
+pub nodes_of_full : (page : List ℕ) → ((k : ℕ) → k < 31 → get_or page (8 + k) 0 ≡ 255) → get_or page 39 0 ≡ 63 → (n : ℕ) → n < 127 → IsFullOrFlat page n
+unfolding coef_at
+nodes_of_full page full last n few half =
+    let set = all_set page full last in
+    absurd (both (flag_at page (2 * n)) (flag_at page (2 * n + 1)) (set (2 * n) (omega (arith, few))) (set (2 * n + 1) (omega (arith, few))) half)

@@ -1,6 +1,7 @@
 //! The rules of the fields, each as a test.
-ghost use Rattle.std.specs.Prelude.{◌≡◌, ◌<◌, ◌≤◌, ◌+◌, ◌*◌, ◌↔◌, ◌⊎◌, ℕ, pos, IsTrue, length, slice_index};
-ghost use Rattle.block_disk.specs.Blocks.{IsBlock};
+ghost use Rattle.std.specs.Prelude.{◌≡◌, ◌<◌, ◌≤◌, ◌+◌, ◌*◌, ◌↔◌, ◌⊎◌, ◌^◌, ℕ, pos, IsTrue, length, slice_index};
+ghost use Rattle.block_disk.specs.Blocks.{block_size, IsBlock};
+ghost use Rattle.whole_number.specs.Range.{IsTime};
 ghost use Rattle.node_page.specs.Fields.{level_at, signed_at, coef_at};
 ghost use Rattle.node_page.specs.Layout.{IsLevel, IsReserved, AreFlags, IsAgreed, AreDifferences, AreEightSmall, AreFourInRange, IsFullOrFlat, IsChild, AreChildren, has_child, has_value};
 
@@ -49,7 +50,8 @@ fn are_full(bytes: &[u8]) -> bool
 /// Whether all flags of the nodes are set, and the two behind them aren't. Most pages are so.
 fn are_all_set(page: &[u8]) -> bool
     requires whole { IsBlock page.now }
-    ensures { IsTrue result → AreFlags page.now }
+    ensures flags { IsTrue result → AreFlags page.now }
+    ensures full { IsTrue result → (n : ℕ) → n < 127 → IsFullOrFlat page.now n }
 {
     are_full(&page[FLAGS..FLAGS + 31]) && page[FLAGS + 31] == 63
 }
@@ -195,11 +197,45 @@ fn are_four_in_range(page: &[u8], byte: u8) -> bool
     flags == 255 || are_four_full_or_flat(page, byte)
 }
 
+/// The difference at an offset with 2^56 more, mod 2^64: below 2^57 just where it is from -2^56 on and below 2^56.
+fn raised_at(page: &[u8], offset: usize) -> u64
+    requires whole { IsBlock page.now }
+    requires within { offset + 8 ≤ block_size }
+    ensures { result < 2 ^ 57 → IsTime (signed_at page.now offset) }
+{
+    difference_at(page, offset)
+        .cast_unsigned()
+        .wrapping_add(1 << 56)
+}
+
+/// Whether all differences are from -2^56 on and below 2^56. In most pages they are.
+fn are_all_narrow(page: &[u8]) -> bool
+    requires whole { IsBlock page.now }
+    ensures { IsTrue result → (place : ℕ) → place < 254 → IsTime (signed_at page.now (40 + 8 * place)) }
+{
+    let mut all = 0;
+    for place in 0..254 {
+        all |= raised_at(page, DIFFERENCES + 8 * place);
+    }
+    all < 1 << 57
+}
+
+/// Whether all flags of the nodes are set, and no difference is large.
+fn are_plain(page: &[u8]) -> bool
+    requires whole { IsBlock page.now }
+    ensures { IsTrue result → AreDifferences page.now }
+{
+    are_all_set(page) && are_all_narrow(page)
+}
+
 /// Whether the differences of all nodes are in range.
 pub(crate) fn are_differences(page: &[u8]) -> bool
     requires whole { IsBlock page.now }
     ensures { IsTrue result ↔ AreDifferences page.now }
 {
+    if are_plain(page) {
+        return true;
+    }
     for byte in 0..32 {
         if !are_four_in_range(page, byte) {
             return false;

@@ -1,5 +1,5 @@
 -- Copies of pages in their places.
-use Rattle.std.proofs.Common.{◌≡◌, ◌≢◌, ℕ, zero, suc, ◌+◌, ◌<◌, ◌*◌, ◌++◌, arith, rules, Bool, true, false, cond, eqb, List, length, set, get_or, Option, Some, None, refl, sym, ap, inl, inr, ◌∙◌, unwrap_or}
+use Rattle.std.proofs.Common.{◌≡◌, ◌≢◌, ℕ, zero, suc, ◌+◌, ◌<◌, ◌≤◌, ◌*◌, ◌++◌, ◌⊎◌, arith, Bool, true, false, cond, List, [], ◌∷◌, length, set, get_or, is_some, subst, Option, Some, None, refl, sym, ap, inl, inr, ◌∙◌, unwrap_or}
 use Rattle.std.specs.Option.{option_map}
 use Rattle.std.specs.Prelude.{replicate}
 use Rattle.std.proofs.lemmas.Bool.{cases_lt, eq-eqb, ne_eqb}
@@ -16,8 +16,8 @@ use Rattle.page_space.specs.Places.{filled, AreKept}
 use Rattle.page_space.specs.declared.page_cache.Kept.{Kept}
 use Rattle.page_space.proofs.Placing.{block_added, block_kept}
 
-pub place_below : (p : ℕ) → place p < 1024
-place_below p = mod_below p 1024 (omega arith)
+pub place_below : (p : ℕ) → place p < 4096
+place_below p = mod_below p 4096 (omega arith)
 
 -- what a place has once the copy of a page was written over that of another
 put_off : (places : List (Option Kept)) (bytes bytes' page : List ℕ) (at a : ℕ) (old : Kept) (place_now : Option Kept) → AreKept places → get_or places at None ≡ Some old → get_or places a None ≡ place_now → a ≢ at
@@ -28,7 +28,7 @@ put_off places bytes bytes' page at a old (Some one) are some now other is q =
     ap (λ l. copy_of one.page l q) (ap (λ (i : Image). i one.copy) is ∙ ap (λ b. cond b page (blocks_of bytes one.copy)) (ne_eqb one.copy old.copy apart))
 
 -- a page is put in a place in which another one was
-pub put_over : (places : List (Option Kept)) (bytes bytes' page : List ℕ) (p : ℕ) (old kept : Kept) → length places ≡ 1024 → AreKept places → get_or places (place p) None ≡ Some old → kept.page ≡ p → kept.copy ≡ old.copy
+pub put_over : (places : List (Option Kept)) (bytes bytes' page : List ℕ) (p : ℕ) (old kept : Kept) → length places ≡ 4096 → AreKept places → get_or places (place p) None ≡ Some old → kept.page ≡ p → kept.copy ≡ old.copy
     → blocks_of bytes' ≡ put old.copy page (blocks_of bytes) → (q : ℕ) → copies_at (set places (place p) (Some kept)) bytes' q ≡ with_copy p page (copies_at places bytes) q
 put_over places bytes bytes' page p old kept room are some number same is q =
     let places' = set places (place p) (Some kept) in
@@ -53,7 +53,7 @@ add_off places bytes page a None are many now q = refl
 add_off places bytes page a (Some one) are many now q = ap (λ l. copy_of one.page l q) (block_kept bytes page (filled places) one.copy many (are.within a one now))
 
 -- a page is put in an empty place
-pub put_first : (places : List (Option Kept)) (bytes page : List ℕ) (p : ℕ) (kept : Kept) → length places ≡ 1024 → AreKept places → length bytes ≡ block_size * filled places → IsBlock page → kept.page ≡ p → kept.copy ≡ filled places
+pub put_first : (places : List (Option Kept)) (bytes page : List ℕ) (p : ℕ) (kept : Kept) → length places ≡ 4096 → AreKept places → length bytes ≡ block_size * filled places → IsBlock page → kept.page ≡ p → kept.copy ≡ filled places
     → (q : ℕ) → copies_at (set places (place p) (Some kept)) (bytes ++ page) q ≡ with_copy p page (copies_at places bytes) q
 put_first places bytes page p kept room are many whole number last q =
     let places' = set places (place p) (Some kept) in
@@ -103,36 +103,115 @@ copies_renewed image batch copies are p bytes = by (copies p) (page_in batch p) 
     by (Some old) None was = λ held. sym (same_Some old bytes held) ∙ was old refl
     by (Some old) (Some new) was = λ held. sym (same_Some new bytes held)
 
--- a place that holds a page of the batch has its new bytes
-renewed_put : (batch : List Entry) (n : ℕ) (bytes page : List ℕ) (p : ℕ) → page_in batch n ≡ Some page → copy_of n page p ≡ option_map (λ old. unwrap_or (page_in batch p) old) (copy_of n bytes p)
-renewed_put batch n bytes page p some = elim (eqb_tells p n) [
-  | inl this ↦ by (eqb p n) (page_in batch p) (λ same. ap (page_in batch) this.1 ∙ some)
-  | inr not ↦ by (eqb p n) (page_in batch p) (λ same. absurd (differ (eqb p n) not.0 same))
-]
+-- ---- a batch gives the pages that are held their new bytes
+
+renewed_none : (copy : Option (List ℕ)) → option_map (λ (b : List ℕ). unwrap_or None b) copy ≡ copy
+renewed_none None = refl
+renewed_none (Some b) = refl
+
+renewed_twice : (found copy : Option (List ℕ)) → option_map (λ (b : List ℕ). unwrap_or found b) (option_map (λ (b : List ℕ). unwrap_or found b) copy) ≡ option_map (λ (b : List ℕ). unwrap_or found b) copy
+renewed_twice found None = refl
+renewed_twice None (Some b) = refl
+renewed_twice (Some new) (Some b) = refl
+
+-- a page that isn't held isn't renewed
+pub unheld : (found copy : Option (List ℕ)) (held : Bool) → held ≡ is_some copy → held ≡ false → copy ≡ option_map (λ (b : List ℕ). unwrap_or found b) copy
+unheld found None held is gone = refl
+unheld found (Some b) held is gone = absurd (cc (is, gone))
+
+-- nor is one that the batch lacks
+pub not_in : (found copy : Option (List ℕ)) → None ≡ found → copy ≡ option_map (λ (b : List ℕ). unwrap_or found b) copy
+not_in found copy none =
+    sym (ap (λ (o : Option (List ℕ)). option_map (λ (b : List ℕ). unwrap_or o b) copy) (sym none) ∙ renewed_none copy)
+
+pub copy_here : (p : ℕ) (bytes : List ℕ) (copies : Copies) → with_copy p bytes copies p ≡ Some bytes
+copy_here p bytes copies = ap (λ b. cond b (copy_of p bytes p) (copies p)) (eq-eqb (place p) (place p) refl) ∙ ap (λ b. cond b (Some bytes) None) (eq-eqb p p refl)
+
+-- a page that is held and in the batch is renewed
+pub renewed_held : (batch : List Entry) (copies : Copies) (p : ℕ) (bytes : List ℕ) (held : Bool) → held ≡ is_some (copies p) → held ≡ true → Some bytes ≡ page_in batch p
+    → with_copy p bytes copies p ≡ renewed batch copies p
+renewed_held batch copies p bytes held is there some = copy_here p bytes copies ∙ by (copies p) (sym is ∙ there)
   where
-    differ : (b : Bool) → b ≡ false → b ≡ true → ⊥
-    differ true = λ nope is. search rules
-    differ false = λ nope is. search rules
+    by : (copy : Option (List ℕ)) → is_some copy ≡ true → Some bytes ≡ option_map (λ (b : List ℕ). unwrap_or (page_in batch p) b) copy
+    by None here = absurd (cc (here))
+    by (Some old) here = ap (λ (o : Option (List ℕ)). Some (unwrap_or o old)) some
 
-    by : (b : Bool) (found : Option (List ℕ)) → (b ≡ true → found ≡ Some page) → cond b (Some page) None ≡ option_map (λ old. unwrap_or found old) (cond b (Some bytes) None)
-    by false found some = refl
-    by true found some = sym (ap (λ (o : Option (List ℕ)). Some (unwrap_or o bytes)) (some refl))
+-- of the pages that share a place one at most is held
+one_held : (o : Option Kept) (bytes : List ℕ) (p q : ℕ) → is_some (copy_at o bytes p) ≡ true → q ≢ p → copy_at o bytes q ≡ None
+one_held None bytes p q held other = refl
+one_held (Some kept) bytes p q held other = elim (eqb_tells p kept.page) [
+  | inl this ↦ ap (λ b. cond b (Some (blocks_of bytes kept.copy)) None) (ne_eqb q kept.page (λ same. other (same ∙ sym this.1)))
+  | inr not ↦ absurd (let no : is_some (copy_of kept.page (blocks_of bytes kept.copy) p) ≡ false = ap (λ b. is_some (cond b (Some (blocks_of bytes kept.copy)) None)) not.0 in cc (no, held))
+]
 
--- a block was put for a place: each page there is renewed
-pub renewed_here : (batch : List Entry) (places : List (Option Kept)) (bytes bytes' : List ℕ) (at : ℕ) (kept : Kept) (page : List ℕ) → get_or places at None ≡ Some kept → page_in batch kept.page ≡ Some page → blocks_of bytes' ≡ put kept.copy page (blocks_of bytes)
-    → (p : ℕ) → place p ≡ at → copies_at places bytes' p ≡ renewed batch (copies_at places bytes) p
-renewed_here batch places bytes bytes' at kept page is some put_is p same =
-    let now : get_or places (place p) None ≡ Some kept = ap (λ k. get_or places k None) same ∙ is in
-    let block : blocks_of bytes' kept.copy ≡ page = ap (λ (i : Image). i kept.copy) put_is ∙ ap (λ b. cond b page (blocks_of bytes kept.copy)) (eq-eqb kept.copy kept.copy refl) in
-    ap (λ o. copy_at o bytes' p) now
-    ∙ ap (λ l. copy_of kept.page l p) block
-    ∙ renewed_put batch kept.page (blocks_of bytes kept.copy) page p some
-    ∙ sym (ap (λ o. option_map (λ old. unwrap_or (page_in batch p) old) (copy_at o bytes p)) now)
+-- another page stays as it is where one that is held is written over
+pub others_stay : (places : List (Option Kept)) (bytes page : List ℕ) (p q : ℕ) (held : Bool) → held ≡ is_some (copies_at places bytes p) → held ≡ true → q ≢ p
+    → with_copy p page (copies_at places bytes) q ≡ copies_at places bytes q
+others_stay places bytes page p q held is there other = elim (eqb_tells (place q) (place p)) [
+  | inl same ↦
+      let none : copy_at (get_or places (place p) None) bytes q ≡ None = one_held (get_or places (place p) None) bytes p q (sym is ∙ there) other in
+      ap (λ b. cond b (copy_of p page q) (copies_at places bytes q)) same.0
+      ∙ ap (λ b. cond b (Some page) None) (ne_eqb q p other)
+      ∙ sym (ap (λ k. copy_at (get_or places k None) bytes q) same.1 ∙ none)
+  | inr apart ↦ ap (λ b. cond b (copy_of p page q) (copies_at places bytes q)) apart.0
+]
 
--- and the others stay
-pub renewed_off : (places : List (Option Kept)) (bytes bytes' : List ℕ) (at : ℕ) (kept : Kept) (page : List ℕ) → AreKept places → get_or places at None ≡ Some kept → blocks_of bytes' ≡ put kept.copy page (blocks_of bytes)
-    → (p : ℕ) → place p ≢ at → copies_at places bytes' p ≡ copies_at places bytes p
-renewed_off places bytes bytes' at kept page are is put_is p other = put_off places bytes bytes' page at (place p) kept (get_or places (place p) None) are is refl other put_is p
+-- the first pages of a batch were given to what was held
+pub record IsRenewing (batch : List Entry) (first now : Copies) (at : ℕ) : Type 0 where
+  pub either : (p : ℕ) → (now p ≡ renewed batch first p) ⊎ (now p ≡ first p)
+  pub done : (p k : ℕ) → k < at → (get_or batch k (0, [])).0 ≡ p → now p ≡ renewed batch first p
+
+pub renewing_none : (batch : List Entry) (first : Copies) → IsRenewing batch first first 0
+renewing_none batch first = record {
+  either = λ p. inr refl;
+  done = λ p k low is. absurd (omega (arith, low));
+}
+
+renewed_on : (batch : List Entry) (first now next : Copies) (p : ℕ) → (now p ≡ renewed batch first p) ⊎ (now p ≡ first p) → next p ≡ renewed batch now p → next p ≡ renewed batch first p
+renewed_on batch first now next p (inl done) here =
+    here ∙ ap (option_map (λ (b : List ℕ). unwrap_or (page_in batch p) b)) done ∙ renewed_twice (page_in batch p) (first p)
+renewed_on batch first now next p (inr same) here = here ∙ ap (option_map (λ (b : List ℕ). unwrap_or (page_in batch p) b)) same
+
+-- one page more
+pub renewing_on : (batch : List Entry) (first now next : Copies) (at n : ℕ) → n ≡ (get_or batch at (0, [])).0 → next n ≡ renewed batch now n → ((q : ℕ) → q ≢ n → next q ≡ now q)
+    → IsRenewing batch first now at → IsRenewing batch first next (at + 1)
+renewing_on batch first now next at n number here others was =
+    let this : (p : ℕ) → p ≡ n → next p ≡ renewed batch first p = λ p is.
+    let P : ℕ → Type 0 = λ q. next q ≡ renewed batch now q in
+    renewed_on batch first now next p (was.either p) (subst P (sym is) here) in
+    record {
+      either = λ p. elim (eqb_tells p n) [
+        | inl is ↦ inl (this p is.1)
+        | inr other ↦ elim (was.either p) [ inl done ↦ inl (others p other.1 ∙ done) | inr same ↦ inr (others p other.1 ∙ same) ]
+      ];
+      done = λ p k low is. elim (eqb_tells p n) [
+        | inl same ↦ this p same.1
+        | inr other ↦ elim (cases_lt k at) [
+          | inl before ↦ others p other.1 ∙ was.done p k before is
+          | inr late ↦
+              let last : k ≡ at = omega (arith, low, late) in
+              absurd (other.1 (sym is ∙ ap (λ (j : ℕ). (get_or batch j (0, [])).0) last ∙ sym number))
+        ]
+      ];
+    }
+
+-- where a page of a batch stands
+page_at : (batch : List Entry) (p : ℕ) (bytes : List ℕ) → page_in batch p ≡ Some bytes → (k : ℕ) × ((k < length batch) × ((get_or batch k (0, [])).0 ≡ p))
+page_at [] p bytes is = absurd (none-some bytes is)
+page_at (e ∷ batch) p bytes is = elim (eqb_tells p e.0) [
+  | inl this ↦ (0, (omega arith, sym this.1))
+  | inr other ↦
+      let rest = page_at batch p bytes (sym (ap (λ b. cond b (Some e.1) (page_in batch p)) other.0) ∙ is) in
+      (suc rest.0, (omega (arith, rest.1.0), rest.1.1))
+]
+
+-- all pages of the batch were given
+pub renewed_all : (batch : List Entry) (first now : Copies) (at p : ℕ) → length batch ≤ at → IsRenewing batch first now at → now p ≡ renewed batch first p
+renewed_all batch first now at p all was = elim (was.either p) [ inl done ↦ done | inr same ↦ by (page_in batch p) refl same ]
+  where
+    by : (found : Option (List ℕ)) → page_in batch p ≡ found → now p ≡ first p → now p ≡ renewed batch first p
+    by None none same = same ∙ not_in (page_in batch p) (first p) (sym none)
+    by (Some bytes) some same = let k = page_at batch p bytes some in was.done p k.0 (omega (arith, k.1.0, all)) k.1.1
 
 -- a page that a place holds has its bytes
 pub copy_found : (place_now : Option Kept) (bytes : List ℕ) (kept : Kept) (p : ℕ) → place_now ≡ Some kept → kept.page ≡ p → Some (blocks_of bytes kept.copy) ≡ copy_at place_now bytes p
@@ -143,14 +222,7 @@ copy_found place_now bytes kept p is number =
 abbrev pub empties : ℕ → List (Option Kept)
 empties n = replicate n None
 
-empty_at : (n at : ℕ) → get_or (empties n) at None ≡ None
+pub empty_at : (n at : ℕ) → get_or (empties n) at None ≡ None
 empty_at zero at = refl
 empty_at (suc n) zero = refl
 empty_at (suc n) (suc at) = empty_at n at
-
--- a number below the next one that isn't this one is below this one
-pub below : (n at : ℕ) → n < at + 1 → n ≢ at → n < at
-below n at low other = elim (cases_lt n at) [
-  | inl less ↦ less
-  | inr more ↦ absurd (other (omega (arith, low, more)))
-]

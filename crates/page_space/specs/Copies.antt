@@ -13,7 +13,7 @@ Copies = ℕ → Option (List ℕ)
 
 -- the place of a page
 abbrev pub place : ℕ → ℕ
-place p = p % 1024
+place p = p % 4096
 
 -- what a place that holds the page of this number has of a page
 abbrev pub copy_of : ℕ → List ℕ → Copies

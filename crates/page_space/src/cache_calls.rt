@@ -16,7 +16,7 @@ use std::alloc::{AllocError, Global};
 /// The place of a page.
 fn place(p: u32) -> usize
     ensures place { result ≡ place_of p }
-    ensures within { result < 1024 }
+    ensures within { result < 4096 }
 {
     p as usize % PLACES
 }
@@ -109,23 +109,23 @@ impl PageCache {
         requires { (p : ℕ) (bytes : List ℕ) → page_in (entries batch.now) p ≡ Some bytes → IsBlock bytes }
         ensures { (p : ℕ) → copies_in self.new p ≡ renewed (entries batch.now) (copies_in self.old) p }
     {
-        for at in 0..PLACES {
-            self.renew_place(at, batch);
+        for at in 0..batch.len() {
+            self.renew_page(batch.number(at), batch);
         }
     }
 
-    /// The same at one place.
-    fn renew_place(&mut self, at: usize, batch: &Batch)
-        requires whole { (p : ℕ) (bytes : List ℕ) → page_in (entries batch.now) p ≡ Some bytes → IsBlock bytes }
-        requires within { at < 1024 }
-        ensures here { (p : ℕ) → place_of p ≡ at → copies_in self.new p ≡ renewed (entries batch.now) (copies_in self.old) p }
-        ensures others { (p : ℕ) → place_of p ≢ at → copies_in self.new p ≡ copies_in self.old p }
+    /// The same of one page.
+    fn renew_page(&mut self, p: u32, batch: &Batch)
+        requires { (q : ℕ) (bytes : List ℕ) → page_in (entries batch.now) q ≡ Some bytes → IsBlock bytes }
+        ensures here { copies_in self.new p ≡ renewed (entries batch.now) (copies_in self.old) p }
+        ensures others { (q : ℕ) → q ≢ p → copies_in self.new q ≡ copies_in self.old q }
     {
-        let Some(kept) = self.places[at] else {
+        if !self.holds(p) {
+            return;
+        }
+        let Some(bytes) = batch.get(p) else {
             return;
         };
-        if let Some(bytes) = batch.get(kept.page) {
-            put_block(self.bytes.as_mut_slice(), usize::from(kept.copy), bytes);
-        }
+        self.keep(p, bytes);
     }
 }

@@ -10,7 +10,7 @@ pub(crate) const FIRST: u32 = 17;
 pub(crate) const FEWEST: u32 = 62;
 
 /// How many pages the cache has a place for.
-pub(crate) const PLACES: usize = 1024;
+pub(crate) const PLACES: usize = 4096;
 
 /// The most series of a store.
 pub(crate) const MOST_SERIES: u32 = 512;

@@ -4,7 +4,7 @@
 //! A page is taken from the head of the chain where there is one, else it is the first page that was
 //! never used. A freed page becomes the head of the chain and names the one behind it. A transaction
 //! keeps the pages that it changes, page 0 among them, until they are committed in one batch; dropping
-//! it changes nothing. A page that is read stays in a cache, in the place of its number mod 1,024.
+//! it changes nothing. A page that is read stays in a cache, in the place of its number mod 4,096.
 //!
 //! Invariant of a space: its numbers keep the rules of page 0, and while the pages are sound, page 0
 //! spells them, and what the cache has of a page is that page. Invariant of a transaction: its page 0

@@ -10,15 +10,15 @@ pub(crate) struct Kept {
     pub(crate) copy: u16,
 }
 
-/// Copies of at most 1,024 pages. Page p has the place p mod 1,024.
+/// Copies of at most 4,096 pages. Page p has the place p mod 4,096.
 #[derive(Drop)]
 pub struct PageCache {
     /// The page that each place holds.
     pub(crate) places: Vec<Option<Kept>>,
     /// The copies, one after another, in the order in which their places were first filled.
     pub(crate) bytes: Vec<u8>,
-    ghost many: { length places.items ≡ 1024 },
-    ghost room: { block_size * 1024 ≤ vec_capacity bytes },
+    ghost many: { length places.items ≡ 4096 },
+    ghost room: { block_size * 4096 ≤ vec_capacity bytes },
     ghost whole: { length bytes.items ≡ block_size * filled places.items },
     ghost kept: { AreKept places.items },
 }

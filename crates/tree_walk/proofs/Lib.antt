@@ -5,5 +5,6 @@ pub mod TrailLemmas
 pub mod HoldLemmas
 pub mod StepLemmas
 pub mod WayLemmas
+pub mod NearLemmas
 pub mod AskLemmas
 pub mod SpaceLemmas

@@ -1,5 +1,5 @@
 -- What reading a page into a trail does.
-use Rattle.std.specs.Prelude.{ℕ, ◌≡◌, ◌≢◌, ◌+◌, ◌-◌, ◌<◌, ◌≤◌, ◌⊎◌, List, Some}
+use Rattle.std.specs.Prelude.{ℕ, ◌≡◌, ◌≢◌, ◌+◌, ◌-◌, ◌<◌, ◌≤◌, ◌⊎◌, List, Option, None, Some}
 use Rattle.block_disk.specs.View.{View, Now, Passes}
 use Rattle.block_disk.specs.Counts.{HasRisen}
 use Rattle.gate_pages.specs.Pages.{Quiet}
@@ -9,7 +9,7 @@ use Rattle.om3_coeff.specs.declared.errors.NodeError.TheVariants.{DiskFault, Dam
 use Rattle.om3_coeff.specs.Keys.{page_levels}
 use Rattle.node_page.specs.Fields.{level_at, child_at}
 use Rattle.node_page.specs.Layout.{KeepsLayout}
-use Rattle.node_page.specs.Places.{page_level}
+use Rattle.node_page.specs.Places.{page_level, page_index}
 use Rattle.tree_walk.specs.declared.tree.Tree.{Tree}
 use Rattle.tree_walk.specs.declared.trail.Trail.{Trail}
 use Rattle.tree_walk.specs.declared.held_page.HeldPage.{HeldPage}
@@ -31,6 +31,15 @@ IsHoldCause tells old new number level (BadCoefficient key) = ⊥
 pub record IsHit (trail : Trail) (depth number : ℕ) : Type 0 where
   pub long : depth < trail.len
   pub is : number_at trail.pages.items depth ≡ number
+
+-- the nodes of both keys stand in one page
+abbrev pub AreNear : Key → Key → Type 0
+AreNear last k = (page_level k.level ≡ page_level last.level) × (page_index k ≡ page_index last)
+
+-- the key asked last, where there is one, has its node in the page of this key's node
+abbrev pub IsNear : Option Key → Key → Type 0
+IsNear None k = ⊥
+IsNear (Some last) k = AreNear last k
 
 -- what is held above a depth stays
 pub record IsSameAbove (depth : ℕ) (old new : List HeldPage) : Type 0 where

@@ -7,7 +7,7 @@ ghost use Rattle.page_space.specs.Shown as shown;
 ghost use Rattle.tree_walk.specs.Paths.{told_by_pages};
 ghost use Rattle.tree_walk.specs.Walk as walk;
 
-use crate::paths::descend;
+use crate::paths::reach;
 use crate::trail::Trail;
 use crate::tree::Tree;
 use gate_pages::Pages;
@@ -52,8 +52,9 @@ pub fn coef_at<P: Pages>(
     // the damaged page stands on the way to this key
     ensures damaged { IfErr result (λ cause. walk.BlamesWay cause space.old tree key span) }
 {
+    let last = trail.asked;
     trail.asked = None;
-    let depth = descend(space, trail, tree, key)?;
+    let depth = reach(space, trail, tree, key, last)?;
     let page = &trail.pages[depth];
     let coef = PageView::of(page.bytes.as_slice()).coef_at(node_number(key));
     if split(span, coef).is_err() {

@@ -1,5 +1,5 @@
 //! The way from the root to a key.
-ghost use Rattle.std.specs.Prelude.{◌≡◌, ◌≢◌, ◌≤◌, ◌<◌, ◌+◌, ◌-◌, ◌*◌, ◌^◌, ◌⊎◌, Some, false, IsTrue, IfOk, IfErr, OnOk, OnErr};
+ghost use Rattle.std.specs.Prelude.{◌≡◌, ◌≢◌, ◌≤◌, ◌<◌, ◌+◌, ◌-◌, ◌*◌, ◌^◌, ◌⊎◌, Some, false, IsTrue, IfSome, IfOk, IfErr, OnOk, OnErr};
 ghost use Rattle.block_disk.specs.Blocks.{IsBlock};
 ghost use Rattle.om3_coeff.specs.declared.errors.NodeError.TheVariants.{Damaged};
 ghost use Rattle.om3_coeff.specs.Keys.{page_levels as levels_of, height, IsNode, MayFollow};
@@ -9,15 +9,15 @@ ghost use Rattle.node_page.specs.Layout.{KeepsLayout};
 ghost use Rattle.node_page.specs.Places.{page_level as level_of_page};
 ghost use Rattle.page_space.specs.Shown as shown;
 ghost use Rattle.tree_walk.specs.Paths.{path_child as child_on_path};
-ghost use Rattle.tree_walk.specs.Trails.{IsLinked, LeadsTo};
-ghost use Rattle.tree_walk.specs.Holding.{IsBadPage, IsHit, IsSameAbove};
+ghost use Rattle.tree_walk.specs.Trails.{IsLinked, LeadsTo, LeadsToAny};
+ghost use Rattle.tree_walk.specs.Holding.{IsBadPage, IsHit, IsNear, IsSameAbove};
 ghost use Rattle.tree_walk.specs.Walk as walk;
 
 use crate::held_page::HeldPage;
 use crate::trail::Trail;
 use crate::tree::Tree;
 use gate_pages::Pages;
-use node_page::{PageView, page_level};
+use node_page::{PageView, page_index, page_level};
 use om3_coeff::{Key, NodeError, page_levels};
 use page_space::Space;
 
@@ -167,7 +167,7 @@ fn step<P: Pages>(
 }
 
 /// Has the trail hold the pages on the way to a key, and gives the depth of the page of its node.
-pub(crate) fn descend<P: Pages>(
+fn descend<P: Pages>(
     space: &mut Space<P>,
     trail: &mut Trail,
     tree: Tree,
@@ -201,4 +201,62 @@ pub(crate) fn descend<P: Pages>(
         step(space, trail, levels, key, above)?;
     }
     Ok(depth)
+}
+
+/// Whether the key asked last has its node in the page of a key's node.
+fn is_near(tree: Tree, last: Option<Key>, key: Key) -> bool
+    requires few { tree.slots ≤ 2 ^ 35 }
+    requires key { IsNode (height tree.slots) key }
+    requires last { IfSome last (IsNode (height tree.slots)) }
+    ensures { IsTrue result → IsNear last key }
+{
+    let _levels = page_levels(tree.slots);
+    let Some(last) = last else {
+        return false;
+    };
+    page_level(key.level) == page_level(last.level) && page_index(key) == page_index(last)
+}
+
+/// The depth of the page of a key's node.
+fn depth_of(tree: Tree, key: Key) -> usize
+    requires few { tree.slots ≤ 2 ^ 35 }
+    requires key { IsNode (height tree.slots) key }
+    ensures { result ≡ levels_of tree.slots - level_of_page key.level }
+{
+    usize::from(page_levels(tree.slots)) - usize::from(page_level(key.level))
+}
+
+/// The same as `descend`. Where the key asked last has its node in the page of the key's node, the pages on the way
+/// are held already.
+pub(crate) fn reach<P: Pages>(
+    space: &mut Space<P>,
+    trail: &mut Trail,
+    tree: Tree,
+    key: Key,
+    last: Option<Key>,
+) -> Result<usize, NodeError>
+    requires sound { shown.IsSound space.old }
+    requires few { tree.slots ≤ 2 ^ 35 }
+    requires root { tree.root < shown.total space.old }
+    requires key { IsNode (height tree.slots) key }
+    requires held { walk.Holds space.old (levels_of tree.slots) trail.old }
+    requires leads { LeadsToAny tree trail.old.pages.items trail.old.len last }
+
+    ensures kept { walk.Walks space.old space.new }
+    ensures over { walk.Stays space.old space.new }
+    ensures count { shown.count space.new ≡ shown.count space.old }
+    ensures held { walk.Holds space.new (levels_of tree.slots) trail.new }
+    ensures depth { IfOk result (λ depth. depth ≡ levels_of tree.slots - level_of_page key.level) }
+    ensures leads { OnOk result (LeadsTo tree trail.new.pages.items trail.new.len key) }
+    ensures asked { trail.new.asked ≡ trail.old.asked }
+    ensures one_read { MayFollow (height tree.slots) last key → (shown.view space.new).reads ≤ (shown.view space.old).reads + 1 }
+    ensures reads { (shown.view space.new).reads ≤ (shown.view space.old).reads + levels_of tree.slots }
+    ensures cause { IfErr result (λ cause. walk.FailsOnWay cause space.old space.new tree key) }
+    ensures quiet { OnOk result ((shown.view space.new).faults ≡ (shown.view space.old).faults) }
+    ensures quiet_err { IfErr result (λ e. e ≢ NodeError.DiskFault → (shown.view space.new).faults ≡ (shown.view space.old).faults) }
+{
+    if is_near(tree, last, key) {
+        return Ok(depth_of(tree, key));
+    }
+    descend(space, trail, tree, key)
 }
