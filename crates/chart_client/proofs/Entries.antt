@@ -1,5 +1,5 @@
 -- A key's coefficient in a list that is in order.
-use Rattle.std.proofs.Common.{ℕ, suc, ◌≡◌, ◌≢◌, ◌+◌, ◌<◌, ◌≤◌, inl, inr, Bool, true, false, cond, List, [], ◌∷◌, length, get_or, refl, sym, ◌∙◌, ap₂, subst, arith}
+use Rattle.std.proofs.Common.{ℕ, suc, ◌≡◌, ◌≢◌, ◌+◌, ◌<◌, ◌≤◌, inl, inr, Bool, true, false, cond, List, [], ◌∷◌, length, get_or, refl, sym, ◌∙◌, ap₂, subst, arith, pos}
 use Rattle.std.proofs.lemmas.Bool.{cases_lt}
 use Rattle.std.proofs.lemmas.List.{get_or_default}
 use Rattle.std.specs.Prelude.{Option, Some, None, AllPairs}
@@ -17,6 +17,7 @@ use Rattle.chart_frames.specs.Frames.{Precedes}
 use Rattle.view_keys.specs.Listed.{ComesBefore}
 use Rattle.view_keys.proofs.Orders.{not_itself, before_on}
 use Rattle.chart_client.specs.HeldNodes.{sent_for, held_told}
+use Rattle.chart_client.specs.Looking.{Narrowed}
 
 -- a coefficient that stands before another one
 precedes_before : (a b : Key × Coef) → Precedes a b → ComesBefore a.0 b.0
@@ -45,12 +46,29 @@ pub distinct_in_order : (list : List (Key × Coef)) → AllPairs Precedes list �
 distinct_in_order list order i j d less within = λ same.
     not_itself (get_or list j d).0 (subst (λ (k : Key). ComesBefore k (get_or list j d).0) same (precedes_before (get_or list i d) (get_or list j d) (order i j d less within)))
 
--- a search among the entries has come so far: those before one place come before the key, and those from another place on don't
-pub record Narrowed (list : List (Key × Coef)) (key : Key) (from to : ℕ) : Type 0 where
-  pub order : from ≤ to
-  pub within : to ≤ length list
-  pub before : (i : ℕ) (d : Key × Coef) → i < from → ComesBefore (get_or list i d).0 key
-  pub behind : (i : ℕ) (d : Key × Coef) → to ≤ i → i < length list → ComesBefore (get_or list i d).0 key → ⊥
+abbrev pub no_entry : Key × Coef
+no_entry = (record { level = 0; index = 0 }, record { left = false; right = false; dmin = pos 0; dmax = pos 0 })
+
+pub not_both : (b : Bool) → b ≡ true → b ≡ false → ⊥
+not_both b is is_not = let e : true ≡ false = sym is ∙ is_not in cc
+
+-- where nothing was compared yet
+pub narrowed_none : (list : List (Key × Coef)) (key : Key) → Narrowed list key 0 (length list)
+narrowed_none list key = record {
+  order = omega arith;
+  within = omega arith;
+  before = λ i d low. absurd (omega (arith, low));
+  behind = λ i d more within. absurd (omega (arith, more, within));
+}
+
+-- what two comparisons show together
+pub narrowed_both : (list : List (Key × Coef)) (key : Key) (from to : ℕ) → from ≤ to → Narrowed list key from (length list) → Narrowed list key 0 to → Narrowed list key from to
+narrowed_both list key from to order above below = record {
+  order = order;
+  within = below.within;
+  before = above.before;
+  behind = below.behind;
+}
 
 pub narrowed_up : (list : List (Key × Coef)) (key : Key) (from to middle next : ℕ) (x : Key × Coef) → AllPairs Precedes list → Narrowed list key from to
     → middle < to → next ≡ middle + 1 → x ≡ get_or list middle x → ComesBefore x.0 key → Narrowed list key next to

@@ -3,6 +3,7 @@ pub mod Held
 pub mod Agreeing
 pub mod Failing
 pub mod HeldNodes
+pub mod Looking
 pub mod Keeping
 pub mod Searching
 pub mod Drawing

@@ -16,7 +16,7 @@ use crate::drawing::{axis_of, root_of};
 use crate::errors::ClientError;
 use crate::failing::first_failing;
 use crate::failure::Failure;
-use crate::held_nodes::HeldNodes;
+use crate::held_nodes::{HeldNodes, LEVELS};
 use chart_frames::ViewFrame;
 use chart_grid::Grid;
 use coefficient_cache::CoefficientCache;
@@ -50,6 +50,7 @@ pub(crate) fn find(
         slots: view.slots,
         root: root_of(view),
         asked: None,
+        hints: [0; LEVELS],
     };
     match survey(alloc, &mut nodes, axis, grid, view.lo, view.hi) {
         Ok(findings) => Ok(findings),

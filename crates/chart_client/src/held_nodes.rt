@@ -23,17 +23,24 @@ pub(crate) struct HeldNodes<'a> {
     pub(crate) slots: u64,
     pub(crate) root: Option<Span>,
     pub(crate) asked: Option<Key>,
+    /// Where among the sent coefficients the next key of each level may stand.
+    pub(crate) hints: [usize; LEVELS],
 }
 
+/// More than a tree has.
+pub(crate) const LEVELS: usize = 64;
+
 impl<'a> HeldNodes<'a> {
-    /// The coefficient of a key: the one that is sent or, where none is, the one that is held.
-    pub(crate) fn told(&self, key: Key) -> Option<Coef>
+    /// The coefficient of a key: the one that is sent or, where none is, the one that is held; and a hint
+    /// for the next key on its level.
+    pub(crate) fn told(&self, key: Key, hint: usize) -> (Option<Coef>, usize)
         requires order { AllPairs Precedes self.now.sent.now }
-        ensures { result ≡ held_told self.now.series self.now.sent.now self.now.cache.now key }
+        ensures { result.0 ≡ held_told self.now.series self.now.sent.now self.now.cache.now key }
     {
-        match look_up(self.sent, key) {
-            Some(coef) => Some(coef),
-            None => self.cache.find(self.series, key),
+        let (sent, next) = look_up(self.sent, key, hint);
+        match sent {
+            Some(coef) => (Some(coef), next),
+            None => (self.cache.find(self.series, key), next),
         }
     }
 
@@ -51,7 +58,8 @@ impl<'a> HeldNodes<'a> {
         ensures named { IfErr result (λ f. f.key ≡ key) }
         ensures fails { IfErr result (λ f. IsFailure (seen_of self.now) self.now.slots f) }
     {
-        let Some(coef) = self.told(key) else {
+        let (told, _) = self.told(key, 0);
+        let Some(coef) = told else {
             return Err(Failure {
                 key,
                 is_missing: true,
@@ -85,7 +93,10 @@ impl<'a> Nodes for HeldNodes<'a> {
 
     fn coef(&mut self, key: Key, span: Span) -> Result<Coef, NodeError> {
         self.asked = None;
-        let Some(coef) = self.told(key) else {
+        let level = usize::from(key.level) % LEVELS;
+        let (told, next) = self.told(key, self.hints[level]);
+        self.hints[level] = next;
+        let Some(coef) = told else {
             return Err(NodeError::Missing { key });
         };
         if split(span, coef).is_err() {

@@ -1,5 +1,4 @@
 pub mod Finds
-pub mod Written
 pub mod Moves
 pub mod Keys
 pub mod Steps
@@ -7,4 +6,6 @@ pub mod Filtered
 pub mod Given
 pub mod Unmoved
 pub mod Empty
+pub mod Kept
+pub mod Putting
 pub mod Apart

@@ -9,7 +9,7 @@ use Rattle.std.proofs.lemmas.Map.{lookup-none}
 use Rattle.std.proofs.lemmas.Map.Keys.{IsDistinct-tail}
 use Rattle.std.proofs.lemmas.Map.Entries.{lookup-filter-keys, none_past_head}
 use Rattle.std.proofs.lemmas.List.Elements.{filter-append}
-use Rattle.lru.specs.LruCache.{lru_cache, put_entries}
+use Rattle.coefficient_cache.specs.Puts.{put_entries}
 use Rattle.coefficient_cache.proofs.Finds.{none_from_is_some, has-append, has-reverse, lookup-take-none, entry_none, entry_there, entry-behind, remove-behind}
 
 or-true : (a : Bool) → (a || true) ≡ true
@@ -109,12 +109,12 @@ module _ {K V : Type 0} {eq : K → K → Bool} (laws : IsEquivalence eq) (exact
   abbrev pub moved : List (K × V) → List (K × V) → List (K × V)
   moved pairs xs = reverse (hits pairs xs) ++ others pairs xs
 
-  put-found : (pairs xs : List (K × V)) (k : K) (v : V) (n : ℕ) (f : K × V) → lookup_entry (eq k) (moved pairs xs) ≡ Some f → eq k f.0 ≡ true → put_entries eq (lru_cache (moved pairs xs) n) k v ≡ (k, v) ∷ remove_entry (eq k) (moved pairs xs)
+  put-found : (pairs xs : List (K × V)) (k : K) (v : V) (n : ℕ) (f : K × V) → lookup_entry (eq k) (moved pairs xs) ≡ Some f → eq k f.0 ≡ true → put_entries eq (moved pairs xs) n k v ≡ (k, v) ∷ remove_entry (eq k) (moved pairs xs)
   put-found pairs xs k v n f h t =
       ap (λ o. option_map_or (λ e. (e.0, v) ∷ remove_entry (eq k) (moved pairs xs)) o ((k, v) ∷ take (n - 1) (moved pairs xs))) h
       ∙ ap (λ j. (j, v) ∷ remove_entry (eq k) (moved pairs xs)) (sym (exact k f.0 t))
 
-  put-missed : (L : List (K × V)) (k : K) (v : V) (n : ℕ) → lookup (eq k) L ≡ None → put_entries eq (lru_cache L n) k v ≡ (k, v) ∷ take (n - 1) L
+  put-missed : (L : List (K × V)) (k : K) (v : V) (n : ℕ) → lookup (eq k) L ≡ None → put_entries eq L n k v ≡ (k, v) ∷ take (n - 1) L
   put-missed L k v n h = ap (λ o. option_map_or (λ e. (e.0, v) ∷ remove_entry (eq k) L) o ((k, v) ∷ take (n - 1) L)) (entry_none (eq k) L h)
 
   -- the hits so far don't have a key that wasn't needed so far
@@ -126,7 +126,7 @@ module _ {K V : Type 0} {eq : K → K → Bool} (laws : IsEquivalence eq) (exact
   filter-one p xs e b h = filter-append p xs (e ∷ []) ∙ ap (λ c. filter p xs ++ cond c (e ∷ []) []) h
 
   -- a needed key that the list has comes to its front
-  pub move-hit : (pairs xs : List (K × V)) (k : K) (v : V) (n : ℕ) → IsDistinct eq (keys_of pairs) → has xs k ≡ false → has pairs k ≡ true → put_entries eq (lru_cache (moved pairs xs) n) k v ≡ moved pairs (xs ++ (k, v) ∷ [])
+  pub move-hit : (pairs xs : List (K × V)) (k : K) (v : V) (n : ℕ) → IsDistinct eq (keys_of pairs) → has xs k ≡ false → has pairs k ≡ true → put_entries eq (moved pairs xs) n k v ≡ moved pairs (xs ++ (k, v) ∷ [])
   move-hit pairs xs k v n d fresh there =
       let none = hits-apart pairs xs k fresh in
       let at : lookup_entry (eq k) (moved pairs xs) ≡ lookup_entry (eq k) pairs = entry-behind (eq k) (reverse (hits pairs xs)) (others pairs xs) none ∙ entry-others pairs xs k fresh in
@@ -160,7 +160,7 @@ module _ {K V : Type 0} {eq : K → K → Bool} (laws : IsEquivalence eq) (exact
       ap (λ m. x ∷ take m (take (suc n) L)) less ∙ ap (λ zs. x ∷ zs) (take-take n (suc n) L (omega arith))
 
   -- a needed key that the list lacks is put in front
-  pub put-new : (base xs : List (K × V)) (k : K) (v : V) (n : ℕ) → 0 < n → has xs k ≡ false → has base k ≡ false → put_entries eq (lru_cache (topped n base xs) n) k v ≡ topped n base (xs ++ (k, v) ∷ [])
+  pub put-new : (base xs : List (K × V)) (k : K) (v : V) (n : ℕ) → 0 < n → has xs k ≡ false → has base k ≡ false → put_entries eq (topped n base xs) n k v ≡ topped n base (xs ++ (k, v) ∷ [])
   put-new base xs k v n some fresh out =
       let L = reverse (news base xs) ++ base in
       let none : has L k ≡ false =

@@ -3,7 +3,8 @@ use Rattle.std.proofs.Common.{◌≡◌, ℕ, ◌+◌, ◌<◌, Bool, true, fals
 use Rattle.std.specs.List.{IsDistinct, filter}
 use Rattle.std.specs.Map.{keys_of}
 use Rattle.std.proofs.lemmas.List.{map-append, length-map, get_or-map}
-use Rattle.lru.specs.LruCache.{LruCache, lru_cache, put_entries}
+use Rattle.coefficient_cache.specs.Puts.{put_entries}
+use Rattle.coefficient_cache.specs.Caches.{Cache}
 use Rattle.om3_coeff.specs.declared.key.Key.{Key}
 use Rattle.om3_coeff.specs.declared.coef.Coef.{Coef}
 use Rattle.coefficient_cache.specs.declared.series_key.SeriesKey.{SeriesKey}
@@ -52,22 +53,21 @@ module _ (series : ℕ) (needed : List (Key × Coef)) (i : ℕ) (d : Key × Coef
   fresh : has before key ≡ false
   fresh = is_fresh series needed i d distinct in_range
 
-  hit_or_miss : (pairs : List (SeriesKey × Coef)) (n : ℕ) (b : Bool) → IsDistinct key_eq (keys_of pairs) → has pairs key ≡ b → cond b (put_entries key_eq (lru_cache (moved_keys pairs before) n) key coef) (moved_keys pairs before) ≡ moved_keys pairs (before ++ (key, coef) ∷ [])
+  hit_or_miss : (pairs : List (SeriesKey × Coef)) (n : ℕ) (b : Bool) → IsDistinct key_eq (keys_of pairs) → has pairs key ≡ b → cond b (put_entries key_eq (moved_keys pairs before) n key coef) (moved_keys pairs before) ≡ moved_keys pairs (before ++ (key, coef) ∷ [])
   hit_or_miss pairs n true apart h = move-hit key_laws key_exact pairs before key coef n apart fresh h
   hit_or_miss pairs n false apart h = move-miss key_laws key_exact pairs before key coef h
 
   -- a needed key that is in the list comes to its front, and nothing moves for another
-  pub hits-step : (pairs : List (SeriesKey × Coef)) (old : LruCache SeriesKey Coef) (k : SeriesKey) (new : List (SeriesKey × Coef)) → IsDistinct key_eq (keys_of pairs) → old.entries ≡ moved_keys pairs before → k ≡ key → new ≡ (if has old.entries k then put_entries key_eq old k coef else old.entries) → new ≡ moved_keys pairs after
+  pub hits-step : (pairs : List (SeriesKey × Coef)) (old : Cache) (k : SeriesKey) (new : List (SeriesKey × Coef)) → IsDistinct key_eq (keys_of pairs) → old.pairs ≡ moved_keys pairs before → k ≡ key → new ≡ (if has old.pairs k then put_entries key_eq old.pairs old.capacity k coef else old.pairs) → new ≡ moved_keys pairs after
   hits-step pairs old k new apart was is then_ =
-      let same : old ≡ lru_cache (moved_keys pairs before) old.cap = (λ j. lru_cache (was j) old.cap) in
       then_
-      ∙ (λ j. if has (same j).entries (is j) then put_entries key_eq (same j) (is j) coef else (same j).entries)
-      ∙ ap (λ b. cond b (put_entries key_eq (lru_cache (moved_keys pairs before) old.cap) key coef) (moved_keys pairs before)) (has-moved key_laws key_exact pairs before key)
-      ∙ hit_or_miss pairs old.cap (has pairs key) apart refl
+      ∙ (λ j. if has (was j) (is j) then put_entries key_eq (was j) old.capacity (is j) coef else was j)
+      ∙ ap (λ b. cond b (put_entries key_eq (moved_keys pairs before) old.capacity key coef) (moved_keys pairs before)) (has-moved key_laws key_exact pairs before key)
+      ∙ hit_or_miss pairs old.capacity (has pairs key) apart refl
       ∙ ap (moved_keys pairs) (sym more)
 
   -- it is told whether it is new
-  pub flags-step : (pairs : List (SeriesKey × Coef)) (old : LruCache SeriesKey Coef) (k : SeriesKey) (there : Bool) (flags : List Bool) → old.entries ≡ moved_keys pairs before → k ≡ key → there ≡ has old.entries k → flags ≡ are_new pairs before → flags ++ not there ∷ [] ≡ are_new pairs after
+  pub flags-step : (pairs : List (SeriesKey × Coef)) (old : Cache) (k : SeriesKey) (there : Bool) (flags : List Bool) → old.pairs ≡ moved_keys pairs before → k ≡ key → there ≡ has old.pairs k → flags ≡ are_new pairs before → flags ++ not there ∷ [] ≡ are_new pairs after
   flags-step pairs old k there flags was is tells so_far =
       (λ j. so_far j ++ not ((tells ∙ (λ m. has (was m) (is m)) ∙ has-moved key_laws key_exact pairs before key) j) ∷ [])
       ∙ sym (map-append (λ e. not (has pairs e.0)) before ((key, coef) ∷ []))
@@ -84,10 +84,10 @@ module _ (series : ℕ) (needed : List (Key × Coef)) (i : ℕ) (d : Key × Coef
       not_turned (has base key) b (sym told ∙ at)
 
   -- a new key is put in front
-  pub new-step : (base : List (SeriesKey × Coef)) (old : LruCache SeriesKey Coef) (n : ℕ) (k : SeriesKey) (new : List (SeriesKey × Coef)) → 0 < n → has base key ≡ false → old.entries ≡ topped_keys n base before → old.cap ≡ n → k ≡ key → new ≡ put_entries key_eq old k coef → new ≡ topped_keys n base after
+  pub new-step : (base : List (SeriesKey × Coef)) (old : Cache) (n : ℕ) (k : SeriesKey) (new : List (SeriesKey × Coef)) → 0 < n → has base key ≡ false → old.pairs ≡ topped_keys n base before → old.capacity ≡ n → k ≡ key → new ≡ put_entries key_eq old.pairs old.capacity k coef → new ≡ topped_keys n base after
   new-step base old n k new some out was size is put =
       put
-      ∙ (λ j. put_entries key_eq (lru_cache (was j) (size j)) (is j) coef)
+      ∙ (λ j. put_entries key_eq (was j) (size j) (is j) coef)
       ∙ put-new key_laws key_exact base before key coef n some fresh out
       ∙ ap (topped_keys n base) (sym more)
 

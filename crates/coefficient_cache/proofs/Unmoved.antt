@@ -23,14 +23,14 @@ or-true true = refl
 or-true false = refl
 
 -- a pair is found behind others
-there : (xs : List (SeriesKey × Coef)) (e : SeriesKey × Coef) (ys : List (SeriesKey × Coef)) → has (xs ++ e ∷ ys) e.0 ≡ true
+pub there : (xs : List (SeriesKey × Coef)) (e : SeriesKey × Coef) (ys : List (SeriesKey × Coef)) → has (xs ++ e ∷ ys) e.0 ≡ true
 there xs e ys =
     has-append (key_eq e.0) xs (e ∷ ys)
     ∙ (λ i. has xs e.0 || (has-cons (key_eq e.0) e ys ∙ ap (λ b. b || has ys e.0) (key_laws.refl e.0)) i)
     ∙ or-true (has xs e.0)
 
 -- where no two keys are the same, a key that stands behind isn't in front
-past : (xs ys : List (SeriesKey × Coef)) (k : SeriesKey) → IsDistinct key_eq (keys_of (xs ++ ys)) → has ys k ≡ true → has xs k ≡ false
+pub past : (xs ys : List (SeriesKey × Coef)) (k : SeriesKey) → IsDistinct key_eq (keys_of (xs ++ ys)) → has ys k ≡ true → has xs k ≡ false
 past [] ys k d h = refl
 past (x ∷ xs) ys k d h =
     let on : has xs k ≡ false = past xs ys k (IsDistinct-tail key_eq x.0 (keys_of (xs ++ ys)) d) h in
@@ -51,7 +51,7 @@ found xs e ys d =
     ∙ ap (λ b. cond b (Some e.1) (lookup (key_eq e.0) ys)) (key_laws.refl e.0)
 
 -- one of the turned pairs is the first of what is behind them
-turn : (e : SeriesKey × Coef) (xs ys : List (SeriesKey × Coef)) → reverse (e ∷ xs) ++ ys ≡ reverse xs ++ (e ∷ ys)
+pub turn : (e : SeriesKey × Coef) (xs ys : List (SeriesKey × Coef)) → reverse (e ∷ xs) ++ ys ≡ reverse xs ++ (e ∷ ys)
 turn e xs ys = ap (λ l. l ++ ys) (reverse-append (e ∷ []) xs) ∙ append_assoc (reverse xs) (e ∷ []) ys
 
 module _ (pairs : List (SeriesKey × Coef)) (apart : IsDistinct key_eq (keys_of pairs)) where

@@ -3,13 +3,12 @@ ghost use Rattle.coefficient_cache.specs.Pairs.{series_key, coefficient_at, hold
 ghost use Rattle.coefficient_cache.specs.Views.{AreDistinct, to_send, renewed};
 ghost use Rattle.coefficient_cache.specs.Caches.{IsCapacity, IsValid};
 
-use crate::renewal::{Pairs, is_in_front, put_news, renew_hits};
+use crate::pair_list::PairList;
+use crate::renewal::{put_news, renew_hits};
 use crate::series_key::SeriesKey;
-use lru::LruCache;
 use om3_coeff::{Coef, Coefs, Key};
 use std::alloc::{AllocError, Global};
 use std::marker::Model;
-use std::num::NonZeroUsize;
 
 /// The most pairs that a list may have.
 pub const MOST_CAPACITY: u32 = 131_072;
@@ -25,17 +24,15 @@ pub fn is_capacity(n: u64) -> bool
 /// is the same.
 #[derive(Drop)]
 pub struct CoefficientCache {
-    pairs: Pairs,
+    list: PairList,
 }
 
 impl Model for CoefficientCache {
-    ghost use Rattle.coefficient_cache.specs.Caches.{Cache, IsCapacity};
+    ghost use Rattle.coefficient_cache.specs.Caches.{Cache};
 
     ghost Value = { Cache };
 
-    ghost view = { λ c. record { pairs = c.pairs.entries; capacity = c.pairs.cap } };
-
-    ghost invariant = { λ c. IsCapacity c.pairs.cap };
+    ghost view = { λ c. c.list };
 }
 
 impl CoefficientCache {
@@ -44,9 +41,8 @@ impl CoefficientCache {
         requires { IsCapacity capacity }
         ensures { IfOk result (λ cache. cache ≡ record { pairs = []; capacity = capacity }) }
     {
-        let capacity = NonZeroUsize::new(capacity as usize).unwrap();
         Ok(CoefficientCache {
-            pairs: LruCache::sparse(alloc, capacity)?,
+            list: PairList::new(alloc, capacity),
         })
     }
 
@@ -55,14 +51,14 @@ impl CoefficientCache {
         ensures len { result ≡ length self.now.pairs }
         ensures valid { IsValid self.now }
     {
-        self.pairs.len()
+        self.list.len()
     }
 
     /// Whether the list has no pair.
     pub fn is_empty(&self) -> bool
         ensures { IsTrue result ↔ (self.now.pairs ≡ []) }
     {
-        self.pairs.is_empty()
+        self.list.is_empty()
     }
 
     /// How many pairs the list may have.
@@ -70,14 +66,14 @@ impl CoefficientCache {
         ensures capacity { result ≡ self.now.capacity }
         ensures in_range { IsCapacity self.now.capacity }
     {
-        self.pairs.cap().get() as u32
+        self.list.capacity()
     }
 
     /// The coefficient that the list holds for a key of a series. The list stays in its order.
     pub fn find(&self, series: u16, key: Key) -> Option<Coef>
         ensures { result ≡ coefficient_at self.now.pairs (series_key series key) }
     {
-        self.pairs.peek(&SeriesKey::new(series, key)).copied()
+        self.list.find(SeriesKey::new(series, key))
     }
 
     /// Those of the needed keys of a series, in order, which the list lacks or holds with another
@@ -95,9 +91,9 @@ impl CoefficientCache {
             return Ok(Coefs::from_vec(all));
         }
         // It brings in what holds of every list: no two keys are the same.
-        let _length = self.pairs.len();
+        let _length = self.list.len();
         let mut sent = Vec::new(alloc);
-        if is_in_front(&self.pairs, series, needed) {
+        if self.list.is_in_front(series, needed) {
             return Ok(Coefs::from_vec(sent));
         }
         for (key, coef) in needed {
@@ -135,11 +131,12 @@ impl CoefficientCache {
         ensures capacity { self.new.capacity ≡ self.old.capacity }
     {
         // It brings in what holds of every list: no two keys are the same, and it is within its capacity.
-        let _length = self.pairs.len();
-        if is_in_front(&self.pairs, series, needed) {
+        let _length = self.list.len();
+        if self.list.is_in_front(series, needed) {
             return Ok(());
         }
-        let is_new = renew_hits(&mut self.pairs, alloc, series, needed)?;
-        put_news(&mut self.pairs, series, needed, &is_new)
+        let is_new = renew_hits(&mut self.list, alloc, series, needed)?;
+        put_news(&mut self.list, series, needed, &is_new)?;
+        self.list.pack(alloc)
     }
 }

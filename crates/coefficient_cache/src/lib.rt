@@ -14,8 +14,12 @@
 
 mod cache;
 pub mod laws;
+mod pair_list;
 mod renewal;
 mod series_key;
 
 pub use cache::{CoefficientCache, MOST_CAPACITY, is_capacity};
+// A crate can name a list in a contract only if the types of its fields are exported.
+#[doc(hidden)]
+pub use pair_list::PairList;
 pub use series_key::SeriesKey;

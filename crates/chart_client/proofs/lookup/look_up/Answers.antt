@@ -1,18 +1,12 @@
-use Rattle.std.proofs.Common.{ℕ, ◌≡◌, ◌<◌, ◌+◌, ◌-◌, ◌/◌, Bool, true, false, refl, sym, ◌∙◌, pos, arith, List, get_or, length}
+use Rattle.std.proofs.Common.{ℕ, ◌≡◌, ◌<◌, ◌+◌, ◌-◌, ◌/◌, refl, arith, List, get_or, length}
 use Rattle.std.proofs.lemmas.List.{get_or_default}
 use Rattle.om3_coeff.specs.declared.key.Key.{Key}
 use Rattle.om3_coeff.specs.declared.coef.Coef.{Coef}
-use Rattle.chart_client.proofs.Entries.{narrowed_up, narrowed_down, entry_found, none_left, none_found}
+use Rattle.chart_client.proofs.Entries.{no_entry, not_both, narrowed_up, narrowed_down, entry_found, none_left, none_found}
 use Rattle.chart_client.proofs.lookup.look_up.Goals as goal
-
-abbrev no_entry : Key × Coef
-no_entry = (record { level = 0; index = 0 }, record { left = false; right = false; dmin = pos 0; dmax = pos 0 })
 
 same : (list : List (Key × Coef)) (i : ℕ) → i < length list → get_or list i no_entry ≡ get_or list i (get_or list i no_entry)
 same list i within = get_or_default list i no_entry (get_or list i no_entry) within
-
-not_both : (b : Bool) → b ≡ true → b ≡ false → ⊥
-not_both b is is_not = let e : true ≡ false = sym is ∙ is_not in cc
 
 pub loop-from-preserved-then-comes_before : goal.loop-from-preserved-then-comes_before
 loop-from-preserved-then-comes_before c =

@@ -1,5 +1,5 @@
 use Rattle.std.proofs.Common.{◌-◌}
-use Rattle.chart_client.proofs.Entries.{Narrowed}
+use Rattle.chart_client.specs.Looking.{Narrowed}
 use Rattle.chart_client.proofs.lookup.look_up.Given as goal
 
 abbrev pub invariant-loop-from : goal.invariant-loop-from

@@ -9,14 +9,14 @@ pub loop-i-preserved : goal.loop-i-preserved
 loop-i-preserved c = elim c.if-is_new-i.branch [
   | then-is_new-i+in_ok-put w ↦
       let was = c.loop-i.invariant in
-      let put = w.in_ok-put.ensures.entries in record {
-        topped = ap (λ p. p.entries) w.pairs-is ∙ new-step c.args.series c.args.needed.now c.loop-i.i _ c.requires.distinct c.loop-i-test.true c.args.pairs.now.entries c.loop-i.pairs c.args.pairs.now.cap w.new.result _ c.len-length.ensures.valid.2 (flag-at c.args.series c.args.needed.now c.loop-i.i _ c.requires.distinct c.loop-i-test.true c.args.pairs.now.entries c.args.is_new.now true false c.requires.news w.if-is_new-i.true) was.topped was.capacity w.new.ensures (ap (λ p. p.entries) put);
-        capacity = ap (λ p. p.cap) w.pairs-is ∙ ap (λ p. p.cap) put ∙ was.capacity;
+      let put = w.in_ok-put.ensures in record {
+        topped = ap (λ p. p.pairs) w.list-is ∙ new-step c.args.series c.args.needed.now c.loop-i.i _ c.requires.distinct c.loop-i-test.true c.args.list.now.pairs c.loop-i.list c.args.list.now.capacity w.new.result _ c.len-length.ensures.limit.0 (flag-at c.args.series c.args.needed.now c.loop-i.i _ c.requires.distinct c.loop-i-test.true c.args.list.now.pairs c.args.is_new.now true false c.requires.news w.if-is_new-i.true) was.topped was.capacity w.new.ensures put.pairs;
+        capacity = ap (λ p. p.capacity) w.list-is ∙ put.capacity ∙ was.capacity;
       }
   | else-is_new-i w ↦
       let was = c.loop-i.invariant in
       let none : Key × Coef = (record { level = 0; index = 0 }, record { left = false; right = false; dmin = pos 0; dmax = pos 0 }) in record {
-        topped = ap (λ p. p.entries) w.pairs-is ∙ old-step c.args.series c.args.needed.now c.loop-i.i none c.requires.distinct c.loop-i-test.true c.args.pairs.now.entries c.loop-i.pairs.entries c.args.pairs.now.cap (flag-at c.args.series c.args.needed.now c.loop-i.i none c.requires.distinct c.loop-i-test.true c.args.pairs.now.entries c.args.is_new.now false false c.requires.news w.if-is_new-i.false) was.topped;
-        capacity = ap (λ p. p.cap) w.pairs-is ∙ was.capacity;
+        topped = ap (λ p. p.pairs) w.list-is ∙ old-step c.args.series c.args.needed.now c.loop-i.i none c.requires.distinct c.loop-i-test.true c.args.list.now.pairs c.loop-i.list.pairs c.args.list.now.capacity (flag-at c.args.series c.args.needed.now c.loop-i.i none c.requires.distinct c.loop-i-test.true c.args.list.now.pairs c.args.is_new.now false false c.requires.news w.if-is_new-i.false) was.topped;
+        capacity = ap (λ p. p.capacity) w.list-is ∙ was.capacity;
       }
 ]

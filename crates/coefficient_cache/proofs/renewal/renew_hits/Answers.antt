@@ -15,30 +15,30 @@ empty es r is told = nil_from_length es ((Decides-eqb (length es) 0).0 (sym told
 
 pub loop-key-init : goal.loop-key-init
 loop-key-init c = record {
-  moved = sym (others-none c.args.pairs.now.entries);
+  moved = sym (others-none c.args.list.now.pairs);
   flags = c.in_ok-is_new.ensures.items;
   capacity = refl;
 }
 
 pub loop-key-preserved : goal.loop-key-preserved
 loop-key-preserved c =
-    let was = c.loop-key.invariant in let turn = c.renew_hit.ensures in record {
-      moved = hits-step c.args.series c.args.needed.now c.loop-key.key-index _ c.requires c.loop-key-test.true c.args.pairs.now.entries c.loop-key.pairs c.new.result _ c.len-length.ensures.valid.0 was.moved c.new.ensures turn.entries;
-      flags = c.in_ok-push.ensures.items ∙ flags-step c.args.series c.args.needed.now c.loop-key.key-index _ c.requires c.loop-key-test.true c.args.pairs.now.entries c.loop-key.pairs c.new.result c.renew_hit.result c.loop-key.is_new.items was.moved c.new.ensures turn.there was.flags;
+    let was = c.loop-key.invariant in let turn = c.in_ok-is_there.ensures in record {
+      moved = hits-step c.args.series c.args.needed.now c.loop-key.key-index _ c.requires c.loop-key-test.true c.args.list.now.pairs c.loop-key.list c.new.result _ c.len-length.ensures.valid.distinct was.moved c.new.ensures turn.pairs;
+      flags = c.in_ok-push.ensures.items ∙ flags-step c.args.series c.args.needed.now c.loop-key.key-index _ c.requires c.loop-key-test.true c.args.list.now.pairs c.loop-key.list c.new.result c.in_ok-is_there.is_there c.loop-key.is_new.items was.moved c.new.ensures turn.there was.flags;
       capacity = turn.capacity ∙ was.capacity;
     }
 
 pub returns-then-is_empty-clause-hits : goal.returns-then-is_empty-clause-hits
 returns-then-is_empty-clause-hits c =
     let all = in_series c.args.series c.args.needed.now in
-    let none : c.args.pairs.now.entries ≡ [] = empty c.args.pairs.now.entries c.is_empty.result c.if-is_empty.true c.is_empty.ensures in
+    let none : c.args.list.now.pairs ≡ [] = empty c.args.list.now.pairs c.is_empty.result c.if-is_empty.true c.is_empty.ensures in
     none ∙ ap reverse (sym (no-hits all)) ∙ sym (append-nil (reverse (hits [] all)))
     ∙ ap (λ l. reverse (hits l all) ++ others l all) (sym none)
 
 pub returns-then-is_empty-clause-news : goal.returns-then-is_empty-clause-news
 returns-then-is_empty-clause-news c =
     let all = in_series c.args.series c.args.needed.now in
-    let none : c.args.pairs.now.entries ≡ [] = empty c.args.pairs.now.entries c.is_empty.result c.if-is_empty.true c.is_empty.ensures in
+    let none : c.args.list.now.pairs ≡ [] = empty c.args.list.now.pairs c.is_empty.result c.if-is_empty.true c.is_empty.ensures in
     c.in_ok-all_new.ensures.items_if_clones_equal (λ y same. same)
     ∙ all-new c.args.series c.args.needed.now
     ∙ ap (λ l. are_new l all) (sym none)

@@ -25,7 +25,7 @@ returns-then-is_err-clause-cause c = record {
   span = c.args.span;
   known_so = sym (usable_known (seen_of c.args.self.now) c.args.self.now.slots c.args.key) ∙ c.requires.seen tt;
   coef = c.in-Some.coef;
-  told = sym c.told.ensures ∙ c.in-Some.is;
+  told = sym c.told-told.ensures ∙ c.in-Some.is;
   splits_not = splits_not c.split.result (parts c.args.span c.in-Some.coef ≡ None) c.split.ensures.none (sym c.is_err.ensures.value ∙ c.if-is_err.true);
 }
 
@@ -34,4 +34,4 @@ returns-clause-told c = λ tells.
     let s : Split c.args.span c.in-Some.coef = splits c.split.result c.args.span c.in-Some.coef c.split.ensures.parts (sym c.is_err.ensures.value ∙ c.if-is_err.false) in
     usable_split (seen_of c.args.self.now) c.args.self.now.slots c.args.key c.args.span c.in-Some.coef s.halves
     (sym (usable_known (seen_of c.args.self.now) c.args.self.now.slots c.args.key) ∙ c.requires.seen tt)
-    (sym c.told.ensures ∙ c.in-Some.is) s.is
+    (sym c.told-told.ensures ∙ c.in-Some.is) s.is

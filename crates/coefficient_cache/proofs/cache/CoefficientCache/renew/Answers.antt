@@ -11,24 +11,25 @@ pub put_news-requires-clause-news : goal.put_news-requires-clause-news
 put_news-requires-clause-news c =
     let all = in_series c.args.series c.args.needed.now in
     let hits = c.in_ok-is_new.ensures in
-    c.deref.ensures.value ∙ hits.news ∙ sym (are_new-moved c.self.inside.pairs.entries all) ∙ ap (λ l. are_new l all) (sym hits.hits)
+    c.deref.ensures.value ∙ hits.news ∙ sym (are_new-moved c.self.inside.list.pairs all) ∙ ap (λ l. are_new l all) (sym hits.hits)
 
 pub returns-clause-renewed : goal.returns-clause-renewed
 returns-clause-renewed c =
     let all = in_series c.args.series c.args.needed.now in
     let hits = c.in_ok-is_new.ensures in
-    let inside = c.self.inside.pairs in
-    subst (λ (l : List (SeriesKey × Coef)). OnOk c.put_news.result (c.put_news.new.pairs.entries ≡ l))
-    ((λ i. topped_keys (hits.capacity i) (hits.hits i) all)
-    ∙ topped-moved inside.cap inside.entries all
+    let inside = c.self.inside.list in
+    subst (λ (l : List (SeriesKey × Coef)). OnOk c.pack.result (c.pack.new.self.pairs ≡ l))
+    (c.in_ok-put_news.ensures.news
+    ∙ (λ i. topped_keys (hits.capacity i) (hits.hits i) all)
+    ∙ topped-moved inside.capacity inside.pairs all
     ∙ (λ i. renewed (c.self.view_is i).capacity (c.self.view_is i).pairs all))
-    c.put_news.ensures.news
+    c.pack.ensures.pairs
 
 pub returns-then-is_in_front-clause-renewed : goal.returns-then-is_in_front-clause-renewed
 returns-then-is_in_front-clause-renewed c =
     let all = in_series c.args.series c.args.needed.now in
-    let inside = c.self.inside.pairs in
+    let inside = c.self.inside.list in
     let front = c.is_in_front.ensures c.if-is_in_front.true in
     sym (ap (λ v. v.pairs) c.self.view_is)
-    ∙ sym (unmoved inside.cap inside.entries all front.rest c.len-length.ensures.valid.0 c.len-length.ensures.valid.1 front.is)
+    ∙ sym (unmoved inside.capacity inside.pairs all front.rest c.len-length.ensures.valid.distinct c.len-length.ensures.valid.within front.is)
     ∙ (λ i. renewed (c.self.view_is i).capacity (c.self.view_is i).pairs all)

@@ -8,7 +8,7 @@ pub returns-then-is_in_front : goal.returns-then-is_in_front
 returns-then-is_in_front c =
     let front = c.is_in_front.ensures c.if-is_in_front.true in
     c.from_vec-then-is_in_front.ensures ∙ c.new-sent.ensures.items
-    ∙ sym (nothing-sent c.self.inside.pairs.entries c.len-length.ensures.valid.0 c.args.series c.args.needed.now front.rest front.is)
+    ∙ sym (nothing-sent c.self.inside.list.pairs c.len-length.ensures.valid.distinct c.args.series c.args.needed.now front.rest front.is)
     ∙ (λ i. to_send (c.self.view_is i).pairs c.args.series c.args.needed.now)
 
 pub returns-then-is_empty : goal.returns-then-is_empty

@@ -1,0 +1,264 @@
+//! A list of pairs, the one that was put last before the others.
+
+ghost use Rattle.std.specs.Prelude.{◌≡◌, ◌==◌, ◌<◌, ◌≤◌, ◌-◌, ◌∷◌, ◌&&◌, ℕ, [], false, length, take, reverse, get_or, if◌then◌else◌, None, Some, IfSome, IfNone, IfOk, OnOk, IsTrue};
+ghost use Rattle.std.specs.List.{IsDistinct};
+ghost use Rattle.std.specs.Option.{option_map};
+ghost use Rattle.std.specs.Map.{keys_of, remove_entry};
+ghost use Rattle.coefficient_cache.specs.Pairs.{key_eq, coefficient_eq, coefficient_at, has};
+ghost use Rattle.coefficient_cache.specs.Views.{IsInFront};
+ghost use Rattle.coefficient_cache.specs.Caches.{IsCapacity, IsValid};
+ghost use Rattle.om3_coeff.specs.declared.coef.Coef.{Coef};
+ghost use Rattle.coefficient_cache.specs.Puts.{shown, IsFirstHeld, put_entries};
+
+use crate::series_key::SeriesKey;
+use om3_coeff::{Coef, Key};
+use std::alloc::{AllocError, Global};
+use std::collections::HashMap;
+use std::marker::Model;
+
+/// Pairs, the one that was put last before the others, at most as many as a capacity.
+///
+/// They stand in the order in which they were put. A pair whose key is put again, or that falls off,
+/// leaves an empty place, until the list is packed.
+#[derive(Drop)]
+pub struct PairList {
+    puts: Vec<Option<(SeriesKey, Coef)>>,
+    // Where the pair of each key stands.
+    places: HashMap<SeriesKey, usize>,
+    // No pair stands before this place.
+    start: usize,
+    capacity: u32,
+}
+
+impl Model for PairList {
+    ghost use Rattle.std.specs.Prelude.{reverse};
+    ghost use Rattle.coefficient_cache.specs.Caches.{Cache};
+    ghost use Rattle.coefficient_cache.specs.Puts.{shown, AreKept};
+
+    ghost Value = { Cache };
+
+    ghost view = { λ l. record { pairs = reverse (shown l.puts.items); capacity = l.capacity } };
+
+    ghost invariant = { λ l. AreKept l.puts.items l.places.entries l.start l.capacity };
+}
+
+// So many places may be empty, and half as many as there are pairs.
+const SPARE: usize = 1_024;
+
+impl PairList {
+    /// An empty list. It takes no memory.
+    pub(crate) fn new(alloc: Global, capacity: u32) -> PairList
+        requires { IsCapacity capacity }
+        ensures { result ≡ record { pairs = []; capacity = capacity } }
+    {
+        PairList {
+            puts: Vec::new(alloc),
+            places: HashMap::new(alloc),
+            start: 0,
+            capacity,
+        }
+    }
+
+    /// How many pairs the list has.
+    pub(crate) fn len(&self) -> usize
+        ensures len { result ≡ length self.now.pairs }
+        ensures valid { IsValid self.now }
+        ensures limit { IsCapacity self.now.capacity }
+    {
+        self.places.len()
+    }
+
+    pub(crate) fn is_empty(&self) -> bool
+        ensures { result ≡ (length self.now.pairs == 0) }
+    {
+        self.len() == 0
+    }
+
+    pub(crate) fn capacity(&self) -> u32
+        ensures value { result ≡ self.now.capacity }
+        ensures limit { IsCapacity self.now.capacity }
+    {
+        self.capacity
+    }
+
+    /// The coefficient of a key.
+    pub(crate) fn find(&self, key: SeriesKey) -> Option<Coef>
+        ensures { result ≡ coefficient_at self.now.pairs key }
+    {
+        let Some(place) = self.places.get(&key) else {
+            return None;
+        };
+        coef_of(self.puts[*place])
+    }
+
+    /// Whether the needed pairs are the first ones of the list, the one that is needed last before the
+    /// others: so a view leaves them that needs all of them. It looks nothing up.
+    pub(crate) fn is_in_front(&self, series: u16, needed: &[(Key, Coef)]) -> bool
+        ensures { IsTrue result → IsInFront self.now.pairs series needed.now }
+    {
+        let puts = self.puts.as_slice();
+        if puts.len() < needed.len() {
+            return false;
+        }
+        let front = puts.len() - needed.len();
+        for (i, (key, coef)) in needed.iter().enumerate() {
+            if !is_put(puts[front + i], SeriesKey::new(series, *key), *coef) {
+                return false;
+            }
+        }
+        true
+    }
+
+    /// Makes room for so many pairs more.
+    pub(crate) fn reserve(&mut self, count: usize) -> Result<(), AllocError>
+        ensures { self.new ≡ self.old }
+    {
+        self.puts.reserve(count)?;
+        self.places.reserve(count)
+    }
+
+    /// Puts a pair in front. What passes the capacity falls off the end.
+    pub(crate) fn put(&mut self, key: SeriesKey, coef: Coef) -> Result<(), AllocError>
+        ensures pairs { OnOk result (self.new.pairs ≡ put_entries key_eq self.old.pairs self.old.capacity key coef) }
+        ensures capacity { self.new.capacity ≡ self.old.capacity }
+    {
+        self.make_room(key);
+        self.add(key, coef)
+    }
+
+    /// Drops the last pair of a full list, unless this key is there.
+    fn make_room(&mut self, key: SeriesKey)
+        ensures room { has self.new.pairs key ≡ false → length self.new.pairs < self.new.capacity }
+        ensures put { (v : Coef) → (key, v) ∷ remove_entry (key_eq key) self.new.pairs ≡ put_entries key_eq self.old.pairs self.old.capacity key v }
+        ensures capacity { self.new.capacity ≡ self.old.capacity }
+    {
+        if self.len() < self.capacity() as usize {
+            return;
+        }
+        if self.find(key).is_some() {
+            return;
+        }
+        self.drop_last();
+    }
+
+    /// The same of a key that is in the list; no other one is put. Whether it is.
+    pub(crate) fn put_again(&mut self, key: SeriesKey, coef: Coef) -> Result<bool, AllocError>
+        ensures there { IfOk result (λ there. there ≡ has self.old.pairs key) }
+        ensures pairs { OnOk result (self.new.pairs ≡
+            (if has self.old.pairs key then put_entries key_eq self.old.pairs self.old.capacity key coef else self.old.pairs)) }
+        ensures capacity { self.new.capacity ≡ self.old.capacity }
+    {
+        if self.find(key).is_none() {
+            return Ok(false);
+        }
+        self.add(key, coef)?;
+        Ok(true)
+    }
+
+    /// Puts a pair in front, where there is room for it.
+    fn add(&mut self, key: SeriesKey, coef: Coef) -> Result<(), AllocError>
+        requires { has self.old.pairs key ≡ false → length self.old.pairs < self.old.capacity }
+        ensures pairs { OnOk result (self.new.pairs ≡ (key, coef) ∷ remove_entry (key_eq key) self.old.pairs) }
+        ensures capacity { self.new.capacity ≡ self.old.capacity }
+    {
+        self.puts.reserve(1)?;
+        let end = self.puts.len();
+        let before = self.places.insert(key, end)?;
+        let Ok(()) = self.puts.push(Some((key, coef))) else {
+            unreachable!()
+        };
+        if let Some(place) = before {
+            self.puts[place] = None;
+        }
+        Ok(())
+    }
+
+    /// Drops the last pair, if there is any.
+    fn drop_last(&mut self)
+        ensures pairs { self.new.pairs ≡ take (length self.old.pairs - 1) self.old.pairs }
+        ensures capacity { self.new.capacity ≡ self.old.capacity }
+    {
+        let Some((place, key)) = first_held(self.puts.as_slice(), self.start) else {
+            return;
+        };
+        self.places.remove(&key);
+        self.puts[place] = None;
+        self.start = place;
+    }
+
+    /// Packs the list where more than half as many places are empty as there are pairs, and `SPARE`.
+    pub(crate) fn pack(&mut self, alloc: Global) -> Result<(), AllocError>
+        ensures pairs { OnOk result (self.new.pairs ≡ self.old.pairs) }
+        ensures capacity { self.new.capacity ≡ self.old.capacity }
+    {
+        let count = self.places.len();
+        if self.puts.len() <= count + count / 2 + SPARE {
+            return Ok(());
+        }
+        *self = packed(alloc, self.puts.as_slice(), count, self.capacity)?;
+        Ok(())
+    }
+}
+
+// The coefficient of a pair that is held.
+fn coef_of(put: Option<(SeriesKey, Coef)>) -> Option<Coef>
+    ensures { result ≡ option_map (λ e. e.1) put }
+{
+    match put {
+        Some((_, coef)) => Some(coef),
+        None => None,
+    }
+}
+
+// Whether this pair is held.
+fn is_put(put: Option<(SeriesKey, Coef)>, key: SeriesKey, coef: Coef) -> bool
+    ensures { IsTrue result → put ≡ Some (key, coef) }
+{
+    match put {
+        Some((held, value)) => is_pair(held, value, key, coef),
+        None => false,
+    }
+}
+
+// Whether two pairs are the same.
+fn is_pair(key: SeriesKey, held: Coef, wanted: SeriesKey, coef: Coef) -> bool
+    ensures { result ≡ (key_eq key wanted && coefficient_eq held coef) }
+{
+    key == wanted && held == coef
+}
+
+// The place and the key of the first pair that is held. None before the start is.
+fn first_held(puts: &[Option<(SeriesKey, Coef)>], start: usize) -> Option<(usize, SeriesKey)>
+    requires { (i : ℕ) → i < start → get_or puts.now i None ≡ None }
+    ensures first { IfSome result (λ r. IsFirstHeld puts.now r.0 r.1) }
+    ensures none { IfNone result (shown puts.now ≡ []) }
+{
+    for place in start..puts.len() {
+        if let Some((key, _)) = puts[place] {
+            return Some((place, key));
+        }
+    }
+    None
+}
+
+// A list of the pairs that are held, with no empty place. Room for so many is made at once.
+fn packed(
+    alloc: Global,
+    puts: &[Option<(SeriesKey, Coef)>],
+    count: usize,
+    capacity: u32,
+) -> Result<PairList, AllocError>
+    requires limit { IsCapacity capacity }
+    requires apart { IsDistinct key_eq (keys_of (shown puts.now)) }
+    requires within { length (shown puts.now) ≤ capacity }
+    ensures { IfOk result (λ list. list ≡ record { pairs = reverse (shown puts.now); capacity = capacity }) }
+{
+    let mut list = PairList::new(alloc, capacity);
+    list.reserve(count)?;
+    for place in 0..puts.len() {
+        if let Some((key, coef)) = puts[place] {
+            list.add(key, coef)?;
+        }
+    }
+    Ok(list)
+}
