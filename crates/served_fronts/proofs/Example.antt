@@ -26,9 +26,9 @@ use Rattle.chart_service.specs.Serving.{told}
 use Rattle.chart_service.specs.Viewing.{kept_by, ShowsRange}
 use Rattle.served_fronts.specs.Books.{Line, after_line, after_lines, after_request, or_same}
 use Rattle.served_fronts.specs.Fronts.{Draws}
-use Rattle.served_fronts.specs.Answers.{Answer, AreAnswers, ArePictures, FitsRead, FitsLine}
+use Rattle.served_fronts.specs.Answers.{Answer, IsFrame, AreAnswers, ArePictures, FitsRead, FitsLine}
 use Rattle.served_fronts.specs.Answers.{FitsIn, CantShow, HasPicture, IsAsked, IsPicture, Keeps}
-use Rattle.served_fronts.specs.Answers.{OpenSession, Reply, opened, closed, shown, no_picture, after_reply, bytes_of, whole_in}
+use Rattle.served_fronts.specs.Answers.{OpenSession, Reply, applied, opened, closed, shown, refused, after_reply, bytes_of, whole_in}
 use Rattle.served_fronts.specs.Laws.{ChartsHaveOnePicture}
 use Rattle.served_fronts.specs.Headline.{Task, Run, Says, LeavesBook, IsExact, AreExact, ChartsAreExact}
 use Rattle.served_fronts.specs.Example.{first_input, second_input, book_with, bitmap, TheExampleIsDrawn}
@@ -62,7 +62,7 @@ after_one total large =
     else Ok (record { book = book_with (Some (pos 1) ∷ []); slots = 3 }))) (le-ltb total 18 (omega (arith, large)))
 
 as_many : (total : ℕ) (book : List Series) (sessions : List OpenSession) (lines : List Line) (answers : List Answer)
-    → AreAnswers total book sessions lines answers → length answers ≡ length lines
+    → AreAnswers IsFrame total book sessions lines answers → length answers ≡ length lines
 as_many total book sessions [] [] fit = refl
 as_many total book sessions [] (a ∷ l) fit = absurd fit
 as_many total book sessions (x ∷ xs) [] fit = absurd fit
@@ -153,11 +153,12 @@ shows_it : (values : List (Option ℤ)) (reply : Reply)
     → FitsIn (book_with values) 1 (λ s view. Asks values view) (λ s. CantShow (book_with values) (codes "A") 8 4 (pos 0) (pos 8)
     (Fixed (pos 0) (pos 3)) None s) (Some session) reply
     → ShowsIt values reply
+shows_it values applied fit = absurd fit
 shows_it values (opened m cache) fit = absurd fit
 shows_it values (closed m) fit = absurd fit
 shows_it values (shown m view samples) fit =
     record { number = m; view = view; samples = samples; is = refl; asked = fit.1; keeps = fit.2 }
-shows_it values no_picture fit = absurd (can_show values fit)
+shows_it values refused fit = absurd (can_show values fit)
 
 -- the answers open the session and show the view
 record AreShown (values : List (Option ℤ)) (answers : List Answer) : Type 0 where
@@ -168,11 +169,11 @@ record AreShown (values : List (Option ℤ)) (answers : List Answer) : Type 0 wh
   shows : ShowsIt values showing.reply
 
 fit_behind : (total : ℕ) (book : List Series) (sessions : List OpenSession) (x : Line) (xs : List Line) (a : Answer) (l : List Answer)
-    → AreAnswers total book sessions (x ∷ xs) (a ∷ l) → AreAnswers total (after_line total book x) (after_reply sessions a.reply) xs l
+    → AreAnswers IsFrame total book sessions (x ∷ xs) (a ∷ l) → AreAnswers IsFrame total (after_line total book x) (after_reply sessions a.reply) xs l
 fit_behind total book sessions x xs a l fit = fit.2
 
 fit_here : (total : ℕ) (book : List Series) (sessions : List OpenSession) (x : Line) (xs : List Line) (a : Answer) (l : List Answer)
-    → AreAnswers total book sessions (x ∷ xs) (a ∷ l) → FitsLine book sessions x a.reply
+    → AreAnswers IsFrame total book sessions (x ∷ xs) (a ∷ l) → FitsLine total book sessions x a.reply
 fit_here total book sessions x xs a l fit = fit.1
 
 abbrev open_line : Line
@@ -182,16 +183,16 @@ abbrev view_line : Line
 view_line = Some (codes "view 1 A 8 4 0 8 0..3")
 
 are_shown : (total : ℕ) (values : List (Option ℤ)) (answers : List Answer)
-    → AreAnswers total (book_with values) [] (open_line ∷ view_line ∷ []) answers → AreShown values answers
+    → AreAnswers IsFrame total (book_with values) [] (open_line ∷ view_line ∷ []) answers → AreShown values answers
 are_shown total values [] fit = absurd fit
 are_shown total values (a ∷ []) fit = absurd (fit_behind total (book_with values) [] open_line (view_line ∷ []) a [] fit)
 are_shown total values (a ∷ b ∷ []) fit =
     let book = book_with values in
-    let R : Result Request ℕ → Type 0 = λ q. FitsRead book [] q a.reply in
+    let R : Result Request ℕ → Type 0 = λ q. FitsRead total book [] q a.reply in
     let is : a.reply ≡ opened 1 65536 = subst R read_open (fit_here total book [] open_line (view_line ∷ []) a (b ∷ []) fit) in
-    let F : Result Request ℕ → Type 0 = λ q. FitsLine (after_request total book q) (after_reply [] a.reply) view_line b.reply in
-    let G : Reply → Type 0 = λ r. FitsLine book (after_reply [] r) view_line b.reply in
-    let H : Result Request ℕ → Type 0 = λ q. FitsRead book (session ∷ []) q b.reply in
+    let F : Result Request ℕ → Type 0 = λ q. FitsLine total (after_request total book q) (after_reply [] a.reply) view_line b.reply in
+    let G : Reply → Type 0 = λ r. FitsLine total book (after_reply [] r) view_line b.reply in
+    let H : Result Request ℕ → Type 0 = λ q. FitsRead total book (session ∷ []) q b.reply in
     let behind = fit_behind total book [] open_line (view_line ∷ []) a (b ∷ []) fit in
     let here = fit_here total (after_line total book open_line) (after_reply [] a.reply) view_line [] b [] behind in
     let fits = subst H read_view (subst G is (subst F read_open here)) in
@@ -291,7 +292,7 @@ module _ (one : ChartsHaveOnePicture) where
       let answers = says.answers in
       let all = says.all status in
       let lines = all.0 ∙ ap told input ∙ second_lines in
-      let L : List Line → Type 0 = λ l. AreAnswers total (book_with values) [] l answers in
+      let L : List Line → Type 0 = λ l. AreAnswers IsFrame total (book_with values) [] l answers in
       let is = are_shown total values answers (subst L lines says.first.fit) in
       let bytes : bytes_of answers ≡ second.sent = says.bytes ∙ ap (λ l. second.sent ++ l) all.1 ∙ nothing_behind second.sent in
       let n = length (bytes_of answers) in

@@ -2,12 +2,14 @@ pub mod Fronts
 pub mod Books
 pub mod Agreeing
 pub mod Pictures
+pub mod Kinds
 pub mod Saying
 pub mod Accepting
 pub mod Stopped
 pub mod Showing
 pub mod Owning
 pub mod Keeping
+pub mod Cutting
 pub mod Starts
 pub mod Exact
 pub mod Witness

@@ -7,7 +7,7 @@ use Rattle.block_disk.specs.View.{Image}
 use Rattle.stored_book.specs.Standing.{RecoversTo}
 use Rattle.chart_service.specs.Serving.{told}
 use Rattle.served_fronts.specs.Books.{Line, after_lines}
-use Rattle.served_fronts.specs.Answers.{Answer, AreAnswers, FrontsAreDrawn, bytes_of, whole_in}
+use Rattle.served_fronts.specs.Answers.{Answer, IsFrame, AreAnswers, FrontsAreDrawn, bytes_of, whole_in}
 
 -- ---- runs
 
@@ -36,7 +36,7 @@ pub record Run : Type 0 where
 pub record AnswersFirst (total : ℕ) (book : List Series) (input : List ℕ) (lines : List Line) (answers : List Answer) : Type 0 where
   pub later : List Line
   pub split : told input ≡ lines ++ later
-  pub fit : AreAnswers total book [] lines answers
+  pub fit : AreAnswers IsFrame total book [] lines answers
   pub drawn : FrontsAreDrawn answers
 
 -- The bytes that were sent begin those of such answers; with status 0 they are those of the answers to all lines.

@@ -2,7 +2,7 @@
 
 ghost use Rattle.served_fronts.specs.Laws.{FrontsDrawTheBook, OwnFrontsDrawTheBook, DrawnFrontsAreTheBook, BooksFollowTheLines};
 ghost use Rattle.served_fronts.specs.Laws.{DrawnOwnFrontsAreTheBook, LinesAreAnswered, CrashesKeepTheLines};
-ghost use Rattle.served_fronts.specs.Laws.{FirstBytesAgree, ChartsHaveOnePicture, StoresBeginSound};
+ghost use Rattle.served_fronts.specs.Laws.{FirstBytesAgree, BytesAreCutInOneWay, ChartsHaveOnePicture, StoresBeginSound};
 ghost use Rattle.served_fronts.specs.Headline.{ChartsAreExact};
 ghost use Rattle.served_fronts.specs.Servings.{ServingsAreExact};
 ghost use Rattle.served_fronts.specs.Witness.{StoresCanBe, DisksInMemoryAreHonest};
@@ -104,6 +104,12 @@ pub fn first_bytes_agree()
 {
     replies_are_one();
 }
+
+/// Bytes are cut into answers in one way: of two cuts of bytes that begin alike the one with fewer answers is a front of the
+/// other. So where among the bytes that were sent one answer ends and the next begins is determined by these bytes.
+pub fn bytes_are_cut_in_one_way()
+    ensures { BytesAreCutInOneWay }
+{}
 
 /// Two canvases that are the chart of the same samples have the same picture, whatever their cells are.
 pub fn charts_have_one_picture()
