@@ -39,7 +39,7 @@ use run_ends::codes::{
     WRONG_WORDS,
 };
 use run_ends::{End, Status, status_of};
-use served_fronts::laws::servings_are_exact;
+use served_fronts::laws::{servings_are_exact, texts_are_exact};
 use std::alloc::Global;
 use stored_book::laws::{empty_stores_have_no_series, pages_stand_for_one_book};
 
@@ -152,6 +152,7 @@ pub fn chart<W: World>(alloc: Global, words: &[String], world: W) -> (Status, W)
     replies_are_accepted();
     own_replies_are_accepted();
     servings_are_exact();
+    texts_are_exact();
     empty_stores_have_no_series();
     pages_stand_for_one_book();
     match command_of(alloc, words) {

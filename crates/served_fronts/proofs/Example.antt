@@ -26,9 +26,9 @@ use Rattle.chart_service.specs.Serving.{told}
 use Rattle.chart_service.specs.Viewing.{kept_by, ShowsRange}
 use Rattle.served_fronts.specs.Books.{Line, after_line, after_lines, after_request, or_same}
 use Rattle.served_fronts.specs.Fronts.{Draws}
-use Rattle.served_fronts.specs.Answers.{Answer, IsFrame, AreAnswers, ArePictures, FitsRead, FitsLine}
+use Rattle.served_fronts.specs.Answers.{Answer, AreAnswers, ArePictures, FitsRead, FitsLine}
 use Rattle.served_fronts.specs.Answers.{FitsIn, CantShow, HasPicture, IsAsked, IsPicture, Keeps}
-use Rattle.served_fronts.specs.Answers.{OpenSession, Reply, applied, opened, closed, shown, refused, after_reply, bytes_of, whole_in}
+use Rattle.served_fronts.specs.Answers.{OpenSession, Reply, applied, opened, closed, shown, refused, after_reply, bytes_of, whole_in, AreFrames}
 use Rattle.served_fronts.specs.Laws.{ChartsHaveOnePicture}
 use Rattle.served_fronts.specs.Headline.{Task, Run, Says, LeavesBook, IsExact, AreExact, ChartsAreExact}
 use Rattle.served_fronts.specs.Example.{first_input, second_input, book_with, bitmap, TheExampleIsDrawn}
@@ -62,12 +62,12 @@ after_one total large =
     else Ok (record { book = book_with (Some (pos 1) ∷ []); slots = 3 }))) (le-ltb total 18 (omega (arith, large)))
 
 as_many : (total : ℕ) (book : List Series) (sessions : List OpenSession) (lines : List Line) (answers : List Answer)
-    → AreAnswers IsFrame total book sessions lines answers → length answers ≡ length lines
+    → AreAnswers total book sessions lines answers → length answers ≡ length lines
 as_many total book sessions [] [] fit = refl
 as_many total book sessions [] (a ∷ l) fit = absurd fit
 as_many total book sessions (x ∷ xs) [] fit = absurd fit
 as_many total book sessions (x ∷ xs) (a ∷ l) fit =
-    ap suc (as_many total (after_line total book x) (after_reply sessions a.reply) xs l fit.2)
+    ap suc (as_many total (after_line total book x) (after_reply sessions a.reply) xs l fit.1)
 
 few_whole : (n : ℕ) (answers : List Answer) → length (whole_in n answers) ≤ length answers
 few_whole n [] = omega arith
@@ -169,12 +169,12 @@ record AreShown (values : List (Option ℤ)) (answers : List Answer) : Type 0 wh
   shows : ShowsIt values showing.reply
 
 fit_behind : (total : ℕ) (book : List Series) (sessions : List OpenSession) (x : Line) (xs : List Line) (a : Answer) (l : List Answer)
-    → AreAnswers IsFrame total book sessions (x ∷ xs) (a ∷ l) → AreAnswers IsFrame total (after_line total book x) (after_reply sessions a.reply) xs l
-fit_behind total book sessions x xs a l fit = fit.2
+    → AreAnswers total book sessions (x ∷ xs) (a ∷ l) → AreAnswers total (after_line total book x) (after_reply sessions a.reply) xs l
+fit_behind total book sessions x xs a l fit = fit.1
 
 fit_here : (total : ℕ) (book : List Series) (sessions : List OpenSession) (x : Line) (xs : List Line) (a : Answer) (l : List Answer)
-    → AreAnswers IsFrame total book sessions (x ∷ xs) (a ∷ l) → FitsLine total book sessions x a.reply
-fit_here total book sessions x xs a l fit = fit.1
+    → AreAnswers total book sessions (x ∷ xs) (a ∷ l) → FitsLine total book sessions x a.reply
+fit_here total book sessions x xs a l fit = fit.0
 
 abbrev open_line : Line
 open_line = Some (codes "open 1")
@@ -183,7 +183,7 @@ abbrev view_line : Line
 view_line = Some (codes "view 1 A 8 4 0 8 0..3")
 
 are_shown : (total : ℕ) (values : List (Option ℤ)) (answers : List Answer)
-    → AreAnswers IsFrame total (book_with values) [] (open_line ∷ view_line ∷ []) answers → AreShown values answers
+    → AreAnswers total (book_with values) [] (open_line ∷ view_line ∷ []) answers → AreShown values answers
 are_shown total values [] fit = absurd fit
 are_shown total values (a ∷ []) fit = absurd (fit_behind total (book_with values) [] open_line (view_line ∷ []) a [] fit)
 are_shown total values (a ∷ b ∷ []) fit =
@@ -286,31 +286,31 @@ module _ (one : ChartsHaveOnePicture) where
       p.4 ∙ ap (λ l. l ++ p.1) none ∙ q.4 ∙ ap (λ l. q.0 ++ l) q.3 ∙ nothing_behind q.0 ∙ drawn
 
   drawn_over : (total : ℕ) (values : List (Option ℤ)) (second : Run) (left before now : Option (List ℕ)) → KeepsTwo values
-      → second.input ≡ second_input → Says total (book_with values) second → second.status ≡ 0 → length second.sent ≤ 2 ^ 32
+      → second.input ≡ second_input → Says AreFrames total (book_with values) second → second.status ≡ 0 → length second.sent ≤ 2 ^ 32
       → Draws second.sent left before now → now ≡ sent_after bitmap before
   drawn_over total values second left before now two input says status small draws =
       let answers = says.answers in
       let all = says.all status in
       let lines = all.0 ∙ ap told input ∙ second_lines in
-      let L : List Line → Type 0 = λ l. AreAnswers IsFrame total (book_with values) [] l answers in
+      let L : List Line → Type 0 = λ l. AreAnswers total (book_with values) [] l answers in
       let is = are_shown total values answers (subst L lines says.first.fit) in
       let bytes : bytes_of answers ≡ second.sent = says.bytes ∙ ap (λ l. second.sent ++ l) all.1 ∙ nothing_behind second.sent in
       let n = length (bytes_of answers) in
       let D : List ℕ → Type 0 = λ l. Draws l left before now in
-      let sends = says.first.drawn answers n left before now (inl refl) (omega (arith, small, ap length bytes))
+      let sends = says.are.drawn answers n left before now (inl refl) (omega (arith, small, ap length bytes))
       (subst D (sym (taken_all (bytes_of answers) ∙ bytes)) draws) in
       let W : List Answer → Type 0 = λ l. ArePictures l sends.pictures in
       let are = subst W (whole_all n answers (omega arith)) sends.are in
       sends.sent ∙ ap (λ l. sent_after l before) (pictures values answers sends.pictures two is are)
 
   drawn_of : (total : ℕ) (book : List Series) (second : Run) (left before now : Option (List ℕ)) → MayHold book
-      → second.input ≡ second_input → Says total book second → second.status ≡ 0 → length second.sent ≤ 2 ^ 32
+      → second.input ≡ second_input → Says AreFrames total book second → second.status ≡ 0 → length second.sent ≤ 2 ^ 32
       → Draws second.sent left before now → now ≡ sent_after bitmap before
   drawn_of total book second left before now (inl is) input says status small draws =
-      let B : List Series → Type 0 = λ b. Says total b second in
+      let B : List Series → Type 0 = λ b. Says AreFrames total b second in
       drawn_over total [] second left before now keeps_without input (subst B is says) status small draws
   drawn_of total book second left before now (inr is) input says status small draws =
-      let B : List Series → Type 0 = λ b. Says total b second in
+      let B : List Series → Type 0 = λ b. Says AreFrames total b second in
       drawn_over total (Some (pos 1) ∷ []) second left before now keeps_with input (subst B is says) status small draws
 
 exact_behind : (total : ℕ) (book : List Series) (run : Run) (later : List Run) → (steps : AreExact total book (run ∷ later))

@@ -12,6 +12,8 @@ pub mod Keeping
 pub mod Cutting
 pub mod Starts
 pub mod Exact
+pub mod Texting
+pub mod TextRuns
 pub mod Witness
 pub mod ExampleLines
 pub mod ExampleChart

@@ -1,6 +1,6 @@
 -- What is said to the lines of an input, in the words of books, sessions, views and pictures.
 use Rattle.std.specs.Prelude.{⊤, ◌≡◌, ℕ, ℤ, ◌+◌, ◌*◌, ◌-◌, ◌<◌, ◌≤◌, ◌^◌, ◌+ℤ◌, ◌⊎◌, ◌==◌, ◌||◌, nat_le, nat_lt, if◌then◌else◌}
-use Rattle.std.specs.Prelude.{Bool, false, List, [], ◌∷◌, ◌++◌, length, map, take, drop, flat_map, Option, None, Some, is_some}
+use Rattle.std.specs.Prelude.{Bool, false, List, [], ◌∷◌, ◌++◌, length, map, take, drop, flat_map, All, Option, None, Some, is_some}
 use Rattle.std.specs.Prelude.{Result, Ok, Err, slice_get}
 use Rattle.std.specs.List.{filter, list_any}
 use Rattle.series_book.specs.declared.one_series.Series.{Series}
@@ -202,14 +202,14 @@ pub record IsFrame (reply : Reply) (bytes : List ℕ) : Type 0 where
   pub size : TellsSize bytes
   pub kind : number_in 1 (drop 4 bytes) ≡ kind_of reply
 
--- Each line has its answer, over the book and the open sessions that the lines before it left; its bytes are so for its reply.
-abbrev pub AreAnswers : (Reply → List ℕ → Type 0) → ℕ → List Series → List OpenSession → List Line → List Answer → Type 0
-AreAnswers IsSo total book sessions [] [] = ⊤
-AreAnswers IsSo total book sessions [] (answer ∷ later) = ⊥
-AreAnswers IsSo total book sessions (line ∷ lines) [] = ⊥
-AreAnswers IsSo total book sessions (line ∷ lines) (answer ∷ later) =
-    IsSo answer.reply answer.bytes × FitsLine total book sessions line answer.reply
-    × AreAnswers IsSo total (after_line total book line) (after_reply sessions answer.reply) lines later
+-- each line has its answer, over the book and the open sessions that the lines before it left
+abbrev pub AreAnswers : ℕ → List Series → List OpenSession → List Line → List Answer → Type 0
+AreAnswers total book sessions [] [] = ⊤
+AreAnswers total book sessions [] (answer ∷ later) = ⊥
+AreAnswers total book sessions (line ∷ lines) [] = ⊥
+AreAnswers total book sessions (line ∷ lines) (answer ∷ later) =
+    FitsLine total book sessions line answer.reply
+    × AreAnswers total (after_line total book line) (after_reply sessions answer.reply) lines later
 
 abbrev pub bytes_of : List Answer → List ℕ
 bytes_of answers = flat_map (λ answer. answer.bytes) answers
@@ -277,9 +277,14 @@ FrontsAreDrawn answers =
     (got : List Answer) (n : ℕ) (left before now : Option (List ℕ)) → Reach answers got → n ≤ 2 ^ 32
     → Draws (take n (bytes_of got)) left before now → SendsPictures (whole_in n got) before now
 
--- The lines are answered, each by the bytes that spell its frame, over the book of a state; and each front is drawn.
+-- What `serve` sends of answers: the bytes of each are a frame, and of each front of them `draw` sends the pictures.
+pub record AreFrames (answers : List Answer) : Type 0 where
+  pub each : All (λ answer. IsFrame answer.reply answer.bytes) answers
+  pub drawn : FrontsAreDrawn answers
+
+-- The lines are answered, each by the bytes that spell its frame, over the book of a state.
 pub record HasAnswers (old : State) (lines : List Line) (frames : List Frame) : Type 0 where
   pub answers : List Answer
-  pub fit : AreAnswers IsFrame old.total old.book [] lines answers
+  pub fit : AreAnswers old.total old.book [] lines answers
   pub spelled : map (λ answer. answer.bytes) answers ≡ map spelling frames
-  pub drawn : FrontsAreDrawn answers
+  pub are : AreFrames answers

@@ -4,7 +4,7 @@ ghost use Rattle.served_fronts.specs.Laws.{FrontsDrawTheBook, OwnFrontsDrawTheBo
 ghost use Rattle.served_fronts.specs.Laws.{DrawnOwnFrontsAreTheBook, LinesAreAnswered, CrashesKeepTheLines};
 ghost use Rattle.served_fronts.specs.Laws.{FirstBytesAgree, BytesAreCutInOneWay, ChartsHaveOnePicture, StoresBeginSound};
 ghost use Rattle.served_fronts.specs.Headline.{ChartsAreExact};
-ghost use Rattle.served_fronts.specs.Servings.{ServingsAreExact};
+ghost use Rattle.served_fronts.specs.Servings.{ServingsAreExact, TextsAreExact};
 ghost use Rattle.served_fronts.specs.Witness.{StoresCanBe, DisksInMemoryAreHonest};
 ghost use Rattle.served_fronts.specs.Example.{TheExampleIsDrawn};
 
@@ -137,6 +137,17 @@ pub fn servings_are_exact()
 {
     first_bytes_agree();
     lines_have_their_answers();
+}
+
+/// So does what a run says of its texts: those that were sent begin the texts of some first lines, each with the picture of the book
+/// as it is at its line.
+pub fn texts_are_exact()
+    ensures { TextsAreExact }
+{
+    replies_are_one();
+    charts_have_one_picture();
+    a_text_is_read_in_one_way();
+    keys_of_a_view_are_few();
 }
 
 /// That what is asked of a disk can be met: of each size from 128 blocks on there is one with a store without a series, where
