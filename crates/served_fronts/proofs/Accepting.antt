@@ -20,8 +20,8 @@ use Rattle.chart_service.proofs.Standing.{alone_sound}
 use Rattle.drawn_replies.specs.Mirrors.{mirrored}
 use Rattle.drawn_replies.specs.Laws.{LinesAreAccepted, OwnRepliesDrawTheBook}
 use Rattle.drawn_replies.specs.Pictures.{AcceptsAll, NoneRejected, names}
-use Rattle.served_fronts.specs.Books.{Line}
-use Rattle.served_fronts.specs.Answers.{OpenSession, is_there, cant_open, Reply, FitsIn, FitsRequest, FitsRead, FitsLine, says_in}
+use Rattle.served_fronts.specs.Books.{Line, ok_of, said_by}
+use Rattle.served_fronts.specs.Answers.{OpenSession, is_there, cant_open, Reply, FitsIn, FitsRequest, FitsSaid, says_in}
 use Rattle.served_fronts.specs.Answers.Reply.{applied, opened, closed, shown, refused}
 use Rattle.served_fronts.proofs.Saying.{OneReading, open_in, line_said}
 
@@ -58,12 +58,12 @@ by_request total book sessions m (Close n) reply fits says =
       | false ↦ λ is. absurd (not_both (says_in m reply) says (ap (says_in m) is))
     ]) fits
 
-by_read : (total : ℕ) (book : List Series) (sessions : List OpenSession) (m : ℕ) (r : Result Request ℕ) (reply : Reply) → FitsRead total book sessions r reply
+by_read : (total : ℕ) (book : List Series) (sessions : List OpenSession) (m : ℕ) (r : Result Request ℕ) (reply : Reply) → FitsSaid total book sessions (ok_of r) reply
     → says_in m reply ≡ true → is_own m (session_read r) ≡ true
 by_read total book sessions m (Err at) reply fits says = refl
 by_read total book sessions m (Ok r) reply fits says = by_request total book sessions m r reply fits says
 
-concerned : (total : ℕ) (book : List Series) (sessions : List OpenSession) (m : ℕ) (line : Line) (reply : Reply) → FitsLine total book sessions line reply
+concerned : (total : ℕ) (book : List Series) (sessions : List OpenSession) (m : ℕ) (line : Line) (reply : Reply) → FitsSaid total book sessions (said_by line) reply
     → says_in m reply ≡ true → concerns m line ≡ true
 concerned total book sessions m None reply fits says = refl
 concerned total book sessions m (Some text) reply fits says = by_read total book sessions m (read_line text) reply fits says

@@ -1,5 +1,5 @@
 -- Runs are exact.
-use Rattle.std.proofs.Common.{◌≡◌, ℕ, zero, suc, ◌+◌, ◌-◌, ◌≤◌, List, [], ◌∷◌, ◌++◌, length, take, drop, refl, ap}
+use Rattle.std.proofs.Common.{◌≡◌, ℕ, zero, suc, ◌+◌, ◌-◌, ◌≤◌, List, [], ◌∷◌, ◌++◌, length, map, take, drop, refl, ap}
 use Rattle.std.proofs.Common.{sym, subst, ◌∙◌, arith, length-append}
 use Rattle.std.specs.Prelude.{flat_map}
 use Rattle.std.proofs.lemmas.List.{take-append-drop, take-append-le}
@@ -9,13 +9,14 @@ use Rattle.stored_book.specs.Standing.{StandsForBook, RecoversTo}
 use Rattle.chart_frames.specs.Frames.{spelling}
 use Rattle.chart_service.specs.State.{State, IsSound}
 use Rattle.chart_service.specs.Stepping.{state_of}
-use Rattle.served_fronts.specs.Books.{after_lines}
+use Rattle.served_fronts.specs.Books.{said_by, after_lines}
 use Rattle.chart_service.specs.Serving.{AreSpelled}
 use Rattle.served_fronts.specs.Answers.{whole_in, AreFrames}
 use Rattle.served_fronts.specs.Laws.{FirstBytesAgree, LinesAreAnswered}
 use Rattle.served_fronts.specs.Headline.{Run, Says, LeavesBook, ChartsAreExact}
 use Rattle.served_fronts.specs.Servings.{SendsFirstBytes, ServingsAreExact}
 use Rattle.served_fronts.proofs.Books.{books_follow}
+use Rattle.served_fronts.proofs.Reading.{Spelling, are_said}
 use Rattle.served_fronts.proofs.Keeping.{Done, done_by, all_bytes, all_whole, as_many, whole_many}
 
 -- ---- fronts of bytes
@@ -37,16 +38,16 @@ taken_again (suc n) (x ∷ xs) = ap (λ l. x ∷ l) (taken_again n xs)
 
 -- ---- one run
 
-module _ (agree : FirstBytesAgree) (answered : LinesAreAnswered) where
+module _ (spelling_law : Spelling) (agree : FirstBytesAgree) (answered : LinesAreAnswered) where
   -- what the run said
   said : (total : ℕ) (book : List Series) (run : Run) → IsSound (state_of book total [])
       → SendsFirstBytes AreSpelled (state_of book total []) run.input run.status run.sent → Says AreFrames total book run
   said total book run sound s =
       let has = answered s.lines s.frames (state_of book total []) s.new sound refl s.replied in
       record {
-        lines = s.lines;
+        requests = map said_by s.lines;
         answers = has.answers;
-        first = record { later = s.later; split = s.split; fit = has.fit };
+        first = record { lines = s.lines; later = s.later; split = s.split; said = are_said spelling_law s.lines; fit = has.fit };
         are = has.are;
         unsent = s.unsent;
         bytes = all_bytes has.answers s.frames has.spelled ∙ sym s.texts ∙ s.bytes;
@@ -91,9 +92,9 @@ module _ (agree : FirstBytesAgree) (answered : LinesAreAnswered) where
       ) in
       let F : ℕ → Type 0 = λ k. length has.answers ≤ length (whole_in k has.answers) + 64 in
       record {
-        lines = d.first;
+        requests = map said_by d.first;
         answers = has.answers;
-        first = record { later = d.later; split = d.lines; fit = has.fit };
+        first = record { lines = d.first; later = d.later; split = d.lines; said = are_said spelling_law d.first; fit = has.fit };
         are = has.are;
         unsent = rest;
         bytes = all_bytes has.answers frames has.spelled ∙ begun_by old run.input run.status run.sent pages total n s d

@@ -1,5 +1,6 @@
 pub mod Fronts
 pub mod Books
+pub mod Reading
 pub mod Agreeing
 pub mod Pictures
 pub mod Kinds

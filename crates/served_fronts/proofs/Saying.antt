@@ -52,11 +52,11 @@ use Rattle.chart_service.specs.Replies.{RepliesToView, RepliesByText, MovesLast,
 use Rattle.drawn_replies.specs.Mirrors.{IsPictureOf}
 use Rattle.drawn_replies.specs.Pictures.{names}
 use Rattle.draw_command.specs.Covers.{picture_bytes}
-use Rattle.served_fronts.specs.Books.{Line}
+use Rattle.served_fronts.specs.Books.{Line, ok_of, said_by}
 use Rattle.served_fronts.specs.Answers.{OpenSession, session_at, is_there, cant_open, without, with_view, Reply, after_reply, Keeps}
 use Rattle.served_fronts.specs.Answers.Reply.{applied, opened, closed, shown, refused}
 use Rattle.served_fronts.specs.Answers.{HasFilter, IsBadFilter, MayLack, IsAsked, CantShow, IsMoved, CantMove}
-use Rattle.served_fronts.specs.Answers.{FitsIn, reply_of, FitsRequest, FitsRead, FitsLine, kind_of, IsPicture, HasPicture, says_in}
+use Rattle.served_fronts.specs.Answers.{FitsIn, reply_of, FitsRequest, FitsSaid, kind_of, IsPicture, HasPicture, says_in}
 
 some_one : {A : Type 0} (a b : A) (o : Option A) → o ≡ Some a → o ≡ Some b → a ≡ b
 some_one a b o is other = cc
@@ -560,11 +560,11 @@ module _ (either : OneReading) (bound : NeededKeysAreFew) where
   request_said (Close n) old new answer is = closed_so (is_open n old.sessions) n old new answer refl is
 
   read_said : (r : Result Request ℕ) (old new : State) (answer : Frame) → RepliesTo r answer old new
-      → Said old new answer (FitsRead old.total old.book (open_in old) r)
-  read_said (Err at) old new answer is = refused_so _ old new answer (FitsRead old.total old.book (open_in old) (Err at)) refl is
+      → Said old new answer (FitsSaid old.total old.book (open_in old) (ok_of r))
+  read_said (Err at) old new answer is = refused_so _ old new answer (FitsSaid old.total old.book (open_in old) None) refl is
   read_said (Ok request) old new answer is = request_said request old new answer is
 
   pub line_said : (line : Line) (old new : State) (answer : Frame) → RepliesToLine line answer old new
-      → Said old new answer (FitsLine old.total old.book (open_in old) line)
-  line_said None old new answer is = refused_so _ old new answer (FitsLine old.total old.book (open_in old) None) refl is
+      → Said old new answer (FitsSaid old.total old.book (open_in old) (said_by line))
+  line_said None old new answer is = refused_so _ old new answer (FitsSaid old.total old.book (open_in old) None) refl is
   line_said (Some text) old new answer is = read_said (read_line text) old new answer is

@@ -15,7 +15,7 @@ use Rattle.chart_service.specs.Replies.{RepliesToLine}
 use Rattle.drawn_replies.specs.Mirrors.{IsPictureOf}
 use Rattle.drawn_replies.specs.Pictures.{ArePictured}
 use Rattle.draw_command.specs.Covers.{picture_bytes}
-use Rattle.served_fronts.specs.Books.{Line, after_line}
+use Rattle.served_fronts.specs.Books.{Line, said_by, after_line}
 use Rattle.served_fronts.specs.Fronts.{whole_frames}
 use Rattle.served_fronts.specs.Answers.{OpenSession, Answer, IsFrame, AreAnswers, bytes_of, whole_in, ArePictures}
 use Rattle.served_fronts.proofs.Agreeing.{OneReply}
@@ -56,7 +56,7 @@ module _ (either : OneReading) (bound : NeededKeysAreFew) (told : Told) (one : O
   each (l ∷ ls) (f ∷ fs) old new replied = ap (λ bytes. spelling f ∷ bytes) (each ls fs replied.0 new replied.2)
 
   pub fit : (lines : List Line) (frames : List Frame) (old new : State) → (replied : RepliesToAll old lines frames new)
-      → AreAnswers old.total old.book (open_in old) lines (answers_of lines frames old new replied)
+      → AreAnswers old.total old.book (open_in old) (map said_by lines) (answers_of lines frames old new replied)
   fit [] [] old new replied = tt
   fit [] (f ∷ fs) old new replied = absurd replied
   fit (l ∷ ls) [] old new replied = absurd replied
@@ -64,9 +64,9 @@ module _ (either : OneReading) (bound : NeededKeysAreFew) (told : Told) (one : O
       let said = line_said either bound l old replied.0 f replied.1.0 in
       let later = answers_of ls fs replied.0 new replied.2 in
       let book = by_line old replied.0 f l replied.1.0 in
-      let T : ℕ → Type 0 = λ total. AreAnswers total replied.0.book (open_in replied.0) ls later in
-      let B : List Series → Type 0 = λ b. AreAnswers old.total b (open_in replied.0) ls later in
-      let O : List OpenSession → Type 0 = λ o. AreAnswers old.total (after_line old.total old.book l) o ls later in
+      let T : ℕ → Type 0 = λ total. AreAnswers total replied.0.book (open_in replied.0) (map said_by ls) later in
+      let B : List Series → Type 0 = λ b. AreAnswers old.total b (open_in replied.0) (map said_by ls) later in
+      let O : List OpenSession → Type 0 = λ o. AreAnswers old.total (after_line old.total old.book l) o (map said_by ls) later in
       let behind = subst O said.open_is (subst B book.0 (subst T book.1 (fit ls fs replied.0 new replied.2))) in
       (said.fits, behind)
 

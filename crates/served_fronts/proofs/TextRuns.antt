@@ -1,7 +1,8 @@
 -- Runs of texts are exact.
-use Rattle.std.proofs.Common.{◌≡◌, ℕ, ◌+◌, ◌-◌, ◌≤◌, inl, inr, List, [], ◌++◌, length, take, drop, Option, refl, ap}
+use Rattle.std.proofs.Common.{◌≡◌, ℕ, ◌+◌, ◌-◌, ◌≤◌, inl, inr, List, [], ◌++◌, length, map, take, drop, Option, refl, ap}
 use Rattle.std.proofs.Common.{sym, subst, ◌∙◌, arith, append_assoc, append-nil, length-append}
-use Rattle.std.proofs.lemmas.List.{take-append-drop, take-append-le}
+use Rattle.std.proofs.lemmas.List.{length-map, map-append, take-append-drop, take-append-le}
+use Rattle.request_lines.specs.declared.requests.Request.{Request}
 use Rattle.block_disk.specs.View.{Image}
 use Rattle.series_book.specs.declared.one_series.Series.{Series}
 use Rattle.stored_book.specs.Standing.{StandsForBook}
@@ -14,7 +15,7 @@ use Rattle.chart_service.specs.Moments.{IsAhead, DoesNext, SendsReply}
 use Rattle.chart_service.specs.Stepping.{state_of}
 use Rattle.chart_service.specs.Telling.{replies_joined}
 use Rattle.drawn_replies.specs.Pictures.{ArePictured}
-use Rattle.served_fronts.specs.Books.{Line, after_lines}
+use Rattle.served_fronts.specs.Books.{Line, AreSaid, said_by, after_requests, after_lines}
 use Rattle.served_fronts.specs.Answers.{Answer, bytes_of, whole_in}
 use Rattle.served_fronts.specs.Texts.{texts_of, AreTexts, AreTexted}
 use Rattle.served_fronts.specs.Headline.{Run, Says, LeavesAhead}
@@ -22,12 +23,13 @@ use Rattle.served_fronts.specs.Laws.{ChartsHaveOnePicture}
 use Rattle.served_fronts.specs.Servings.{SendsFirstBytes, TextsAreExact}
 use Rattle.served_fronts.proofs.Agreeing.{OneReply}
 use Rattle.served_fronts.proofs.Books.{books_follow}
+use Rattle.served_fronts.proofs.Reading.{Spelling, are_said}
 use Rattle.served_fronts.proofs.Exact.{taken_few, taken_some, taken_again}
 use Rattle.served_fronts.proofs.Keeping.{told_join}
 use Rattle.served_fronts.proofs.Saying.{OneReading}
 use Rattle.served_fronts.proofs.Texting.{all_in, answers_many, texts_agree, texted, texted_bytes, texted_fit, texted_are, whole_front}
 
-module _ (one : OneReply) (pictures : ChartsHaveOnePicture) (either : OneReading) (bound : NeededKeysAreFew) where
+module _ (spelling_law : Spelling) (one : OneReply) (pictures : ChartsHaveOnePicture) (either : OneReading) (bound : NeededKeysAreFew) where
   abbrev texts : (lines : List Line) (frames : List Frame) (drawings : List (Option Canvas)) (old new : State)
       → RepliesToAll old lines frames new → List Answer
   texts lines frames drawings old new replied = texted one pictures either bound lines frames drawings old new replied
@@ -71,7 +73,8 @@ module _ (one : OneReply) (pictures : ChartsHaveOnePicture) (either : OneReading
         t.pictured in
         omega (
           arith,
-          answers_many total book [] first answers fit,
+          answers_many total book [] (map said_by first) answers fit,
+          length-map first said_by,
           all_in n answers (omega (arith, low, ap length bytes, ap length t.texts)),
         )
 
@@ -197,9 +200,11 @@ module _ (one : OneReply) (pictures : ChartsHaveOnePicture) (either : OneReading
       let t = s.texts in
       let old = state_of book total [] in
       record {
-        lines = s.lines;
+        requests = map said_by s.lines;
         answers = texts s.lines s.frames t.drawings old s.new s.replied;
         first = record {
+          lines = s.lines;
+          said = are_said spelling_law s.lines;
           later = s.later;
           split = s.split;
           fit = texted_fit one pictures either bound s.lines s.frames t.drawings old s.new t.state s.replied t.pictured;
@@ -227,23 +232,24 @@ module _ (one : OneReply) (pictures : ChartsHaveOnePicture) (either : OneReading
       let begins : take m all ≡ take n run.sent =
       sym same ∙ ap (λ l. take m l) (sym t.texts ∙ s.bytes) ∙ take-append-le m run.sent s.unsent most ∙ taken_again n run.sent in
       let answers = texts d.lines d.frames d.drawings old d.new d.replied in
+      let both = map-append said_by d.lines d.ahead in
+      let S : List (Option Request) → Type 0 = λ l. AreSaid (d.lines ++ d.ahead) l in
       let F : ℕ → Type 0 = λ k. length (d.lines ++ d.ahead) ≤ length (whole_in k answers) + 64 in
       record {
-        lines = d.lines;
-        ahead = d.ahead;
+        requests = map said_by d.lines;
+        ahead = map said_by d.ahead;
         texts = answers;
-        first = record {
-          later = d.later;
-          split = d.split;
-          fit = texted_fit one pictures either bound d.lines d.frames d.drawings old d.new d.state d.replied d.pictured;
-        };
-        begins = (d.behind, d.begins);
+        lines = d.lines ++ d.ahead;
+        later = d.behind;
+        split = d.split ∙ ap (λ l. d.lines ++ l) d.begins ∙ sym (append_assoc d.lines d.ahead d.behind);
+        said = subst S both (are_said spelling_law (d.lines ++ d.ahead));
+        fit = texted_fit one pictures either bound d.lines d.frames d.drawings old d.new d.state d.replied d.pictured;
         are = texted_are one pictures either bound d.lines d.frames d.drawings old d.new d.state d.replied d.pictured;
         unsent = rest;
         bytes = texted_bytes one pictures either bound d.lines d.frames d.drawings old d.new d.replied ∙ sym (take-append-drop m all)
             ∙ ap (λ l. l ++ rest) begins ∙ ap (λ k. take k run.sent ++ rest) (sym by_then);
         few = subst F (sym by_then) d.few;
-        next_is = d.next_is;
+        next_is = d.next_is ∙ ap (after_requests total book) both;
       }
 
   pub texts_exact : TextsAreExact

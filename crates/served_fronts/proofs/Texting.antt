@@ -1,10 +1,11 @@
 -- What `run` sends, in the words of replies.
 use Rattle.std.specs.Prelude.{slice_get, is_some, codes, flat_map, nat_le, All, if◌then◌else◌}
 use Rattle.std.specs.Fmt.{decimal}
-use Rattle.std.proofs.Common.{◌≡◌, ℕ, suc, ◌-◌, ◌≤◌, true, false, List, [], ◌∷◌, ◌++◌, length, take, Option, None, Some, refl, ap, sym}
+use Rattle.std.proofs.Common.{◌≡◌, ℕ, suc, ◌-◌, ◌≤◌, true, false, List, [], ◌∷◌, ◌++◌, length, map, take, Option, None, Some, refl, ap, sym}
 use Rattle.std.proofs.Common.{subst, ◌∙◌, arith, length-append}
 use Rattle.std.proofs.lemmas.List.Elements.{All-nil, All-cons}
 use Rattle.series_book.specs.declared.one_series.Series.{Series}
+use Rattle.request_lines.specs.declared.requests.Request.{Request}
 use Rattle.value_filter.specs.declared.steps.Step.{Step}
 use Rattle.view_keys.specs.Laws.{NeededKeysAreFew}
 use Rattle.view_keys.proofs.Grids.{grid_same}
@@ -27,7 +28,7 @@ use Rattle.chart_service.specs.Viewing.{axis_of, kept_by, ShowsView}
 use Rattle.drawn_replies.specs.Mirrors.{IsPictureOf, ShowsAnswered}
 use Rattle.drawn_replies.specs.Pictures.{ArePictured}
 use Rattle.draw_command.specs.Covers.{picture_bytes}
-use Rattle.served_fronts.specs.Books.{Line, after_line}
+use Rattle.served_fronts.specs.Books.{Line, said_by, after_request, after_line}
 use Rattle.served_fronts.specs.Answers.{OpenSession, Reply, after_reply, Answer, AreAnswers, bytes_of, whole_in}
 use Rattle.served_fronts.specs.Answers.Reply.{applied, opened, closed, shown, refused}
 use Rattle.served_fronts.specs.Laws.{ChartsHaveOnePicture}
@@ -69,13 +70,13 @@ all_in n (a ∷ l) low =
       | false ↦ λ test. absurd (omega (arith, high_of (length a.bytes) n test, low, size))
     ]) refl
 
-pub answers_many : (total : ℕ) (book : List Series) (sessions : List OpenSession) (lines : List Line) (answers : List Answer)
-    → AreAnswers total book sessions lines answers → length answers ≡ length lines
+pub answers_many : (total : ℕ) (book : List Series) (sessions : List OpenSession) (requests : List (Option Request)) (answers : List Answer)
+    → AreAnswers total book sessions requests answers → length answers ≡ length requests
 answers_many total book sessions [] [] fit = refl
 answers_many total book sessions [] (a ∷ l) fit = absurd fit
 answers_many total book sessions (x ∷ xs) [] fit = absurd fit
 answers_many total book sessions (x ∷ xs) (a ∷ l) fit = ap suc 
-    (answers_many total (after_line total book x) (after_reply sessions a.reply) xs l fit.1)
+    (answers_many total (after_request total book x) (after_reply sessions a.reply) xs l fit.1)
 
 module _ (one : OneReply) (pictures : ChartsHaveOnePicture) where
   -- ---- a frame has one picture
@@ -183,7 +184,7 @@ module _ (one : OneReply) (pictures : ChartsHaveOnePicture) where
 
     pub texted_fit : (lines : List Line) (frames : List Frame) (drawings : List (Option Canvas)) (old new s : State)
         → (replied : RepliesToAll old lines frames new) → ArePictured old lines frames drawings s
-        → AreAnswers old.total old.book (open_in old) lines (texted lines frames drawings old new replied)
+        → AreAnswers old.total old.book (open_in old) (map said_by lines) (texted lines frames drawings old new replied)
     texted_fit [] [] drawings old new s replied p = tt
     texted_fit [] (f ∷ fs) drawings old new s replied p = absurd replied
     texted_fit (l ∷ ls) [] drawings old new s replied p = absurd replied
@@ -192,9 +193,9 @@ module _ (one : OneReply) (pictures : ChartsHaveOnePicture) where
         let said = line_said either bound l old replied.0 f replied.1.0 in
         let later = texted ls fs ds replied.0 new replied.2 in
         let book = by_line old replied.0 f l replied.1.0 in
-        let T : ℕ → Type 0 = λ total. AreAnswers total replied.0.book (open_in replied.0) ls later in
-        let B : List Series → Type 0 = λ b. AreAnswers old.total b (open_in replied.0) ls later in
-        let O : List OpenSession → Type 0 = λ o. AreAnswers old.total (after_line old.total old.book l) o ls later in
+        let T : ℕ → Type 0 = λ total. AreAnswers total replied.0.book (open_in replied.0) (map said_by ls) later in
+        let B : List Series → Type 0 = λ b. AreAnswers old.total b (open_in replied.0) (map said_by ls) later in
+        let O : List OpenSession → Type 0 = λ o. AreAnswers old.total (after_line old.total old.book l) o (map said_by ls) later in
         let next = texted_fit ls fs ds replied.0 new s replied.2 (behind_it l ls f fs ds old replied.0 p.0 s replied.1.0 p.1 p.3) in
         (said.fits, subst O said.open_is (subst B book.0 (subst T book.1 next)))
 

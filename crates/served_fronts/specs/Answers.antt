@@ -9,7 +9,6 @@ use Rattle.series_book.specs.Edits.{Edited, apply, id_of}
 use Rattle.request_lines.specs.declared.requests.Request.{Request}
 use Rattle.request_lines.specs.declared.requests.Request.TheVariants.{Edit, Open, View, Zoom, Pan, Close}
 use Rattle.request_lines.specs.declared.ranges.RangeWord.{RangeWord}
-use Rattle.request_lines.specs.Requests.{read_line}
 use Rattle.value_filter.specs.declared.steps.Step.{Step}
 use Rattle.value_filter.specs.Expressions.{Expression}
 use Rattle.value_filter.specs.Grammar.{IsFilter}
@@ -30,7 +29,7 @@ use Rattle.chart_frames.specs.declared.frame.Frame.{Frame}
 use Rattle.chart_frames.specs.Format.{number_in}
 use Rattle.chart_frames.specs.Frames.{spelling}
 use Rattle.chart_service.specs.State.{State}
-use Rattle.served_fronts.specs.Books.{Line, after_line}
+use Rattle.served_fronts.specs.Books.{Line, said_by, after_request}
 use Rattle.served_fronts.specs.Fronts.{Draws}
 
 -- ---- sessions
@@ -168,14 +167,10 @@ FitsRequest total book sessions (Pan n by) reply =
     (session_at n sessions) reply
 FitsRequest total book sessions (Close n) reply = reply ≡ (if is_there n sessions then closed n else refused)
 
--- a reply fits what a line is read as, and a line
-abbrev pub FitsRead : ℕ → List Series → List OpenSession → Result Request ℕ → Reply → Type 0
-FitsRead total book sessions (Err at) reply = reply ≡ refused
-FitsRead total book sessions (Ok request) reply = FitsRequest total book sessions request reply
-
-abbrev pub FitsLine : ℕ → List Series → List OpenSession → Line → Reply → Type 0
-FitsLine total book sessions None reply = reply ≡ refused
-FitsLine total book sessions (Some text) reply = FitsRead total book sessions (read_line text) reply
+-- a reply fits what a line says
+abbrev pub FitsSaid : ℕ → List Series → List OpenSession → Option Request → Reply → Type 0
+FitsSaid total book sessions None reply = reply ≡ refused
+FitsSaid total book sessions (Some request) reply = FitsRequest total book sessions request reply
 
 -- ---- answers, with their bytes
 
@@ -202,14 +197,14 @@ pub record IsFrame (reply : Reply) (bytes : List ℕ) : Type 0 where
   pub size : TellsSize bytes
   pub kind : number_in 1 (drop 4 bytes) ≡ kind_of reply
 
--- each line has its answer, over the book and the open sessions that the lines before it left
-abbrev pub AreAnswers : ℕ → List Series → List OpenSession → List Line → List Answer → Type 0
+-- each request has its answer, over the book and the open sessions that those before it left
+abbrev pub AreAnswers : ℕ → List Series → List OpenSession → List (Option Request) → List Answer → Type 0
 AreAnswers total book sessions [] [] = ⊤
 AreAnswers total book sessions [] (answer ∷ later) = ⊥
-AreAnswers total book sessions (line ∷ lines) [] = ⊥
-AreAnswers total book sessions (line ∷ lines) (answer ∷ later) =
-    FitsLine total book sessions line answer.reply
-    × AreAnswers total (after_line total book line) (after_reply sessions answer.reply) lines later
+AreAnswers total book sessions (request ∷ requests) [] = ⊥
+AreAnswers total book sessions (request ∷ requests) (answer ∷ later) =
+    FitsSaid total book sessions request answer.reply
+    × AreAnswers total (after_request total book request) (after_reply sessions answer.reply) requests later
 
 abbrev pub bytes_of : List Answer → List ℕ
 bytes_of answers = flat_map (λ answer. answer.bytes) answers
@@ -285,6 +280,6 @@ pub record AreFrames (answers : List Answer) : Type 0 where
 -- The lines are answered, each by the bytes that spell its frame, over the book of a state.
 pub record HasAnswers (old : State) (lines : List Line) (frames : List Frame) : Type 0 where
   pub answers : List Answer
-  pub fit : AreAnswers old.total old.book [] lines answers
+  pub fit : AreAnswers old.total old.book [] (map said_by lines) answers
   pub spelled : map (λ answer. answer.bytes) answers ≡ map spelling frames
   pub are : AreFrames answers

@@ -25,7 +25,7 @@ pub record SendsFirstBytes (IsText : List Line → List Frame → List ℕ → T
   pub texts : IsText lines frames text
   pub unsent : List ℕ
   pub bytes : text ≡ sent ++ unsent
-  pub all : status ≡ 0 → (lines ≡ told input) × (unsent ≡ [])
+  pub all : status ≡ 0 → (later ≡ []) × (unsent ≡ [])
 
 -- Where a serving sent such bytes over a book, and a crash left such pages, its run was exact.
 abbrev pub ServingsAreExact : Type 0

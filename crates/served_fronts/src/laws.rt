@@ -15,6 +15,7 @@ use chart_service::laws::{replies_are_one, sessions_stand_alone};
 use drawn_replies::laws::{
     clients_draw_the_book, one_session_draws_the_book, replies_are_accepted, replies_draw_the_book,
 };
+use request_lines::laws::lines_spell_requests;
 use stored_book::laws::empty_stores_have_no_series;
 use value_filter::laws::a_text_is_read_in_one_way;
 use view_keys::laws::keys_of_a_view_are_few;
@@ -135,6 +136,7 @@ pub fn charts_are_exact()
 pub fn servings_are_exact()
     ensures { ServingsAreExact }
 {
+    lines_spell_requests();
     first_bytes_agree();
     lines_have_their_answers();
 }
@@ -144,6 +146,7 @@ pub fn servings_are_exact()
 pub fn texts_are_exact()
     ensures { TextsAreExact }
 {
+    lines_spell_requests();
     replies_are_one();
     charts_have_one_picture();
     a_text_is_read_in_one_way();
@@ -168,6 +171,7 @@ pub fn disks_in_memory_are_honest()
 pub fn the_example_is_drawn()
     ensures { TheExampleIsDrawn }
 {
+    lines_spell_requests();
     charts_are_exact();
     charts_have_one_picture();
 }
