@@ -1,5 +1,5 @@
 -- What a call makes is a run.
-use Rattle.std.proofs.Common.{◌≡◌, ◌≢◌, ℕ, zero, suc, ◌<◌, ◌≤◌, ◌^◌, inl, inr, List, [], ◌++◌, take}
+use Rattle.std.proofs.Common.{◌≡◌, ◌≢◌, ℕ, zero, suc, ◌<◌, ◌≤◌, ◌^◌, inl, inr, List, [], ◌++◌, map, take}
 use Rattle.std.proofs.Common.{drop, Option, None, Some, IfSome, refl, sym, subst, ap, ◌∙◌, arith}
 use Rattle.std.specs.Prelude.{Contains}
 use Rattle.std.proofs.lemmas.List.{append_cancel_left, append-nil, take-append-drop}
@@ -19,8 +19,10 @@ use Rattle.program_words.specs.declared.words.Command.TheVariants.{Check, ListSe
 use Rattle.series_book.specs.declared.one_series.Series.{Series}
 use Rattle.served_fronts.specs.Fronts.{Draws}
 use Rattle.served_fronts.specs.Headline.{IsRun}
-use Rattle.served_fronts.specs.Headline.Task.{serves, runs, looks, changes}
+use Rattle.served_fronts.specs.Headline.Task.{serves, runs, watches, looks, changes}
 use Rattle.served_fronts.specs.Servings.{SendsFirstBytes, ServingsAreExact, TextsAreExact}
+use Rattle.served_fronts.specs.Books.{said_by}
+use Rattle.served_fronts.specs.Laws.{LinesSayWhatIsRead}
 use Rattle.served_fronts.proofs.Keeping.{told_join}
 use Rattle.served_fronts.proofs.Starts.{begin_sound}
 use Rattle.stored_book.specs.Standing.{RecoversTo, book_pages}
@@ -30,7 +32,9 @@ use Rattle.chart_program.specs.Exact.{run_of, task_of, drawing_codes, MakesRuns,
 use Rattle.chart_program.specs.Lives.{BeginsOn, IsLeftAt}
 use Rattle.chart_program.specs.Ran.{CommandEnds, Leaves}
 use Rattle.chart_program.specs.Served.{Faults, AreTexts}
+use Rattle.live_command.specs.Ended.{LeavesLived, begun_live}
 use Rattle.chart_program.proofs.CommandsEnd.{small_never}
+use Rattle.chart_program.proofs.LiveRuns.{live_follows}
 use Rattle.chart_program.proofs.LivesLemmas.{begun_holds, left_by, run_lives, OneBook}
 
 -- ---- what was sent
@@ -186,6 +190,26 @@ module _ (old new : View) (input was sent bytes : List ℕ) (faults : Faults) (c
       there.ahead refl in
       (exact.0, exact.1, record { readable = there.readable; within = there.within; old = there.old; stands = exact.2 })
 
+-- ---- a run that follows views
+
+live_run : LinesSayWhatIsRead → (old new : View) (input sent : List ℕ) (code : ℕ) → LeavesLived (page_count old.size) input old new
+    → (begins after : Image) (at : ℕ) → BeginsOn begins old → IsLeftAt old new at after
+    → IsRun (page_count old.size) (run_of watches begins input sent code old new at after)
+live_run reads old new input sent code leaves begins after at b is total book recovers =
+    let a = (leaves total book (begun_holds (page_count old.size) total book begins old b recovers)).here at after is.0 is.1.0 is.1.1 in
+    let first = a.first in (
+      a.state.state.book,
+      record {
+        lines = told first.front;
+        later = told first.rest;
+        split = told_join input first.front first.rest first.begins;
+        requests = map said_by (told first.front);
+        said = reads (told first.front);
+        next_is = live_follows (begun_live total book) a.state (told first.front) (a.shown ++ a.more) first.lives;
+      },
+      a.there,
+    )
+
 -- ---- another change
 
 change_run : OneBook → (command : Command) (old new : View) (input sent : List ℕ) (code : ℕ) → Leaves command input old new
@@ -198,38 +222,38 @@ change_run one command old new input sent code leaves begins after at b is total
 
 -- ---- any command
 
-command_run : ServingsAreExact → TextsAreExact → OneBook → (command : Command) (old new : View) (input was sent bytes : List ℕ) (faults : Faults)
+command_run : ServingsAreExact → TextsAreExact → LinesSayWhatIsRead → OneBook → (command : Command) (old new : View) (input was sent bytes : List ℕ) (faults : Faults)
     (code place : ℕ) → CommandEnds command old new (Some input) (Some bytes) (Some was) (Some (was ++ sent)) faults code place
     → (begins after : Image) (at : ℕ) → BeginsOn begins old → IsLeftAt old new at after
     → IsRun (page_count old.size) (run_of (task_of command) begins input sent code old new at after)
-command_run law texts one (Plot w h) old new input was sent bytes faults code place e = look_run old new input sent code e.crash
-command_run law texts one Draw old new input was sent bytes faults code place e = look_run old new input sent code e.crash
-command_run law texts one (Cover every) old new input was sent bytes faults code place e = look_run old new input sent code e.crash
-command_run law texts one Init old new input was sent bytes faults code place e = look_run old new input sent code e.crash
-command_run law texts one Check old new input was sent bytes faults code place e = look_run old new input sent code e.crash
-command_run law texts one ListSeries old new input was sent bytes faults code place e = look_run old new input sent code e.crash
-command_run law texts one (Export name window) old new input was sent bytes faults code place e = look_run old new input sent code e.crash
-command_run law texts one Derive old new input was sent bytes faults code place e = look_run old new input sent code e.crash
-command_run law texts one Serve old new input was sent bytes faults code place e = serve_run old new input was sent bytes faults code place e law
-command_run law texts one Run old new input was sent bytes faults code place e = text_run old new input was sent bytes faults code place e texts
-command_run law texts one (Load name) old new input was sent bytes faults code place e =
+command_run law texts reads one (Plot w h) old new input was sent bytes faults code place e = look_run old new input sent code e.crash
+command_run law texts reads one Draw old new input was sent bytes faults code place e = look_run old new input sent code e.crash
+command_run law texts reads one (Cover every) old new input was sent bytes faults code place e = look_run old new input sent code e.crash
+command_run law texts reads one Init old new input was sent bytes faults code place e = look_run old new input sent code e.crash
+command_run law texts reads one Check old new input was sent bytes faults code place e = look_run old new input sent code e.crash
+command_run law texts reads one ListSeries old new input was sent bytes faults code place e = look_run old new input sent code e.crash
+command_run law texts reads one (Export name window) old new input was sent bytes faults code place e = look_run old new input sent code e.crash
+command_run law texts reads one Derive old new input was sent bytes faults code place e = look_run old new input sent code e.crash
+command_run law texts reads one Serve old new input was sent bytes faults code place e = serve_run old new input was sent bytes faults code place e law
+command_run law texts reads one Run old new input was sent bytes faults code place e = text_run old new input was sent bytes faults code place e texts
+command_run law texts reads one (Load name) old new input was sent bytes faults code place e =
     change_run one (Load name) old new input sent code e.crash
-command_run law texts one (Demo seed rounds) old new input was sent bytes faults code place e =
+command_run law texts reads one (Demo seed rounds) old new input was sent bytes faults code place e =
     change_run one (Demo seed rounds) old new input sent code e.crash
-command_run law texts one Retain old new input was sent bytes faults code place e = change_run one Retain old new input sent code e.crash
-command_run law texts one Live old new input was sent bytes faults code place e = change_run one Live old new input sent code e.crash
+command_run law texts reads one Retain old new input was sent bytes faults code place e = change_run one Retain old new input sent code e.crash
+command_run law texts reads one Live old new input was sent bytes faults code place e = live_run reads old new input sent code e.crash
 
 -- where the input is told
-pub runs_made : ServingsAreExact → TextsAreExact → OneBook → (command : Command) (old new : View) (left left' before now : Option (List ℕ))
+pub runs_made : ServingsAreExact → TextsAreExact → LinesSayWhatIsRead → OneBook → (command : Command) (old new : View) (left left' before now : Option (List ℕ))
     (faults : Faults) (code place : ℕ) → CommandEnds command old new left left' before now faults code place
     → IfSome left (λ input. MakesRuns code left' command old new input before now)
-runs_made law texts one command old new None left' before now faults code place e = tt
-runs_made law texts one command old new (Some input) left' before now faults code place e =
+runs_made law texts reads one command old new None left' before now faults code place e = tt
+runs_made law texts reads one command old new (Some input) left' before now faults code place e =
     λ begins after at was sent bytes b is left_is before_is now_is.
     let L : Option (List ℕ) → Type 0 = λ l. CommandEnds command old new (Some input) l before now faults code place in
     let B : Option (List ℕ) → Type 0 = λ o. CommandEnds command old new (Some input) (Some bytes) o now faults code place in
     let N : Option (List ℕ) → Type 0 = λ o. CommandEnds command old new (Some input) (Some bytes) (Some was) o faults code place in
-    command_run law texts one command old new input was sent bytes faults code place (subst N now_is (subst B before_is (subst L left_is e)))
+    command_run law texts reads one command old new input was sent bytes faults code place (subst N now_is (subst B before_is (subst L left_is e)))
     begins after at b is
 
 -- ---- the first run

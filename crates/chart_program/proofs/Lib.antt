@@ -37,4 +37,5 @@ pub mod LoadEnds
 pub mod RetainEnds
 pub mod LiveEnds
 pub mod DeriveEnds
+pub mod LiveRuns
 pub mod ExactRuns

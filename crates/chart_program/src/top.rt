@@ -41,7 +41,7 @@ use run_ends::codes::{
     WRONG_WORDS,
 };
 use run_ends::{End, Status, status_of};
-use served_fronts::laws::{servings_are_exact, texts_are_exact};
+use served_fronts::laws::{lines_say_what_is_read, servings_are_exact, texts_are_exact};
 use std::alloc::Global;
 use stored_book::laws::{empty_stores_have_no_series, pages_stand_for_one_book};
 
@@ -157,6 +157,7 @@ pub fn chart<W: World>(alloc: Global, words: &[String], world: W) -> (Status, W)
     own_replies_are_accepted();
     servings_are_exact();
     texts_are_exact();
+    lines_say_what_is_read();
     empty_stores_have_no_series();
     pages_stand_for_one_book();
     match command_of(alloc, words) {

@@ -90,7 +90,7 @@ by_session : (old new : State) (frame : Frame) (o : Option Session) (number : �
 by_session old new frame None number window is = same_state old new is.state
 by_session old new frame (Some session) number window is = by_last old new frame session.last number window is
 
-by_request : (old new : State) (frame : Frame) (r : Result Request ℕ) → RepliesTo r frame old new
+pub by_request : (old new : State) (frame : Frame) (r : Result Request ℕ) → RepliesTo r frame old new
     → (new.book ≡ after_request old.total old.book (ok_of r)) × (new.total ≡ old.total)
 by_request old new frame (Err at) is = same_state old new is.state
 by_request old new frame (Ok (Edit edit)) is = by_edit old new frame (apply old.book old.total edit) is

@@ -13,10 +13,12 @@ use Rattle.served_fronts.specs.Texts.{AreTexted}
 
 -- ---- runs
 
--- what a run is for: it serves lines, it answers them by texts, it leaves the book alone, or it changes the book otherwise
+-- what a run is for: it serves lines, it answers them by texts, it answers them and follows views, it leaves the book alone, or it
+-- changes the book otherwise
 pub data Task : Type 0 where
   serves : Task
   runs : Task
+  watches : Task
   looks : Task
   changes : Task
 
@@ -80,10 +82,20 @@ pub record LeavesAhead (total : ℕ) (book : List Series) (run : Run) (next : Li
   pub few : length lines ≤ length (whole_in run.by_then texts) + 64
   pub next_is : next ≡ after_requests total book (requests ++ ahead)
 
+-- the crash left the book after some first lines
+pub record LeavesLines (total : ℕ) (book : List Series) (input : List ℕ) (next : List Series) : Type 0 where
+  pub lines : List Line
+  pub later : List Line
+  pub split : told input ≡ lines ++ later
+  pub requests : List (Option Request)
+  pub said : AreSaid lines requests
+  pub next_is : next ≡ after_requests total book requests
+
 -- From one book to the next a run was exact. What a run leaves that changes the book otherwise isn't said here.
 abbrev pub IsExact : Task → ℕ → List Series → Run → List Series → Type 0
 IsExact serves total book run next = Says AreFrames total book run × LeavesBook total book run next
 IsExact runs total book run next = Says AreTexted total book run × LeavesAhead total book run next
+IsExact watches total book run next = LeavesLines total book run.input next
 IsExact looks total book run next = next ≡ book
 IsExact changes total book run next = ⊤
 

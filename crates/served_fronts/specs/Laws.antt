@@ -1,5 +1,5 @@
 -- The laws of fronts of what answers lines.
-use Rattle.std.specs.Prelude.{◌≡◌, ℕ, ◌-◌, ◌≤◌, ◌^◌, List, [], ◌++◌, length, take, flat_map, All, Option, None}
+use Rattle.std.specs.Prelude.{◌≡◌, ℕ, ◌-◌, ◌≤◌, ◌^◌, List, [], ◌++◌, length, map, take, flat_map, All, Option, None}
 use Rattle.std.specs.List.{filter}
 use Rattle.block_disk.specs.View.{Image}
 use Rattle.series_book.specs.declared.one_series.Series.{Series}
@@ -21,7 +21,7 @@ use Rattle.chart_service.specs.Stepping.{state_of}
 use Rattle.chart_service.specs.Alone.{only}
 use Rattle.drawn_replies.specs.Pictures.{names}
 use Rattle.draw_command.specs.Draws.{DrawsFirst, IsFront}
-use Rattle.served_fronts.specs.Books.{Line, after_lines}
+use Rattle.served_fronts.specs.Books.{Line, AreSaid, said_by, after_lines}
 use Rattle.served_fronts.specs.Fronts.{whole_frames, SendsFirstPictures, SendsFirstOwn, Draws}
 use Rattle.served_fronts.specs.Answers.{TellsSize, HasAnswers}
 use Rattle.served_fronts.specs.Crashes.{KeepsLines}
@@ -98,6 +98,10 @@ BytesAreCutInOneWay =
     (first second : List (List ℕ)) (behind more : List ℕ) → All TellsSize first → All TellsSize second
     → flat_map (λ bytes. bytes) first ++ behind ≡ flat_map (λ bytes. bytes) second ++ more → length first ≤ length second
     → (later : List (List ℕ)) × (second ≡ first ++ later)
+
+-- A line says what it is read as.
+abbrev pub LinesSayWhatIsRead : Type 0
+LinesSayWhatIsRead = (lines : List Line) → AreSaid lines (map said_by lines)
 
 -- A store that recovers to a book begins a sound state, with no session open.
 abbrev pub StoresBeginSound : Type 0

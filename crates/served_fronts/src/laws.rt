@@ -2,6 +2,7 @@
 
 ghost use Rattle.served_fronts.specs.Laws.{FrontsDrawTheBook, OwnFrontsDrawTheBook, DrawnFrontsAreTheBook, BooksFollowTheLines};
 ghost use Rattle.served_fronts.specs.Laws.{DrawnOwnFrontsAreTheBook, LinesAreAnswered, CrashesKeepTheLines};
+ghost use Rattle.served_fronts.specs.Laws.{LinesSayWhatIsRead};
 ghost use Rattle.served_fronts.specs.Laws.{FirstBytesAgree, BytesAreCutInOneWay, ChartsHaveOnePicture, StoresBeginSound};
 ghost use Rattle.served_fronts.specs.Headline.{ChartsAreExact};
 ghost use Rattle.served_fronts.specs.Servings.{ServingsAreExact, TextsAreExact};
@@ -97,6 +98,13 @@ pub fn crashes_keep_the_lines()
 pub fn books_follow_the_lines()
     ensures { BooksFollowTheLines }
 {}
+
+/// What a line is read as is the request that it spells, and it spells none where none is read.
+pub fn lines_say_what_is_read()
+    ensures { LinesSayWhatIsRead }
+{
+    lines_spell_requests();
+}
 
 /// What was sent is determined by its length: the first so many bytes of what answers some first lines are those of what
 /// answers any other number of first lines of the same ones.

@@ -484,7 +484,7 @@ returns-in-Ok-clause-exact g c =
     let new = c.status_of_command.result.1 in
     let e = c.status_of_command.ensures.ends in
     λ other. inr (of_command _ c.in-Ok.command c.in-Ok.command _ refl c.in-Ok.ensures.command
-    (runs_made c.servings_are_exact.ensures c.texts_are_exact.ensures c.pages_stand_for_one_book.ensures.book c.in-Ok.command
+    (runs_made c.servings_are_exact.ensures c.texts_are_exact.ensures c.lines_say_what_is_read.ensures c.pages_stand_for_one_book.ensures.book c.in-Ok.command
     (view old) (view new) (left old) (left new) (sent old) (sent new) _ _ _ e))
 
 pub returns-in-Err-Wrong-clause-exact : goal.returns-in-Err-Wrong-clause-exact
