@@ -3,7 +3,7 @@ pub mod Books
 pub mod Reading
 pub mod Agreeing
 pub mod Pictures
-pub mod Kinds
+pub mod FrameKinds
 pub mod Saying
 pub mod Accepting
 pub mod Stopped

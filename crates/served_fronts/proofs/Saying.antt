@@ -44,7 +44,7 @@ use Rattle.chart_frames.specs.declared.frame.RowsFrame.{RowsFrame}
 use Rattle.chart_frames.specs.declared.frame.ViewFrame.{ViewFrame}
 use Rattle.chart_frames.specs.Format.{number_in}
 use Rattle.chart_frames.specs.Frames.{spelling}
-use Rattle.served_fronts.proofs.Kinds.{kind_at, view_kind, rows_kind}
+use Rattle.served_fronts.proofs.FrameKinds.{kind_at, view_kind, rows_kind}
 use Rattle.chart_service.specs.State.{State}
 use Rattle.chart_service.specs.Viewing.{axis_of, kept_by, range_spec, view_frame, rows_frame, ShowsRange, Answers, AnswersRows}
 use Rattle.chart_service.specs.Replies.{Refuses, Edits, Opens, Closes, cache_of, NeedsTooMany, AnswersBy, Views, ViewsSeries, ViewsId}
