@@ -63,15 +63,16 @@ each_told : (o : Option (List ℕ)) (IsSo : List ℕ → Type 0) → ((input : L
 each_told None IsSo so = tt
 each_told (Some input) IsSo so = so input
 
-module _ {T : Type 0} (old new : View) (t : Traffic) (faults : Faults) where
-  abbrev at : Course
-  at = record { old = old; new = new; left = t.left; left_now = t.left_now; sent = t.sent; sent_now = t.sent_now }
+-- what passed by this traffic from one disk to another
+abbrev pub passed : View → View → Traffic → Course
+passed old new t = record { old = old; new = new; left = t.left; left_now = t.left_now; sent = t.sent; sent_now = t.sent_now }
 
+module _ {T : Type 0} (old new : View) (t : Traffic) (faults : Faults) where
   -- what a serving of a world did
   abbrev Did : Says → Type 0 → Result T LinesEnd → Type 0
   Did IsText CanShow answer = ServesWorld IsText CanShow old new t.left t.left_now t.sent t.sent_now faults answer
 
-  serve_does : (answer : Result T LinesEnd) → Did Spelled ⊥ answer → OpensFirst old t answer → ServeDoes Spelled at (end_of answer)
+  serve_does : (answer : Result T LinesEnd) → Did Spelled ⊥ answer → OpensFirst old t answer → ServeDoes Spelled (passed old new t) (end_of answer)
   serve_does (Ok done) s first = (s.within, s.done)
   serve_does (Err (lines_end.Opening (opening.TooSmall size))) s first = (s.cause.0, omega (arith, s.cause.0, s.cause.1))
   serve_does (Err (lines_end.Opening (opening.Damaged block))) s first = (record { at_first = s.cause.1; took_nothing = first.left_is; sent_nothing = first.sent_is }, told_first t.left _ _ s.ends)
@@ -88,7 +89,7 @@ module _ {T : Type 0} (old new : View) (t : Traffic) (faults : Faults) where
   serve_does (Err (lines_end.Answering (run_end.Show (client.UnknownSession number)))) s first = absurd s.cause
   serve_does (Err (lines_end.Answering (run_end.Show client.NoMemory))) s first = s.ends
 
-  run_does : (answer : Result T LinesEnd) → Did AreTexts (Unit {0}) answer → OpensFirst old t answer → RunDoes at (end_of answer)
+  run_does : (answer : Result T LinesEnd) → Did AreTexts (Unit {0}) answer → OpensFirst old t answer → RunDoes (passed old new t) (end_of answer)
   run_does (Ok done) s first = (s.within, s.done)
   run_does (Err (lines_end.Opening (opening.TooSmall size))) s first = (s.cause.0, omega (arith, s.cause.0, s.cause.1))
   run_does (Err (lines_end.Opening (opening.Damaged block))) s first = (record { at_first = s.cause.1; took_nothing = first.left_is; sent_nothing = first.sent_is }, told_first t.left _ _ s.ends)
@@ -101,9 +102,9 @@ module _ {T : Type 0} (old new : View) (t : Traffic) (faults : Faults) where
   run_does (Err (lines_end.Answering (run_end.Serve serve_end.InputTooLong))) s first = (s.long refl, s.ends)
   run_does (Err (lines_end.Answering (run_end.Serve serve_end.NoMemory))) s first = s.ends
   run_does (Err (lines_end.Answering (run_end.Show (client.Missing key)))) s first =
-      told_with t.left (λ input. Never (page_count old.size) old) (RejectsKey at client.Missing (key_number key)) s.ends (key, refl, s.cause.2)
+      told_with t.left (λ input. Never (page_count old.size) old) (RejectsKey (passed old new t) client.Missing (key_number key)) s.ends (key, refl, s.cause.2)
   run_does (Err (lines_end.Answering (run_end.Show (client.BadCoefficient key)))) s first =
-      told_with t.left (λ input. Never (page_count old.size) old) (RejectsKey at client.BadCoefficient (key_number key)) s.ends (key, refl, s.cause.2)
+      told_with t.left (λ input. Never (page_count old.size) old) (RejectsKey (passed old new t) client.BadCoefficient (key_number key)) s.ends (key, refl, s.cause.2)
   run_does (Err (lines_end.Answering (run_end.Show (client.UnknownSession number)))) s first = absurd s.cause
   run_does (Err (lines_end.Answering (run_end.Show client.NoMemory))) s first = s.ends
 
@@ -138,7 +139,7 @@ module _ {T : Type 0} (old new : View) (t : Traffic) (faults : Faults) where
     good (Err (lines_end.Answering (run_end.Show client.NoMemory))) s = each_told t.left (IsGood (Err (lines_end.Answering (run_end.Show client.NoMemory)))) (λ input r. tt)
 
     serves_lines : (answer : Result T LinesEnd) → Did IsText CanShow answer → TurnsAway old t (status_by answer)
-        → ServesLines IsText at (end_of answer)
+        → ServesLines IsText (passed old new t) (end_of answer)
     serves_lines answer s away =
         let A : Status → Type 0 = λ status. TurnsAway old t status in
         record {
@@ -150,9 +151,9 @@ module _ {T : Type 0} (old new : View) (t : Traffic) (faults : Faults) where
         }
 
   pub of_serve : (answer : Result T LinesEnd) → Did Spelled ⊥ answer → OpensFirst old t answer → TurnsAway old t (status_by answer)
-      → OfServe at (end_of answer)
+      → OfServe (passed old new t) (end_of answer)
   of_serve answer s first away = (serve_does answer s first, serves_lines Spelled ⊥ answer s away)
 
   pub of_run : (answer : Result T LinesEnd) → Did AreTexts (Unit {0}) answer → OpensFirst old t answer → TurnsAway old t (status_by answer)
-      → OfRun at (end_of answer)
+      → OfRun (passed old new t) (end_of answer)
   of_run answer s first away = (run_does answer s first, serves_lines AreTexts (Unit {0}) answer s away)

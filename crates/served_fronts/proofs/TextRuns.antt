@@ -16,7 +16,7 @@ use Rattle.chart_service.specs.Stepping.{state_of}
 use Rattle.chart_service.specs.Telling.{replies_joined}
 use Rattle.drawn_replies.specs.Pictures.{ArePictured}
 use Rattle.served_fronts.specs.Books.{Line, AreSaid, said_by, after_requests, after_lines}
-use Rattle.served_fronts.specs.Answers.{Answer, bytes_of, whole_in}
+use Rattle.served_fronts.specs.Answers.{Answer, whole_in}
 use Rattle.served_fronts.specs.Texts.{texts_of, AreTexts, AreTexted}
 use Rattle.served_fronts.specs.Headline.{Run, Says, LeavesAhead}
 use Rattle.served_fronts.specs.Laws.{ChartsHaveOnePicture}

@@ -1,5 +1,5 @@
 -- What `run` sends, in the words of replies.
-use Rattle.std.specs.Prelude.{slice_get, is_some, codes, flat_map, nat_le, All, if◌then◌else◌}
+use Rattle.std.specs.Prelude.{slice_get, is_some, codes, nat_le, if◌then◌else◌}
 use Rattle.std.specs.Fmt.{decimal}
 use Rattle.std.proofs.Common.{◌≡◌, ℕ, suc, ◌-◌, ◌≤◌, true, false, List, [], ◌∷◌, ◌++◌, length, map, take, Option, None, Some, refl, ap, sym}
 use Rattle.std.proofs.Common.{subst, ◌∙◌, arith, length-append}
@@ -75,7 +75,7 @@ pub answers_many : (total : ℕ) (book : List Series) (sessions : List OpenSessi
 answers_many total book sessions [] [] fit = refl
 answers_many total book sessions [] (a ∷ l) fit = absurd fit
 answers_many total book sessions (x ∷ xs) [] fit = absurd fit
-answers_many total book sessions (x ∷ xs) (a ∷ l) fit = ap suc 
+answers_many total book sessions (x ∷ xs) (a ∷ l) fit = ap suc
     (answers_many total (after_request total book x) (after_reply sessions a.reply) xs l fit.1)
 
 module _ (one : OneReply) (pictures : ChartsHaveOnePicture) where

@@ -7,8 +7,6 @@ use Rattle.chart_frames.specs.declared.frame.Frame.{Frame}
 use Rattle.chart_frames.specs.declared.frame.Frame.TheVariants.{Done, Refused, Opened, Closed, View, Rows, Live}
 use Rattle.chart_frames.specs.Frames.{spelling}
 use Rattle.chart_service.specs.State.{State}
-use Rattle.zoom_session.specs.declared.view_spec.ViewSpec.{ViewSpec}
-use Rattle.plain_chart.specs.declared.sample.Sample.{Sample}
 use Rattle.drawn_replies.specs.Pictures.{ArePictured}
 use Rattle.draw_command.specs.Covers.{picture_bytes}
 use Rattle.served_fronts.specs.Answers.{Reply, Answer, HasPicture}
