@@ -16,12 +16,12 @@ use Rattle.chart_program.proofs.Codes.{told_long}
 use Rattle.chart_program.proofs.Apart.{apart}
 
 -- the first of two facts, where the input is told
-told_first : (o : Option (List ℕ)) (P Q : List ℕ → Type 0) → IfSome o (λ input. P input × Q input) → IfSome o P
+pub told_first : (o : Option (List ℕ)) (P Q : List ℕ → Type 0) → IfSome o (λ input. P input × Q input) → IfSome o P
 told_first None P Q both = tt
 told_first (Some input) P Q both = both.0
 
 -- a fact more
-told_with : (o : Option (List ℕ)) (P : List ℕ → Type 0) (Q : Type 0) → IfSome o P → Q → IfSome o (λ input. P input × Q)
+pub told_with : (o : Option (List ℕ)) (P : List ℕ → Type 0) (Q : Type 0) → IfSome o P → Q → IfSome o (λ input. P input × Q)
 told_with None P Q first second = tt
 told_with (Some input) P Q first second = (first, second)
 

@@ -1,14 +1,14 @@
 -- What a call makes is a run.
-use Rattle.std.proofs.Common.{◌≡◌, ◌≢◌, ℕ, zero, suc, ◌<◌, ◌≤◌, ◌^◌, inl, inr, List, [], ◌++◌, take}
+use Rattle.std.proofs.Common.{◌≡◌, ◌≢◌, ℕ, zero, suc, ◌<◌, ◌≤◌, ◌^◌, inl, inr, List, [], ◌++◌, map, take}
 use Rattle.std.proofs.Common.{drop, Option, None, Some, IfSome, refl, sym, subst, ap, ◌∙◌, arith}
 use Rattle.std.specs.Prelude.{Contains}
-use Rattle.std.proofs.lemmas.List.{append_assoc, append_cancel_left, append-nil, take-append-drop}
+use Rattle.std.proofs.lemmas.List.{append_cancel_left, append-nil, take-append-drop}
 use Rattle.block_disk.specs.Streams.{sent_after}
 use Rattle.block_disk.specs.View.{Image, View, sent_now}
 use Rattle.chart_world.specs.Fronts.{BeginsWith}
 use Rattle.chart_service.specs.State.{State}
 use Rattle.chart_service.specs.Serving.{told, Answers, AreSpelled, SendsFirst}
-use Rattle.chart_service.specs.Telling.{replies_joined}
+use Rattle.chart_frames.specs.declared.frame.Frame.{Frame}
 use Rattle.disk_store.specs.Held.{HoldsBook}
 use Rattle.draw_command.specs.declared.draw_end.DrawEnd.TheVariants as draw_end
 use Rattle.empty_store.specs.Stores.{IsNewStore}
@@ -18,10 +18,11 @@ use Rattle.program_words.specs.declared.words.Command.TheVariants.{Plot, Load, D
 use Rattle.program_words.specs.declared.words.Command.TheVariants.{Check, ListSeries, Export, Retain, Cover, Live, Derive}
 use Rattle.series_book.specs.declared.one_series.Series.{Series}
 use Rattle.served_fronts.specs.Fronts.{Draws}
-use Rattle.served_fronts.specs.Headline.{Follows, IsRun}
-use Rattle.served_fronts.specs.Headline.Task.{serves, runs, looks, changes}
-use Rattle.served_fronts.specs.Servings.{SendsFirstBytes, ServingsAreExact}
-use Rattle.served_fronts.proofs.Books.{books_follow}
+use Rattle.served_fronts.specs.Headline.{IsRun}
+use Rattle.served_fronts.specs.Headline.Task.{serves, runs, watches, looks, changes}
+use Rattle.served_fronts.specs.Servings.{SendsFirstBytes, ServingsAreExact, TextsAreExact}
+use Rattle.served_fronts.specs.Books.{said_by}
+use Rattle.served_fronts.specs.Laws.{LinesSayWhatIsRead}
 use Rattle.served_fronts.proofs.Keeping.{told_join}
 use Rattle.served_fronts.proofs.Starts.{begin_sound}
 use Rattle.stored_book.specs.Standing.{RecoversTo, book_pages}
@@ -30,8 +31,10 @@ use Rattle.chart_program.specs.CommandStatuses.{codes_of}
 use Rattle.chart_program.specs.Exact.{run_of, task_of, drawing_codes, MakesRuns, BeginsRuns, DrawsFronts}
 use Rattle.chart_program.specs.Lives.{BeginsOn, IsLeftAt}
 use Rattle.chart_program.specs.Ran.{CommandEnds, Leaves}
-use Rattle.chart_program.specs.Served.{Faults, AreTexts, LeavesBooks}
+use Rattle.chart_program.specs.Served.{Faults, AreTexts}
+use Rattle.live_command.specs.Ended.{LeavesLived, begun_live}
 use Rattle.chart_program.proofs.CommandsEnd.{small_never}
+use Rattle.chart_program.proofs.LiveRuns.{live_follows}
 use Rattle.chart_program.proofs.LivesLemmas.{begun_holds, left_by, run_lives, OneBook}
 
 -- ---- what was sent
@@ -39,74 +42,86 @@ use Rattle.chart_program.proofs.LivesLemmas.{begun_holds, left_by, run_lives, On
 same_sent : (was sent text : List ℕ) → Some (was ++ sent) ≡ Some (was ++ text) → sent ≡ text
 same_sent was sent text same = let inner : was ++ sent ≡ was ++ text = cc in append_cancel_left was sent text inner
 
--- some first lines were answered, and a front of their text was sent
-sent_front : (old between : State) (input front rest text sent unsent : List ℕ) (status : ℕ) → BeginsWith input front rest
-    → Answers AreSpelled front text old between → text ≡ sent ++ unsent → status ≢ 0 → SendsFirstBytes old input status sent
-sent_front old between input front rest text sent unsent status begins answers is other = record {
-  lines = told front;
-  later = told rest;
-  split = told_join input front rest begins;
-  frames = answers.frames;
-  new = between;
-  replied = answers.replied;
-  unsent = unsent;
-  bytes = sym answers.texts ∙ is;
-  all = λ done. absurd (other done);
-}
+module _ (IsText : List (Option (List ℕ)) → List Frame → List ℕ → Type 0) where
+  -- some first lines were answered, and a front of their text was sent
+  sent_front : (old between : State) (input front rest text sent unsent : List ℕ) (status : ℕ) → BeginsWith input front rest
+      → Answers IsText front text old between → text ≡ sent ++ unsent → status ≢ 0 → SendsFirstBytes IsText old input status sent
+  sent_front old between input front rest text sent unsent status begins answers is other = record {
+    lines = told front;
+    later = told rest;
+    split = told_join input front rest begins;
+    frames = answers.frames;
+    new = between;
+    replied = answers.replied;
+    text = text;
+    texts = answers.texts;
+    unsent = unsent;
+    bytes = is;
+    all = λ done. absurd (other done);
+  }
 
--- their whole text was
-sent_first : (old between : State) (input rest was sent : List ℕ) (status : ℕ)
-    → SendsFirst AreSpelled input rest old between (Some was) (Some (was ++ sent)) → status ≢ 0 → SendsFirstBytes old input status sent
-sent_first old between input rest was sent status first other =
-    sent_front old between input first.front rest first.text sent [] status first.begins first.answers
-    (sym (same_sent was sent first.text first.sent) ∙ sym (append-nil sent)) other
+  -- their whole text was
+  sent_first : (old between : State) (input rest was sent : List ℕ) (status : ℕ)
+      → SendsFirst IsText input rest old between (Some was) (Some (was ++ sent)) → status ≢ 0 → SendsFirstBytes IsText old input status sent
+  sent_first old between input rest was sent status first other =
+      sent_front old between input first.front rest first.text sent [] status first.begins first.answers
+      (sym (same_sent was sent first.text first.sent) ∙ sym (append-nil sent)) other
 
--- all lines were answered
-sent_all : (old new : State) (input text was sent : List ℕ) (status : ℕ) → Answers AreSpelled input text old new
-    → Some (was ++ sent) ≡ sent_after text (Some was) → SendsFirstBytes old input status sent
-sent_all old new input text was sent status answers is = record {
-  lines = told input;
-  later = [];
-  split = sym (append-nil (told input));
-  frames = answers.frames;
-  new = new;
-  replied = answers.replied;
-  unsent = [];
-  bytes = sym answers.texts ∙ sym (same_sent was sent text is) ∙ sym (append-nil sent);
-  all = λ done. (refl, refl);
-}
+  -- the first bytes of it were
+  sent_part : (old between : State) (input front rest text was sent : List ℕ) (count status : ℕ) → BeginsWith input front rest
+      → Answers IsText front text old between → Some (was ++ sent) ≡ sent_after (take count text) (Some was) → status ≢ 0
+      → SendsFirstBytes IsText old input status sent
+  sent_part old between input front rest text was sent count status begins answers is other =
+      sent_front old between input front rest text sent (drop count text) status begins answers
+      (sym (take-append-drop count text) ∙ ap (λ l. l ++ drop count text) (sym (same_sent was sent (take count text) is))) other
+
+  -- all lines were answered
+  sent_all : (old new : State) (input text was sent : List ℕ) (status : ℕ) → Answers IsText input text old new
+      → Some (was ++ sent) ≡ sent_after text (Some was) → SendsFirstBytes IsText old input status sent
+  sent_all old new input text was sent status answers is = record {
+    lines = told input;
+    later = [];
+    split = sym (append-nil (told input));
+    frames = answers.frames;
+    new = new;
+    replied = answers.replied;
+    text = text;
+    texts = answers.texts;
+    unsent = [];
+    bytes = sym (same_sent was sent text is) ∙ sym (append-nil sent);
+    all = λ done. (refl, refl);
+  }
+
+other_than : (code some : ℕ) → code ≡ suc some → code ≢ 0
+other_than code some is zero_is = let never : suc some ≡ 0 = sym is ∙ zero_is in omega (arith, never)
 
 -- ---- a serving
 
 module _ (old new : View) (input was sent bytes : List ℕ) (faults : Faults) (code place : ℕ)
     (e : CommandEnds Serve old new (Some input) (Some bytes) (Some was) (Some (was ++ sent)) faults code place) where
-  other_than : (some : ℕ) → code ≡ suc some → code ≢ 0
-  other_than some is zero_is = let never : suc some ≡ 0 = sym is ∙ zero_is in omega (arith, never)
-
   serve_sent : (total : ℕ) (book : List Series) → HoldsBook (page_count old.size) total book old → Contains (codes_of Serve) code
-      → SendsFirstBytes (begun total book) input code sent
+      → SendsFirstBytes AreSpelled (begun total book) input code sent
   serve_sent total book holds (zero, inside, is) =
       let done = e.done (sym is) total book holds in
-      sent_all (begun total book) done.0 input done.1.text was sent code done.1.answers done.1.sent
+      sent_all AreSpelled (begun total book) done.0 input done.1.text was sent code done.1.answers done.1.sent
   serve_sent total book holds (suc zero, inside, is) =
       let some = e.memory (sym is) total book holds in
-      sent_first (begun total book) some.1.between input some.1.rest was sent code some.1.first (other_than 2 (sym is))
+      sent_first AreSpelled (begun total book) some.1.between input some.1.rest was sent code some.1.first (other_than code 2 (sym is))
   serve_sent total book holds (suc (suc zero), inside, is) =
       let taken = e.stopped (sym is) total book holds in
-      sent_first (begun total book) taken.0 input taken.1.rest was sent code taken.1.first (other_than 3 (sym is))
+      sent_first AreSpelled (begun total book) taken.0 input taken.1.rest was sent code taken.1.first (other_than code 3 (sym is))
   serve_sent total book holds (suc (suc (suc zero)), inside, is) =
       let part = (e.part (sym is) total book holds).1 in
-      sent_front (begun total book) part.between input part.front part.rest part.text sent (drop part.count part.text) code
-      part.begins part.answers (sym (take-append-drop part.count part.text)
-      ∙ ap (λ l. l ++ drop part.count part.text) (sym (same_sent was sent (take part.count part.text) part.sent)))
-      (other_than 4 (sym is))
+      sent_part AreSpelled (begun total book) part.between input part.front part.rest part.text was sent part.count code part.begins
+      part.answers part.sent (other_than code 4 (sym is))
   serve_sent total book holds (suc (suc (suc (suc zero))), inside, is) =
       let lines = e.faulted (sym is) total book holds in
-      sent_first (begun total book) lines.between input lines.rest was sent code lines.first (other_than 5 (sym is))
-  serve_sent total book holds (suc (suc (suc (suc (suc zero)))), inside, is) = absurd (e.undamaged (sym is) total book holds)
+      sent_first AreSpelled (begun total book) lines.between input lines.rest was sent code lines.first (other_than code 5 (sym is))
+  serve_sent total book holds (suc (suc (suc (suc (suc zero)))), inside, is) =
+      absurd (e.undamaged (sym is) total book holds)
   serve_sent total book holds (suc (suc (suc (suc (suc (suc zero))))), inside, is) =
       let within = (e.much (sym is)).2 total book holds in
-      sent_first (begun total book) within.0 input within.1.rest was sent code within.1.first (other_than 8 (sym is))
+      sent_first AreSpelled (begun total book) within.0 input within.1.rest was sent code within.1.first (other_than code 8 (sym is))
   serve_sent total book holds (suc (suc (suc (suc (suc (suc (suc zero)))))), inside, is) =
       absurd (small_never old total book holds (omega (arith, (e.small (sym is)).1)))
   serve_sent total book holds (suc (suc (suc (suc (suc (suc (suc (suc k))))))), inside, is) = absurd (omega (arith, inside))
@@ -131,42 +146,69 @@ look_run old new input sent code leaves begins after at b is total book recovers
 
 -- ---- a run of texts
 
-text_run : (old new : View) (input sent : List ℕ) (code : ℕ) → LeavesBooks AreTexts (page_count old.size) input old new
+module _ (old new : View) (input was sent bytes : List ℕ) (faults : Faults) (code place : ℕ)
+    (e : CommandEnds Run old new (Some input) (Some bytes) (Some was) (Some (was ++ sent)) faults code place) where
+  texts_sent : (total : ℕ) (book : List Series) → HoldsBook (page_count old.size) total book old → Contains (codes_of Run) code
+      → SendsFirstBytes (AreTexts (begun total book)) (begun total book) input code sent
+  texts_sent total book holds (zero, inside, is) =
+      let done = e.done (sym is) total book holds in
+      sent_all (AreTexts (begun total book)) (begun total book) done.0 input done.1.text was sent code done.1.answers done.1.sent
+  texts_sent total book holds (suc zero, inside, is) =
+      let some = e.memory (sym is) total book holds in
+      sent_first (AreTexts (begun total book)) (begun total book) some.1.between input some.1.rest was sent code some.1.first (other_than code 2 (sym is))
+  texts_sent total book holds (suc (suc zero), inside, is) =
+      let taken = e.stopped (sym is) total book holds in
+      sent_first (AreTexts (begun total book)) (begun total book) taken.0 input taken.1.rest was sent code taken.1.first (other_than code 3 (sym is))
+  texts_sent total book holds (suc (suc (suc zero)), inside, is) =
+      let part = (e.part (sym is) total book holds).1 in
+      sent_part (AreTexts (begun total book)) (begun total book) part.between input part.front part.rest part.text was sent part.count code part.begins
+      part.answers part.sent (other_than code 4 (sym is))
+  texts_sent total book holds (suc (suc (suc (suc zero))), inside, is) =
+      let lines = e.faulted (sym is) total book holds in
+      sent_first (AreTexts (begun total book)) (begun total book) lines.between input lines.rest was sent code lines.first (other_than code 5 (sym is))
+  texts_sent total book holds (suc (suc (suc (suc (suc zero)))), inside, is) =
+      absurd (e.undamaged (sym is) total book holds)
+  texts_sent total book holds (suc (suc (suc (suc (suc (suc zero))))), inside, is) =
+      let within = (e.much (sym is)).2 total book holds in
+      sent_first (AreTexts (begun total book)) (begun total book) within.0 input within.1.rest was sent code within.1.first (other_than code 8 (sym is))
+  texts_sent total book holds (suc (suc (suc (suc (suc (suc (suc zero)))))), inside, is) =
+      absurd ((e.missing (sym is)).0 total book holds)
+  texts_sent total book holds (suc (suc (suc (suc (suc (suc (suc (suc zero))))))), inside, is) =
+      absurd ((e.misfit (sym is)).0 total book holds)
+  texts_sent total book holds (suc (suc (suc (suc (suc (suc (suc (suc (suc zero)))))))), inside, is) =
+      absurd (small_never old total book holds (omega (arith, (e.small (sym is)).1)))
+  texts_sent total book holds (suc (suc (suc (suc (suc (suc (suc (suc (suc (suc k))))))))), inside, is) = absurd (omega (arith, inside))
+
+  text_run : TextsAreExact → (begins after : Image) (at : ℕ) → BeginsOn begins old → IsLeftAt old new at after
+      → IsRun (page_count old.size) (run_of runs begins input sent code old new at after)
+  text_run law begins after at b is total book recovers =
+      let count = page_count old.size in
+      let holds = begun_holds count total book begins old b recovers in
+      let there = (e.crash total book holds).here at after is.0 is.1.0 is.1.1 in
+      let run = run_of runs begins input sent code old new at after in
+      let exact = law total book run (book_pages count after) (sent_now old) (new.sent_by at) (texts_sent total book holds e.own)
+      there.ahead refl in
+      (exact.0, exact.1, record { readable = there.readable; within = there.within; old = there.old; stands = exact.2 })
+
+-- ---- a run that follows views
+
+live_run : LinesSayWhatIsRead → (old new : View) (input sent : List ℕ) (code : ℕ) → LeavesLived (page_count old.size) input old new
     → (begins after : Image) (at : ℕ) → BeginsOn begins old → IsLeftAt old new at after
-    → IsRun (page_count old.size) (run_of runs begins input sent code old new at after)
-text_run old new input sent code leaves begins after at b is total book recovers =
-    let count = page_count old.size in
-    let start = begun total book in
-    let there = (leaves total book (begun_holds count total book begins old b recovers)).here at after is.0 is.1.0 is.1.1 in
-    let a = there.ahead in
-    let first = told a.front in
-    let split = told_join input a.front a.rest a.begins in
-    (elim a.state as (λ _. (next : List Series) × Follows total book input next × RecoversTo count after total next) [
-      | inl here ↦ (
-        a.between.book,
-        record {
-          lines = first;
-          later = told a.rest;
-          split = split;
-          next_is = (books_follow first a.answers.frames start a.between a.answers.replied).0;
-        },
-        record { readable = there.readable; within = there.within; old = there.old; stands = here.0 },
-      )
-      | inr done ↦
-          let more = told done.next.front in
-          let all = replies_joined start a.between done.after first more a.answers.frames done.next.frames a.answers.replied
-          done.next.replied in (
-            done.after.book,
-            record {
-              lines = first ++ more;
-              later = told done.next.rest;
-              split = split ∙ ap (λ l. first ++ l) (told_join a.rest done.next.front done.next.rest done.next.begins)
-                  ∙ sym (append_assoc first more (told done.next.rest));
-              next_is = (books_follow (first ++ more) (a.answers.frames ++ done.next.frames) start done.after all).0;
-            },
-            record { readable = there.readable; within = there.within; old = there.old; stands = done.stands },
-          )
-    ])
+    → IsRun (page_count old.size) (run_of watches begins input sent code old new at after)
+live_run reads old new input sent code leaves begins after at b is total book recovers =
+    let a = (leaves total book (begun_holds (page_count old.size) total book begins old b recovers)).here at after is.0 is.1.0 is.1.1 in
+    let first = a.first in (
+      a.state.state.book,
+      record {
+        lines = told first.front;
+        later = told first.rest;
+        split = told_join input first.front first.rest first.begins;
+        requests = map said_by (told first.front);
+        said = reads (told first.front);
+        next_is = live_follows (begun_live total book) a.state (told first.front) (a.shown ++ a.more) first.lives;
+      },
+      a.there,
+    )
 
 -- ---- another change
 
@@ -180,38 +222,38 @@ change_run one command old new input sent code leaves begins after at b is total
 
 -- ---- any command
 
-command_run : ServingsAreExact → OneBook → (command : Command) (old new : View) (input was sent bytes : List ℕ) (faults : Faults)
+command_run : ServingsAreExact → TextsAreExact → LinesSayWhatIsRead → OneBook → (command : Command) (old new : View) (input was sent bytes : List ℕ) (faults : Faults)
     (code place : ℕ) → CommandEnds command old new (Some input) (Some bytes) (Some was) (Some (was ++ sent)) faults code place
     → (begins after : Image) (at : ℕ) → BeginsOn begins old → IsLeftAt old new at after
     → IsRun (page_count old.size) (run_of (task_of command) begins input sent code old new at after)
-command_run law one (Plot w h) old new input was sent bytes faults code place e = look_run old new input sent code e.crash
-command_run law one Draw old new input was sent bytes faults code place e = look_run old new input sent code e.crash
-command_run law one (Cover every) old new input was sent bytes faults code place e = look_run old new input sent code e.crash
-command_run law one Init old new input was sent bytes faults code place e = look_run old new input sent code e.crash
-command_run law one Check old new input was sent bytes faults code place e = look_run old new input sent code e.crash
-command_run law one ListSeries old new input was sent bytes faults code place e = look_run old new input sent code e.crash
-command_run law one (Export name window) old new input was sent bytes faults code place e = look_run old new input sent code e.crash
-command_run law one Derive old new input was sent bytes faults code place e = look_run old new input sent code e.crash
-command_run law one Serve old new input was sent bytes faults code place e = serve_run old new input was sent bytes faults code place e law
-command_run law one Run old new input was sent bytes faults code place e = text_run old new input sent code e.crash
-command_run law one (Load name) old new input was sent bytes faults code place e =
+command_run law texts reads one (Plot w h) old new input was sent bytes faults code place e = look_run old new input sent code e.crash
+command_run law texts reads one Draw old new input was sent bytes faults code place e = look_run old new input sent code e.crash
+command_run law texts reads one (Cover every) old new input was sent bytes faults code place e = look_run old new input sent code e.crash
+command_run law texts reads one Init old new input was sent bytes faults code place e = look_run old new input sent code e.crash
+command_run law texts reads one Check old new input was sent bytes faults code place e = look_run old new input sent code e.crash
+command_run law texts reads one ListSeries old new input was sent bytes faults code place e = look_run old new input sent code e.crash
+command_run law texts reads one (Export name window) old new input was sent bytes faults code place e = look_run old new input sent code e.crash
+command_run law texts reads one Derive old new input was sent bytes faults code place e = look_run old new input sent code e.crash
+command_run law texts reads one Serve old new input was sent bytes faults code place e = serve_run old new input was sent bytes faults code place e law
+command_run law texts reads one Run old new input was sent bytes faults code place e = text_run old new input was sent bytes faults code place e texts
+command_run law texts reads one (Load name) old new input was sent bytes faults code place e =
     change_run one (Load name) old new input sent code e.crash
-command_run law one (Demo seed rounds) old new input was sent bytes faults code place e =
+command_run law texts reads one (Demo seed rounds) old new input was sent bytes faults code place e =
     change_run one (Demo seed rounds) old new input sent code e.crash
-command_run law one Retain old new input was sent bytes faults code place e = change_run one Retain old new input sent code e.crash
-command_run law one Live old new input was sent bytes faults code place e = change_run one Live old new input sent code e.crash
+command_run law texts reads one Retain old new input was sent bytes faults code place e = change_run one Retain old new input sent code e.crash
+command_run law texts reads one Live old new input was sent bytes faults code place e = live_run reads old new input sent code e.crash
 
 -- where the input is told
-pub runs_made : ServingsAreExact → OneBook → (command : Command) (old new : View) (left left' before now : Option (List ℕ))
+pub runs_made : ServingsAreExact → TextsAreExact → LinesSayWhatIsRead → OneBook → (command : Command) (old new : View) (left left' before now : Option (List ℕ))
     (faults : Faults) (code place : ℕ) → CommandEnds command old new left left' before now faults code place
     → IfSome left (λ input. MakesRuns code left' command old new input before now)
-runs_made law one command old new None left' before now faults code place e = tt
-runs_made law one command old new (Some input) left' before now faults code place e =
+runs_made law texts reads one command old new None left' before now faults code place e = tt
+runs_made law texts reads one command old new (Some input) left' before now faults code place e =
     λ begins after at was sent bytes b is left_is before_is now_is.
     let L : Option (List ℕ) → Type 0 = λ l. CommandEnds command old new (Some input) l before now faults code place in
     let B : Option (List ℕ) → Type 0 = λ o. CommandEnds command old new (Some input) (Some bytes) o now faults code place in
     let N : Option (List ℕ) → Type 0 = λ o. CommandEnds command old new (Some input) (Some bytes) (Some was) o faults code place in
-    command_run law one command old new input was sent bytes faults code place (subst N now_is (subst B before_is (subst L left_is e)))
+    command_run law texts reads one command old new input was sent bytes faults code place (subst N now_is (subst B before_is (subst L left_is e)))
     begins after at b is
 
 -- ---- the first run

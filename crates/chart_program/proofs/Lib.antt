@@ -29,6 +29,7 @@ pub mod OneCommand
 pub mod DerivePage
 pub mod RetainPage
 pub mod LivePage
+pub mod ServePage
 pub mod StorePages
 pub mod StreamPages
 pub mod LoadPage
@@ -36,4 +37,5 @@ pub mod LoadEnds
 pub mod RetainEnds
 pub mod LiveEnds
 pub mod DeriveEnds
+pub mod LiveRuns
 pub mod ExactRuns

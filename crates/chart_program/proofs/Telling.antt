@@ -22,7 +22,7 @@ use Rattle.drawn_replies.specs.Mirrors.{Mirrors, OnlyLacksMemory}
 use Rattle.drawn_replies.specs.Pictures.{AcceptsAll, ArePictured}
 use Rattle.chart_program.specs.declared.run_end.RunEnd.{RunEnd}
 use Rattle.chart_program.specs.declared.run_end.RunEnd.TheVariants as run_end
-use Rattle.chart_program.specs.Texts.{text_of, texts_of}
+use Rattle.served_fronts.specs.Texts.{text_of, texts_of}
 use Rattle.chart_program.specs.Runs.{AreShown, AreShownFrom, ShowFails, EndsRunAt}
 use Rattle.chart_program.specs.Served.{AreTexts}
 

@@ -5,7 +5,7 @@ use Rattle.chart_grid.specs.Limits.{IsSide}
 use Rattle.program_words.specs.Words.{AreWordsOf, IsEvery}
 use Rattle.program_words.specs.declared.words.Command.{Command}
 use Rattle.program_words.specs.declared.words.Command.TheVariants.{Plot, Load, Demo, Draw, Init, Check, ListSeries, Export, Retain}
-use Rattle.program_words.specs.declared.words.Command.TheVariants.{Cover, Live, Derive}
+use Rattle.program_words.specs.declared.words.Command.TheVariants.{Cover, Live, Derive, Run, Serve}
 use Rattle.run_ends.specs.Statuses.{status_of}
 use Rattle.run_ends.specs.declared.ending.End.{End}
 use Rattle.run_ends.specs.declared.status.Status.{Status}
@@ -22,6 +22,8 @@ use Rattle.chart_program.specs.Live.{OfLive}
 use Rattle.chart_program.specs.Load.{OfLoad}
 use Rattle.chart_program.specs.Plot.{OfPlot}
 use Rattle.chart_program.specs.Retain.{OfRetain}
+use Rattle.chart_program.specs.Run.{OfRun}
+use Rattle.chart_program.specs.Serve.{OfServe}
 
 -- the operands of a command are in their ranges
 abbrev pub HasOperands : Command → Type 0
@@ -53,7 +55,8 @@ Does Retain c status = EndsSo status (OfRetain c)
 Does (Cover every) c status = EndsSo status (OfCover every c)
 Does Live c status = EndsSo status (OfLive c)
 Does Derive c status = EndsSo status (OfDerive c)
-Does command c status = ⊤
+Does Run c status = EndsSo status (OfRun c)
+Does Serve c status = EndsSo status (OfServe c)
 
 -- where the words are this command's, and there was memory to read them, its page is so of some end with the status
 abbrev pub ByPage : {Z W : Type 0} → List (String Z) → (W → View) → (W → Option (List ℕ)) → (W → Option (List ℕ)) → W → W → Status

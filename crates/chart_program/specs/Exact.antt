@@ -8,7 +8,7 @@ use Rattle.program_words.specs.declared.words.Command.TheVariants.{Check, ListSe
 use Rattle.served_fronts.specs.Fronts.{Draws}
 use Rattle.served_fronts.specs.Headline.{Task, IsRun}
 use Rattle.served_fronts.specs.Headline as headline
-use Rattle.served_fronts.specs.Headline.Task.{serves, runs, looks, changes}
+use Rattle.served_fronts.specs.Headline.Task.{serves, runs, watches, looks, changes}
 use Rattle.stored_book.specs.Standing.{RecoversTo}
 use Rattle.chart_program.specs.Lives.{BeginsOn, IsLeftAt}
 
@@ -19,7 +19,7 @@ task_of Run = runs
 task_of (Load name) = changes
 task_of (Demo seed rounds) = changes
 task_of Retain = changes
-task_of Live = changes
+task_of Live = watches
 task_of Check = looks
 task_of ListSeries = looks
 task_of (Export name window) = looks

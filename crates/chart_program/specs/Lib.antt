@@ -1,7 +1,6 @@
 pub mod Slots
 pub mod Reads
 pub mod Plotted
-pub mod Texts
 pub mod Runs
 pub mod Known
 pub mod Served

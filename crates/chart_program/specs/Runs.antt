@@ -19,7 +19,7 @@ use Rattle.chart_service.specs.declared.failure.ServeEnd.TheVariants.{ReadFault,
 use Rattle.zoom_session.specs.declared.session.Session.{Session}
 use Rattle.chart_program.specs.declared.run_end.RunEnd.{RunEnd}
 use Rattle.chart_program.specs.declared.run_end.RunEnd.TheVariants.{Serve, Show}
-use Rattle.chart_program.specs.Texts.{text_of}
+use Rattle.served_fronts.specs.Texts.{text_of}
 
 -- what showing may answer and leave, as a `Show` says it
 abbrev pub Gives : Type 0 → Type 1

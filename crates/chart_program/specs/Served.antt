@@ -23,7 +23,7 @@ use Rattle.chart_service.specs.Syncing.{SyncsLines}
 use Rattle.chart_service.specs.Serving.{AreSpelled, SendsText, SendsFrontOf, SendsTaken, SendsWithin, SendsSome, SendsLines}
 use Rattle.chart_service.specs.declared.failure.ServeEnd.{ServeEnd}
 use Rattle.chart_service.specs.declared.failure.ServeEnd.TheVariants as serve_end
-use Rattle.drawn_replies.specs.Pictures.{AcceptsAll, ArePictured}
+use Rattle.drawn_replies.specs.Pictures.{AcceptsAll}
 use Rattle.chart_program.specs.declared.lines_end.LinesEnd.{LinesEnd}
 use Rattle.chart_program.specs.declared.lines_end.LinesEnd.TheVariants as lines_end
 use Rattle.chart_program.specs.declared.run_end.RunEnd.{RunEnd}
@@ -33,7 +33,8 @@ use Rattle.stored_book.specs.Damage.{IsBadForRequest}
 use Rattle.store_commands.specs.Damaged.{IsDamagedLater}
 use Rattle.store_commands.specs.Books.{begun, OfBook, FromBook, HoldsAgain, Never}
 use Rattle.store_commands.specs.Traffic.{IsLong, WasRead}
-use Rattle.chart_program.specs.Texts.{texts_of}
+use Rattle.served_fronts.specs.Texts.{texts_of}
+pub use Rattle.served_fronts.specs.Texts.{AreTexts}
 use Rattle.run_ends.specs.Statuses.{block_of}
 
 -- what is said to lines by the frames that answer them from a state on
@@ -43,13 +44,6 @@ Says = State → List (Option (List ℕ)) → List Frame → List ℕ → Type 0
 -- the spellings of the frames
 abbrev pub Spelled : Says
 Spelled start = AreSpelled
-
--- The text of a run: that of each line's frame, with the picture of the book as it is at that line.
-pub record AreTexts (start : State) (lines : List (Option (List ℕ))) (frames : List Frame) (text : List ℕ) : Type 0 where
-  pub drawings : List (Option Canvas)
-  pub state : State
-  pub pictured : ArePictured start lines frames drawings state
-  pub texts : text ≡ texts_of frames drawings
 
 -- the lines of the whole input were answered so
 abbrev pub AnswersAll : Says → ℕ → View → View → List ℕ → Option (List ℕ) → Option (List ℕ) → Type 0

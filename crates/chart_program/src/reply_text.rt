@@ -3,7 +3,7 @@ ghost use Rattle.std.specs.Fmt.{decimal};
 ghost use Rattle.chart_service.specs.declared.failure.ServeEnd.TheVariants.{NoMemory};
 ghost use Rattle.chart_program.specs.declared.run_end.RunEnd.TheVariants.{Serve};
 ghost use Rattle.draw_command.specs.Covers.{picture_bytes};
-ghost use Rattle.chart_program.specs.Texts.{line_of, live_line, text_of};
+ghost use Rattle.served_fronts.specs.Texts.{line_of, live_line, text_of};
 
 use crate::run_end::RunEnd;
 use chart_client::Shown;
@@ -37,7 +37,7 @@ fn add_picture(alloc: Global, bitmap: &Option<Bitmap>, text: &mut Vec<u8>) -> Re
 }
 
 /// The line of a frame of so many bytes.
-#[tactic(auto, unfolding(crate::specs::Texts::line_of))]
+#[tactic(auto, unfolding(served_fronts::specs::Texts::line_of))]
 fn line_of(alloc: Global, frame: &Frame, sent: usize) -> Result<Vec<u8>, RunEnd>
     ensures line { IfOk result (λ text. text.items ≡ line_of frame.now sent) }
     ensures memory { IfErr result (λ end. end ≡ Serve NoMemory) }

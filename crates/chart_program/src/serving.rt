@@ -6,8 +6,12 @@ ghost use Rattle.store_commands.specs.Away.{TurnsAway};
 ghost use Rattle.run_ends.specs.Statuses.{status};
 ghost use Rattle.store_commands.specs.Status.{code_fault};
 ghost use Rattle.store_commands.specs.Traffic.{traffic};
+ghost use Rattle.chart_program.specs.Commands.{EndsSo};
 ghost use Rattle.chart_program.specs.CommandStatuses.{codes_of, IsBarredBy};
+ghost use Rattle.chart_program.specs.Course.{course};
 ghost use Rattle.chart_program.specs.Ended.{HasNumberedKey, client_status, serve_end_status, status_by};
+ghost use Rattle.chart_program.specs.Run.{OfRun};
+ghost use Rattle.chart_program.specs.Serve.{OfServe};
 ghost use Rattle.chart_program.specs.Served.{AreTexts, Spelled};
 ghost use Rattle.chart_program.specs.Traffic.{EndsInStatus};
 
@@ -25,6 +29,7 @@ use store_commands::opening_status;
 /// that ended.
 pub(crate) fn serve_status<W: World>(alloc: Global, world: W) -> (Status, W)
     ensures ends { EndsInStatus Spelled ⊥ (W.view world) (W.view result.1) (traffic W.left W.sent W.read_faults W.send_faults world result.1) result.0 }
+    ensures does { EndsSo result.0 (OfServe (course W.view W.left W.sent world result.1)) }
     ensures own { Contains (codes_of Serve) result.0.code }
     ensures away { TurnsAway (W.view world) (traffic W.left W.sent W.read_faults W.send_faults world result.1) result.0 }
     ensures bars { IsBarredBy (W.view world) (W.view result.1) (traffic W.left W.sent W.read_faults W.send_faults world result.1) result.0 }
@@ -38,6 +43,7 @@ pub(crate) fn serve_status<W: World>(alloc: Global, world: W) -> (Status, W)
 /// store of the world's disk, and says how that ended.
 pub(crate) fn run_status<W: World>(alloc: Global, world: W) -> (Status, W)
     ensures ends { EndsInStatus AreTexts (Unit {0}) (W.view world) (W.view result.1) (traffic W.left W.sent W.read_faults W.send_faults world result.1) result.0 }
+    ensures does { EndsSo result.0 (OfRun (course W.view W.left W.sent world result.1)) }
     ensures own { Contains (codes_of Run) result.0.code }
     ensures away { TurnsAway (W.view world) (traffic W.left W.sent W.read_faults W.send_faults world result.1) result.0 }
     ensures bars { IsBarredBy (W.view world) (W.view result.1) (traffic W.left W.sent W.read_faults W.send_faults world result.1) result.0 }

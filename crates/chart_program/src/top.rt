@@ -3,7 +3,7 @@ ghost use Rattle.block_disk.specs.Counts.{HasRisen};
 ghost use Rattle.block_disk.specs.View.{Honest};
 ghost use Rattle.chart_world.specs.Faults.{CountsFault};
 ghost use Rattle.program_words.specs.CommandLine.{plain_words};
-ghost use Rattle.program_words.specs.declared.words.Command.TheVariants.{Check, Cover, Demo, Derive, Draw, Export, Init, ListSeries, Live, Load, Plot, Retain};
+ghost use Rattle.program_words.specs.declared.words.Command.TheVariants.{Check, Cover, Demo, Derive, Draw, Export, Init, ListSeries, Live, Load, Plot, Retain, Run, Serve};
 ghost use Rattle.program_words.specs.Words.{AreCommand, AreWordsOf, ByCommand, Spells, IsWrong};
 ghost use Rattle.store_commands.specs.Status.{code_fault};
 ghost use Rattle.series_export.specs.declared.window.Window.{Window};
@@ -19,6 +19,8 @@ ghost use Rattle.chart_program.specs.ListSeries.{OfList};
 ghost use Rattle.chart_program.specs.Load.{OfLoad};
 ghost use Rattle.chart_program.specs.Plot.{OfPlot};
 ghost use Rattle.chart_program.specs.Retain.{OfRetain};
+ghost use Rattle.chart_program.specs.Run.{OfRun};
+ghost use Rattle.chart_program.specs.Serve.{OfServe};
 ghost use Rattle.chart_program.specs.CommandStatuses.{all_codes, codes_of, TakesNone, BarsBy};
 ghost use Rattle.chart_program.specs.Exact.{BeginsRuns, DrawsFronts, MakesRuns, drawing_codes};
 ghost use Rattle.chart_program.specs.Live.{OfLive};
@@ -39,7 +41,7 @@ use run_ends::codes::{
     WRONG_WORDS,
 };
 use run_ends::{End, Status, status_of};
-use served_fronts::laws::servings_are_exact;
+use served_fronts::laws::{lines_say_what_is_read, servings_are_exact, texts_are_exact};
 use std::alloc::Global;
 use stored_book::laws::{empty_stores_have_no_series, pages_stand_for_one_book};
 
@@ -134,6 +136,8 @@ pub fn chart<W: World>(alloc: Global, words: &[String], world: W) -> (Status, W)
     ensures plot { (w h : ℕ) → ByPage words.now W.view W.left W.sent world result.1 result.0 (Plot w h) (OfPlot w h) }
     ensures load { (name : List ℕ) → ByPage words.now W.view W.left W.sent world result.1 result.0 (Load name) (OfLoad name) }
     ensures demo { (seed rounds : ℕ) → ByPage words.now W.view W.left W.sent world result.1 result.0 (Demo seed rounds) (OfDemo seed rounds) }
+    ensures run { ByPage words.now W.view W.left W.sent world result.1 result.0 Run OfRun }
+    ensures serve { ByPage words.now W.view W.left W.sent world result.1 result.0 Serve OfServe }
     ensures draw { ByPage words.now W.view W.left W.sent world result.1 result.0 Draw OfDraw }
     ensures init { ByPage words.now W.view W.left W.sent world result.1 result.0 Init OfInit }
     ensures check { ByPage words.now W.view W.left W.sent world result.1 result.0 Check OfCheck }
@@ -152,6 +156,8 @@ pub fn chart<W: World>(alloc: Global, words: &[String], world: W) -> (Status, W)
     replies_are_accepted();
     own_replies_are_accepted();
     servings_are_exact();
+    texts_are_exact();
+    lines_say_what_is_read();
     empty_stores_have_no_series();
     pages_stand_for_one_book();
     match command_of(alloc, words) {

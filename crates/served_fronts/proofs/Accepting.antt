@@ -13,16 +13,16 @@ use Rattle.view_keys.specs.Laws.{NeededKeysAreFew}
 use Rattle.chart_frames.specs.declared.frame.Frame.{Frame}
 use Rattle.chart_service.specs.State.{State, IsSound}
 use Rattle.chart_service.specs.Serving.{RepliesToAll}
-use Rattle.chart_service.specs.Replies.{Replied, refused, cache_of}
+use Rattle.chart_service.specs.Replies.{Replied, refused as refusal_frame, cache_of}
 use Rattle.chart_service.specs.Alone.{only, alone, concerns, is_own, session_read, NeverCrowded}
 use Rattle.chart_service.specs.Laws.{SessionsStandAlone}
 use Rattle.chart_service.proofs.Standing.{alone_sound}
 use Rattle.drawn_replies.specs.Mirrors.{mirrored}
 use Rattle.drawn_replies.specs.Laws.{LinesAreAccepted, OwnRepliesDrawTheBook}
 use Rattle.drawn_replies.specs.Pictures.{AcceptsAll, NoneRejected, names}
-use Rattle.served_fronts.specs.Books.{Line}
-use Rattle.served_fronts.specs.Answers.{OpenSession, is_there, cant_open, Reply, FitsIn, FitsRequest, FitsRead, FitsLine, says_in}
-use Rattle.served_fronts.specs.Answers.Reply.{opened, closed, shown, no_picture}
+use Rattle.served_fronts.specs.Books.{Line, ok_of, said_by}
+use Rattle.served_fronts.specs.Answers.{OpenSession, is_there, cant_open, Reply, FitsIn, FitsRequest, FitsSaid, says_in}
+use Rattle.served_fronts.specs.Answers.Reply.{applied, opened, closed, shown, refused}
 use Rattle.served_fronts.proofs.Saying.{OneReading, open_in, line_said}
 
 not_both : (b : Bool) → b ≡ true → b ≡ false → ⊥
@@ -34,38 +34,39 @@ in_session : (book : List Series) (n m : ℕ) (Asks : OpenSession → ViewSpec �
     (o : Option OpenSession) (reply : Reply)
     → FitsIn book n Asks Cant o reply → says_in m reply ≡ true → (n == m) ≡ true
 in_session book n m Asks Cant None reply fits says = absurd (not_both (says_in m reply) says (ap (says_in m) fits))
+in_session book n m Asks Cant (Some s) applied fits says = absurd fits
 in_session book n m Asks Cant (Some s) (opened k cache) fits says = absurd fits
 in_session book n m Asks Cant (Some s) (closed k) fits says = absurd fits
 in_session book n m Asks Cant (Some s) (shown k view samples) fits says = ap (λ x. x == m) (sym fits.0) ∙ says
-in_session book n m Asks Cant (Some s) no_picture fits says = absurd (not_both false says refl)
+in_session book n m Asks Cant (Some s) refused fits says = absurd (not_both false says refl)
 
-by_request : (book : List Series) (sessions : List OpenSession) (m : ℕ) (r : Request) (reply : Reply) → FitsRequest book sessions r reply
+by_request : (total : ℕ) (book : List Series) (sessions : List OpenSession) (m : ℕ) (r : Request) (reply : Reply) → FitsRequest total book sessions r reply
     → says_in m reply ≡ true → is_own m (session_read (Ok r)) ≡ true
-by_request book sessions m (Edit edit) reply fits says = refl
-by_request book sessions m (Open n cache) reply fits says =
+by_request total book sessions m (Edit edit) reply fits says = refl
+by_request total book sessions m (Open n cache) reply fits says =
     (elim (cant_open n (cache_of cache) sessions) as
-    (λ b. reply ≡ (if b then no_picture else opened n (cache_of cache)) → (n == m) ≡ true) [
+    (λ b. reply ≡ (if b then refused else opened n (cache_of cache)) → (n == m) ≡ true) [
       | true ↦ λ is. absurd (not_both (says_in m reply) says (ap (says_in m) is))
       | false ↦ λ is. sym (ap (says_in m) is) ∙ says
     ]) fits
-by_request book sessions m (View n name w h t0 t1 word text) reply fits says = in_session book n m _ _ _ reply fits says
-by_request book sessions m (Zoom n t0 t1) reply fits says = in_session book n m _ _ _ reply fits says
-by_request book sessions m (Pan n by) reply fits says = in_session book n m _ _ _ reply fits says
-by_request book sessions m (Close n) reply fits says =
-    (elim (is_there n sessions) as (λ b. reply ≡ (if b then closed n else no_picture) → (n == m) ≡ true) [
+by_request total book sessions m (View n name w h t0 t1 word text) reply fits says = in_session book n m _ _ _ reply fits says
+by_request total book sessions m (Zoom n t0 t1) reply fits says = in_session book n m _ _ _ reply fits says
+by_request total book sessions m (Pan n by) reply fits says = in_session book n m _ _ _ reply fits says
+by_request total book sessions m (Close n) reply fits says =
+    (elim (is_there n sessions) as (λ b. reply ≡ (if b then closed n else refused) → (n == m) ≡ true) [
       | true ↦ λ is. sym (ap (says_in m) is) ∙ says
       | false ↦ λ is. absurd (not_both (says_in m reply) says (ap (says_in m) is))
     ]) fits
 
-by_read : (book : List Series) (sessions : List OpenSession) (m : ℕ) (r : Result Request ℕ) (reply : Reply) → FitsRead book sessions r reply
+by_read : (total : ℕ) (book : List Series) (sessions : List OpenSession) (m : ℕ) (r : Result Request ℕ) (reply : Reply) → FitsSaid total book sessions (ok_of r) reply
     → says_in m reply ≡ true → is_own m (session_read r) ≡ true
-by_read book sessions m (Err at) reply fits says = refl
-by_read book sessions m (Ok r) reply fits says = by_request book sessions m r reply fits says
+by_read total book sessions m (Err at) reply fits says = refl
+by_read total book sessions m (Ok r) reply fits says = by_request total book sessions m r reply fits says
 
-concerned : (book : List Series) (sessions : List OpenSession) (m : ℕ) (line : Line) (reply : Reply) → FitsLine book sessions line reply
+concerned : (total : ℕ) (book : List Series) (sessions : List OpenSession) (m : ℕ) (line : Line) (reply : Reply) → FitsSaid total book sessions (said_by line) reply
     → says_in m reply ≡ true → concerns m line ≡ true
-concerned book sessions m None reply fits says = refl
-concerned book sessions m (Some text) reply fits says = by_read book sessions m (read_line text) reply fits says
+concerned total book sessions m None reply fits says = refl
+concerned total book sessions m (Some text) reply fits says = by_read total book sessions m (read_line text) reply fits says
 
 -- ---- the next frame of the session
 
@@ -174,9 +175,9 @@ OwnAccepted =
 -- a frame of the session is no refusal
 never_crowded : (m : ℕ) (line : Line) (frame : Frame) (b : Bool) → names m frame ≡ true → NeverCrowded (if b then frame ∷ [] else [])
 never_crowded m line frame true named =
-    All-cons (λ f. f ≢ refused TooManySessions) frame [] (λ is. not_both (names m frame) named (ap (names m) is))
-    (All-nil (λ f. f ≢ refused TooManySessions))
-never_crowded m line frame false named = All-nil (λ f. f ≢ refused TooManySessions)
+    All-cons (λ f. f ≢ refusal_frame TooManySessions) frame [] (λ is. not_both (names m frame) named (ap (names m) is))
+    (All-nil (λ f. f ≢ refusal_frame TooManySessions))
+never_crowded m line frame false named = All-nil (λ f. f ≢ refusal_frame TooManySessions)
 
 pub own_accepted : OneReading → NeededKeysAreFew → SessionsStandAlone → OwnRepliesDrawTheBook → LinesAreAccepted → OwnAccepted
 own_accepted either bound stands draws accepts m lines frames old new sound none replied front behind frame ds h e is taken rejects =
@@ -185,7 +186,7 @@ own_accepted either bound stands draws accepts m lines frames old new sound none
     let mirrors = (draws m x.lines x.frames ds old x.mid [] h sound x.replied (ap (λ ss. map mirrored ss) (sym none))
     (subst A (sym x.own) taken)).1 in
     let said = line_said either bound x.line x.mid x.new frame x.next.0 in
-    let own = concerned x.mid.book (open_in x.mid) m x.line said.reply said.fits (sym (said.named m) ∙ x.named) in
+    let own = concerned x.mid.total x.mid.book (open_in x.mid) m x.line said.reply said.fits (sym (said.named m) ∙ x.named) in
     let never = never_crowded m x.line frame (concerns m x.line) x.named in
     let all = stands m (x.line ∷ []) (frame ∷ []) x.mid x.new (x.new, x.next, refl) never in
     let R : Bool → Type 0 = λ b. RepliesToAll (alone m x.mid) (if b then x.line ∷ [] else []) (if b then frame ∷ [] else [])

@@ -16,12 +16,12 @@ abbrev pub OneReply : Type 0
 OneReply = (line : Line) (frame other : Frame) (old new behind : State) → RepliesToLine line frame old new
     → RepliesToLine line other old behind → (frame ≡ other) × (new ≡ behind)
 
-take_zero : (n : ℕ) (xs ys : List ℕ) → n ≤ 0 → take n xs ≡ take n ys
+pub take_zero : (n : ℕ) (xs ys : List ℕ) → n ≤ 0 → take n xs ≡ take n ys
 take_zero zero xs ys low = refl
 take_zero (suc n) xs ys low = absurd (omega (arith, low))
 
 -- behind one text
-joined : (x a b : List ℕ) (n : ℕ) → (length x ≤ n → take (n - length x) a ≡ take (n - length x) b) → take n (x ++ a) ≡ take n (x ++ b)
+pub joined : (x a b : List ℕ) (n : ℕ) → (length x ≤ n → take (n - length x) a ≡ take (n - length x) b) → take n (x ++ a) ≡ take n (x ++ b)
 joined x a b n later = (elim (nat_le (length x) n) as (λ c. nat_le (length x) n ≡ c → take n (x ++ a) ≡ take n (x ++ b)) [
   | true ↦ λ test. let low = low_of (length x) n test in take_behind x a n low ∙ ap (λ l. x ++ l) (later low) ∙ sym (take_behind x b n low)
   | false ↦ λ test.

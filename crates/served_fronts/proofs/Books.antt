@@ -19,7 +19,7 @@ use Rattle.chart_service.specs.State.{State}
 use Rattle.chart_service.specs.Serving.{KeepsBook}
 use Rattle.chart_service.specs.Replies.{Edits, Opens, Closes, cache_of, AnswersBy, Views, ViewsSeries, ViewsId, RepliesToView}
 use Rattle.chart_service.specs.Replies.{RepliesByText, MovesLast, MovesIn, RepliesTo, RepliesToLine}
-use Rattle.served_fronts.specs.Books.{Line, or_same, after_request, after_line, after_lines}
+use Rattle.served_fronts.specs.Books.{Line, or_same, ok_of, after_request, after_line, after_lines}
 use Rattle.served_fronts.specs.Laws.{BooksFollowTheLines}
 
 same_state : (old new : State) → new ≡ old → KeepsBook old new
@@ -90,8 +90,8 @@ by_session : (old new : State) (frame : Frame) (o : Option Session) (number : �
 by_session old new frame None number window is = same_state old new is.state
 by_session old new frame (Some session) number window is = by_last old new frame session.last number window is
 
-by_request : (old new : State) (frame : Frame) (r : Result Request ℕ) → RepliesTo r frame old new
-    → (new.book ≡ after_request old.total old.book r) × (new.total ≡ old.total)
+pub by_request : (old new : State) (frame : Frame) (r : Result Request ℕ) → RepliesTo r frame old new
+    → (new.book ≡ after_request old.total old.book (ok_of r)) × (new.total ≡ old.total)
 by_request old new frame (Err at) is = same_state old new is.state
 by_request old new frame (Ok (Edit edit)) is = by_edit old new frame (apply old.book old.total edit) is
 by_request old new frame (Ok (Open number cache)) is = by_open old new frame (open_refusal old.sessions number (cache_of cache)) number

@@ -1,8 +1,8 @@
 -- The example worked through.
 use Rattle.std.proofs.Common.{◌≡◌, ℕ, ℤ, pos, suc, ◌-◌, ◌≤◌, ◌^◌, true, false, List, [], ◌∷◌, ◌++◌, length}
 use Rattle.std.proofs.Common.{take, Option, None, Some, Result, Ok, Err, slice_get}
-use Rattle.std.proofs.Common.{refl, sym, ap, subst, ◌∙◌, arith, inl, inr, length-append}
-use Rattle.std.specs.Prelude.{◌⊎◌, nat_le, if◌then◌else◌, codes}
+use Rattle.std.proofs.Common.{refl, sym, ap, subst, ◌∙◌, arith, inl, inr, append-nil, length-append}
+use Rattle.std.specs.Prelude.{◌⊎◌, map, nat_le, if◌then◌else◌, codes}
 use Rattle.std.proofs.lemmas.Bool.{le-ltb}
 use Rattle.block_disk.specs.Streams.{sent_after}
 use Rattle.gate_pages.specs.Journal.{page_count}
@@ -24,15 +24,17 @@ use Rattle.query_rewriter.specs.Kept.{passes}
 use Rattle.std.specs.List.{filter}
 use Rattle.chart_service.specs.Serving.{told}
 use Rattle.chart_service.specs.Viewing.{kept_by, ShowsRange}
-use Rattle.served_fronts.specs.Books.{Line, after_line, after_lines, after_request, or_same}
+use Rattle.served_fronts.specs.Books.{Line, ok_of, said_by, after_line, after_lines, after_request, after_requests, or_same}
 use Rattle.served_fronts.specs.Fronts.{Draws}
-use Rattle.served_fronts.specs.Answers.{Answer, AreAnswers, ArePictures, FitsRead, FitsLine}
+use Rattle.served_fronts.specs.Answers.{Answer, AreAnswers, ArePictures, FitsSaid}
 use Rattle.served_fronts.specs.Answers.{FitsIn, CantShow, HasPicture, IsAsked, IsPicture, Keeps}
-use Rattle.served_fronts.specs.Answers.{OpenSession, Reply, opened, closed, shown, no_picture, after_reply, bytes_of, whole_in}
+use Rattle.served_fronts.specs.Answers.{OpenSession, Reply, applied, opened, closed, shown, refused, after_reply, bytes_of, whole_in, AreFrames}
 use Rattle.served_fronts.specs.Laws.{ChartsHaveOnePicture}
 use Rattle.served_fronts.specs.Headline.{Task, Run, Says, LeavesBook, IsExact, AreExact, ChartsAreExact}
 use Rattle.served_fronts.specs.Example.{first_input, second_input, book_with, bitmap, TheExampleIsDrawn}
 use Rattle.served_fronts.proofs.Fronts.{high_of}
+use Rattle.served_fronts.proofs.Reading.{Spelling, all_said, said_many}
+use Rattle.served_fronts.proofs.Texting.{answers_many}
 use Rattle.served_fronts.proofs.ExampleLines.{first_lines, second_lines, read_open, read_create, read_append, read_one, read_view}
 use Rattle.served_fronts.proofs.ExampleChart.{canvas, its_bytes, two_samples, kept_two, kept_three, chart}
 
@@ -43,13 +45,13 @@ empty = record { name = codes "A"; start = pos 0; step = 4; scale = 0; slots = [
 
 after_create : (total : ℕ) → after_line total [] (Some (codes "create A 0 4 0")) ≡ empty
 unfolding created id_of
-after_create total = ap (after_request total []) read_create
+after_create total = ap (λ q. after_request total [] (ok_of q)) read_create
 
 after_append : (total : ℕ) → 62 ≤ total → after_line total empty (Some (codes "append A 0 3")) ≡ book_with []
 unfolding ends_in_time id_of appended fitted pages_of series_pages page_levels first_covering level_pages ranges_with_value
     range_has_value count_below
 after_append total large =
-    ap (after_request total empty) read_append
+    ap (λ q. after_request total empty (ok_of q)) read_append
     ∙ ap (λ full. or_same empty (if full then Err (Full 18 total) else Ok (record { book = book_with []; slots = 2 })))
     (le-ltb total 18 (omega (arith, large)))
 
@@ -57,17 +59,9 @@ after_one : (total : ℕ) → 62 ≤ total → after_line total (book_with []) (
 unfolding ends_in_time id_of appended fitted pages_of series_pages page_levels first_covering level_pages ranges_with_value
     range_has_value count_below
 after_one total large =
-    ap (after_request total (book_with [])) read_one
+    ap (λ q. after_request total (book_with []) (ok_of q)) read_one
     ∙ ap (λ full. or_same (book_with []) (if full then Err (Full 18 total)
     else Ok (record { book = book_with (Some (pos 1) ∷ []); slots = 3 }))) (le-ltb total 18 (omega (arith, large)))
-
-as_many : (total : ℕ) (book : List Series) (sessions : List OpenSession) (lines : List Line) (answers : List Answer)
-    → AreAnswers total book sessions lines answers → length answers ≡ length lines
-as_many total book sessions [] [] fit = refl
-as_many total book sessions [] (a ∷ l) fit = absurd fit
-as_many total book sessions (x ∷ xs) [] fit = absurd fit
-as_many total book sessions (x ∷ xs) (a ∷ l) fit =
-    ap suc (as_many total (after_line total book x) (after_reply sessions a.reply) xs l fit.2)
 
 few_whole : (n : ℕ) (answers : List Answer) → length (whole_in n answers) ≤ length answers
 few_whole n [] = omega arith
@@ -99,18 +93,19 @@ book_after total lines large (inr is) =
     let second = ap (λ b. after_line total b (Some (codes "append A 0 3"))) (after_create total) ∙ after_append total large in
     inr (ap (after_lines total []) is ∙ ap (λ b. after_line total b (Some (codes "append A 1"))) second ∙ after_one total large)
 
-held_by : (total : ℕ) (first : Run) (book : List Series) → 62 ≤ total → first.input ≡ first_input
+held_by : Spelling → (total : ℕ) (first : Run) (book : List Series) → 62 ≤ total → first.input ≡ first_input
     → (leaves : LeavesBook total [] first book)
     → 2 ≤ length (whole_in first.by_then leaves.answers) → MayHold book
-held_by total first book large input leaves many =
-    let size = as_many total [] [] leaves.lines leaves.answers leaves.first.fit in
+held_by law total first book large input leaves many =
+    let lines = leaves.first.lines in
+    let size = answers_many total [] [] leaves.requests leaves.answers leaves.first.fit ∙ said_many lines leaves.requests leaves.first.said in
     let low = few_whole first.by_then leaves.answers in
     let split = sym first_lines ∙ ap told (sym input) ∙ leaves.first.split in
-    let some : 2 ≤ length leaves.lines = omega (arith, many, size, low) in
-    let after = book_after total leaves.lines large (two_or_three (Some (codes "create A 0 4 0")) (Some (codes "append A 0 3"))
+    let some : 2 ≤ length lines = omega (arith, many, size, low) in
+    let after = book_after total lines large (two_or_three (Some (codes "create A 0 4 0")) (Some (codes "append A 0 3"))
     (Some (codes "append A 1"))
-    leaves.lines leaves.first.later split some) in
-    subst MayHold (sym leaves.next_is) after
+    lines leaves.first.later split some) in
+    subst MayHold (sym (leaves.next_is ∙ ap (after_requests total []) (all_said law lines leaves.requests leaves.first.said))) after
 
 -- ---- the answers of the second run
 
@@ -153,11 +148,12 @@ shows_it : (values : List (Option ℤ)) (reply : Reply)
     → FitsIn (book_with values) 1 (λ s view. Asks values view) (λ s. CantShow (book_with values) (codes "A") 8 4 (pos 0) (pos 8)
     (Fixed (pos 0) (pos 3)) None s) (Some session) reply
     → ShowsIt values reply
+shows_it values applied fit = absurd fit
 shows_it values (opened m cache) fit = absurd fit
 shows_it values (closed m) fit = absurd fit
 shows_it values (shown m view samples) fit =
     record { number = m; view = view; samples = samples; is = refl; asked = fit.1; keeps = fit.2 }
-shows_it values no_picture fit = absurd (can_show values fit)
+shows_it values refused fit = absurd (can_show values fit)
 
 -- the answers open the session and show the view
 record AreShown (values : List (Option ℤ)) (answers : List Answer) : Type 0 where
@@ -167,13 +163,15 @@ record AreShown (values : List (Option ℤ)) (answers : List Answer) : Type 0 wh
   open_is : opening.reply ≡ opened 1 65536
   shows : ShowsIt values showing.reply
 
-fit_behind : (total : ℕ) (book : List Series) (sessions : List OpenSession) (x : Line) (xs : List Line) (a : Answer) (l : List Answer)
-    → AreAnswers total book sessions (x ∷ xs) (a ∷ l) → AreAnswers total (after_line total book x) (after_reply sessions a.reply) xs l
-fit_behind total book sessions x xs a l fit = fit.2
+fit_behind : (total : ℕ) (book : List Series) (sessions : List OpenSession) (x : Option Request) (xs : List (Option Request)) (a : Answer)
+    (l : List Answer)
+    → AreAnswers total book sessions (x ∷ xs) (a ∷ l) → AreAnswers total (after_request total book x) (after_reply sessions a.reply) xs l
+fit_behind total book sessions x xs a l fit = fit.1
 
-fit_here : (total : ℕ) (book : List Series) (sessions : List OpenSession) (x : Line) (xs : List Line) (a : Answer) (l : List Answer)
-    → AreAnswers total book sessions (x ∷ xs) (a ∷ l) → FitsLine book sessions x a.reply
-fit_here total book sessions x xs a l fit = fit.1
+fit_here : (total : ℕ) (book : List Series) (sessions : List OpenSession) (x : Option Request) (xs : List (Option Request)) (a : Answer)
+    (l : List Answer)
+    → AreAnswers total book sessions (x ∷ xs) (a ∷ l) → FitsSaid total book sessions x a.reply
+fit_here total book sessions x xs a l fit = fit.0
 
 abbrev open_line : Line
 open_line = Some (codes "open 1")
@@ -181,25 +179,31 @@ open_line = Some (codes "open 1")
 abbrev view_line : Line
 view_line = Some (codes "view 1 A 8 4 0 8 0..3")
 
+abbrev opening : Option Request
+opening = said_by open_line
+
+abbrev viewing : Option Request
+viewing = said_by view_line
+
 are_shown : (total : ℕ) (values : List (Option ℤ)) (answers : List Answer)
-    → AreAnswers total (book_with values) [] (open_line ∷ view_line ∷ []) answers → AreShown values answers
+    → AreAnswers total (book_with values) [] (opening ∷ viewing ∷ []) answers → AreShown values answers
 are_shown total values [] fit = absurd fit
-are_shown total values (a ∷ []) fit = absurd (fit_behind total (book_with values) [] open_line (view_line ∷ []) a [] fit)
+are_shown total values (a ∷ []) fit = absurd (fit_behind total (book_with values) [] opening (viewing ∷ []) a [] fit)
 are_shown total values (a ∷ b ∷ []) fit =
     let book = book_with values in
-    let R : Result Request ℕ → Type 0 = λ q. FitsRead book [] q a.reply in
-    let is : a.reply ≡ opened 1 65536 = subst R read_open (fit_here total book [] open_line (view_line ∷ []) a (b ∷ []) fit) in
-    let F : Result Request ℕ → Type 0 = λ q. FitsLine (after_request total book q) (after_reply [] a.reply) view_line b.reply in
-    let G : Reply → Type 0 = λ r. FitsLine book (after_reply [] r) view_line b.reply in
-    let H : Result Request ℕ → Type 0 = λ q. FitsRead book (session ∷ []) q b.reply in
-    let behind = fit_behind total book [] open_line (view_line ∷ []) a (b ∷ []) fit in
-    let here = fit_here total (after_line total book open_line) (after_reply [] a.reply) view_line [] b [] behind in
+    let R : Result Request ℕ → Type 0 = λ q. FitsSaid total book [] (ok_of q) a.reply in
+    let is : a.reply ≡ opened 1 65536 = subst R read_open (fit_here total book [] opening (viewing ∷ []) a (b ∷ []) fit) in
+    let F : Result Request ℕ → Type 0 = λ q. FitsSaid total (after_request total book (ok_of q)) (after_reply [] a.reply) viewing b.reply in
+    let G : Reply → Type 0 = λ r. FitsSaid total book (after_reply [] r) viewing b.reply in
+    let H : Result Request ℕ → Type 0 = λ q. FitsSaid total book (session ∷ []) (ok_of q) b.reply in
+    let behind = fit_behind total book [] opening (viewing ∷ []) a (b ∷ []) fit in
+    let here = fit_here total (after_request total book opening) (after_reply [] a.reply) viewing [] b [] behind in
     let fits = subst H read_view (subst G is (subst F read_open here)) in
     record { opening = a; showing = b; are = refl; open_is = is; shows = shows_it values b.reply fits }
 are_shown total values (a ∷ b ∷ c ∷ l) fit =
     let book = book_with values in
-    let behind = fit_behind total book [] open_line (view_line ∷ []) a (b ∷ c ∷ l) fit in
-    absurd (fit_behind total (after_line total book open_line) (after_reply [] a.reply) view_line [] b (c ∷ l) behind)
+    let behind = fit_behind total book [] opening (viewing ∷ []) a (b ∷ c ∷ l) fit in
+    absurd (fit_behind total (after_request total book opening) (after_reply [] a.reply) viewing [] b (c ∷ l) behind)
 
 -- ---- the picture
 
@@ -260,7 +264,7 @@ nothing_behind : (xs : List ℕ) → xs ++ [] ≡ xs
 nothing_behind [] = refl
 nothing_behind (x ∷ xs) = ap (λ l. x ∷ l) (nothing_behind xs)
 
-module _ (one : ChartsHaveOnePicture) where
+module _ (law : Spelling) (one : ChartsHaveOnePicture) where
   its_picture : (view : ViewSpec) (samples : List Sample) (bytes : List ℕ) (values : List (Option ℤ)) → Asks values view
       → samples ≡ two_samples
       → IsPicture view samples bytes → bytes ≡ bitmap
@@ -285,39 +289,41 @@ module _ (one : ChartsHaveOnePicture) where
       p.4 ∙ ap (λ l. l ++ p.1) none ∙ q.4 ∙ ap (λ l. q.0 ++ l) q.3 ∙ nothing_behind q.0 ∙ drawn
 
   drawn_over : (total : ℕ) (values : List (Option ℤ)) (second : Run) (left before now : Option (List ℕ)) → KeepsTwo values
-      → second.input ≡ second_input → Says total (book_with values) second → second.status ≡ 0 → length second.sent ≤ 2 ^ 32
+      → second.input ≡ second_input → Says AreFrames total (book_with values) second → second.status ≡ 0 → length second.sent ≤ 2 ^ 32
       → Draws second.sent left before now → now ≡ sent_after bitmap before
   drawn_over total values second left before now two input says status small draws =
       let answers = says.answers in
       let all = says.all status in
-      let lines = all.0 ∙ ap told input ∙ second_lines in
-      let L : List Line → Type 0 = λ l. AreAnswers total (book_with values) [] l answers in
-      let is = are_shown total values answers (subst L lines says.first.fit) in
+      let front = says.first.lines in
+      let lines = sym (append-nil front) ∙ ap (λ l. front ++ l) (sym all.0) ∙ sym says.first.split ∙ ap told input ∙ second_lines in
+      let L : List (Option Request) → Type 0 = λ l. AreAnswers total (book_with values) [] l answers in
+      let requests = all_said law front says.requests says.first.said ∙ ap (map said_by) lines in
+      let is = are_shown total values answers (subst L requests says.first.fit) in
       let bytes : bytes_of answers ≡ second.sent = says.bytes ∙ ap (λ l. second.sent ++ l) all.1 ∙ nothing_behind second.sent in
       let n = length (bytes_of answers) in
       let D : List ℕ → Type 0 = λ l. Draws l left before now in
-      let sends = says.first.drawn answers n left before now (inl refl) (omega (arith, small, ap length bytes))
+      let sends = says.are.drawn answers n left before now (inl refl) (omega (arith, small, ap length bytes))
       (subst D (sym (taken_all (bytes_of answers) ∙ bytes)) draws) in
       let W : List Answer → Type 0 = λ l. ArePictures l sends.pictures in
       let are = subst W (whole_all n answers (omega arith)) sends.are in
       sends.sent ∙ ap (λ l. sent_after l before) (pictures values answers sends.pictures two is are)
 
   drawn_of : (total : ℕ) (book : List Series) (second : Run) (left before now : Option (List ℕ)) → MayHold book
-      → second.input ≡ second_input → Says total book second → second.status ≡ 0 → length second.sent ≤ 2 ^ 32
+      → second.input ≡ second_input → Says AreFrames total book second → second.status ≡ 0 → length second.sent ≤ 2 ^ 32
       → Draws second.sent left before now → now ≡ sent_after bitmap before
   drawn_of total book second left before now (inl is) input says status small draws =
-      let B : List Series → Type 0 = λ b. Says total b second in
+      let B : List Series → Type 0 = λ b. Says AreFrames total b second in
       drawn_over total [] second left before now keeps_without input (subst B is says) status small draws
   drawn_of total book second left before now (inr is) input says status small draws =
-      let B : List Series → Type 0 = λ b. Says total b second in
+      let B : List Series → Type 0 = λ b. Says AreFrames total b second in
       drawn_over total (Some (pos 1) ∷ []) second left before now keeps_with input (subst B is says) status small draws
 
 exact_behind : (total : ℕ) (book : List Series) (run : Run) (later : List Run) → (steps : AreExact total book (run ∷ later))
     → AreExact total steps.0 later
 exact_behind total book run later steps = steps.2
 
-pub worked : ChartsAreExact → ChartsHaveOnePicture → TheExampleIsDrawn
-worked exact one size image first second large recovers are serves_first input_first serves_second input_second =
+pub worked : Spelling → ChartsAreExact → ChartsHaveOnePicture → TheExampleIsDrawn
+worked law exact one size image first second large recovers are serves_first input_first serves_second input_second =
     let total = page_count size in
     let steps = exact total total [] image (first ∷ second ∷ []) recovers are in
     let E : Task → Type 0 = λ t. IsExact t total [] first steps.0 in
@@ -325,11 +331,11 @@ worked exact one size image first second large recovers are serves_first input_f
     let F : Task → Type 0 = λ t. IsExact t total steps.0 second behind.0 in
     let leaves = (subst E serves_first steps.1).1 in
     let says = (subst F serves_second behind.1).0 in
-    let held = held_by total first steps.0 (omega (arith, large)) input_first leaves in
+    let held = held_by law total first steps.0 (omega (arith, large)) input_first leaves in
     record {
       book = steps.0;
       leaves = leaves;
       held = held;
       drawn = λ many status small left before now draws.
-          drawn_of one total steps.0 second left before now (held many) input_second says status small draws;
+          drawn_of law one total steps.0 second left before now (held many) input_second says status small draws;
     }

@@ -15,7 +15,7 @@ use Rattle.chart_service.specs.State.{State, IsSound}
 use Rattle.chart_service.specs.Serving.{told, RepliesToAll, AreSpelled}
 use Rattle.chart_service.specs.Moments.{IsAhead, DoesNext}
 use Rattle.chart_service.specs.Telling.{replies_joined}
-use Rattle.served_fronts.specs.Books.{Line, after_lines}
+use Rattle.served_fronts.specs.Books.{Line, said_by, after_lines}
 use Rattle.served_fronts.specs.Fronts.{whole_frames}
 use Rattle.served_fronts.specs.Answers.{Answer, AreAnswers, bytes_of, whole_in}
 use Rattle.served_fronts.specs.Crashes.{KeepsLines}
@@ -122,7 +122,7 @@ keeps : OneReply → LinesAreAnswered → (image : Image) (total : ℕ) (old : S
 keeps one answered image total old input n sound alone same d =
     let frames = d.acknowledged ++ d.ahead in
     let has = answered d.first frames old d.new sound alone d.replied in
-    let A : ℕ → Type 0 = λ t. AreAnswers t old.book [] d.first has.answers in
+    let A : ℕ → Type 0 = λ t. AreAnswers t old.book [] (map said_by d.first) has.answers in
     let book = (books_follow d.first frames old d.new d.replied).0 in
     let B : List Series → Type 0 = λ b. StandsForBook image total b in
     let most = all_whole n d.acknowledged d.ahead d.sent in
@@ -150,7 +150,7 @@ keeps one answered image total old input n sound alone same d =
         length-append d.acknowledged d.ahead,
       );
       stands = subst B (book ∙ ap (λ t. after_lines t old.book d.first) same) d.stands;
-      drawn = has.drawn;
+      are = has.are;
     }
 
 -- the first lines are done, and all their bytes were sent

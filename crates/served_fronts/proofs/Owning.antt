@@ -16,7 +16,7 @@ use Rattle.chart_service.specs.Replies.{RepliesToLine}
 use Rattle.chart_service.specs.Alone.{only}
 use Rattle.drawn_replies.specs.Pictures.{AreOwnPictured, IsOwnPicture, names}
 use Rattle.draw_command.specs.Covers.{picture_bytes}
-use Rattle.served_fronts.specs.Books.{Line}
+use Rattle.served_fronts.specs.Books.{Line, said_by}
 use Rattle.served_fronts.specs.Fronts.{whole_frames, Draws}
 use Rattle.served_fronts.specs.Answers.{OpenSession, Answer, AreAnswers, bytes_of, whole_in, ArePictures, says_in, said_in, SendsPictures}
 use Rattle.served_fronts.specs.Answers.{FrontsAreDrawn}
@@ -25,7 +25,7 @@ use Rattle.served_fronts.specs.Answers.Reply.{opened}
 use Rattle.served_fronts.proofs.Agreeing.{OneReply}
 use Rattle.served_fronts.proofs.Fronts.{Told}
 use Rattle.served_fronts.proofs.Saying.{OneReading, seen, line_said}
-use Rattle.served_fronts.proofs.Showing.{answers_of, spelled, each, fit, drawn as drawn_all}
+use Rattle.served_fronts.proofs.Showing.{answers_of, spelled, each, frames_are, fit, drawn as drawn_all}
 
 some_frame : {A : Type 0} (x : A) (xs : List A) → x ∷ xs ≡ [] → ⊥
 some_frame x xs is = cc
@@ -226,10 +226,13 @@ module _ (either : OneReading) (bound : NeededKeysAreFew) (told : Told) (one : O
 
   pub answered : DrawnFrontsAreTheBook → DrawnOwnFrontsAreTheBook → LinesAreAnswered
   answered draws own_draws lines frames old new sound alone replied =
-      let O : List OpenSession → Type 0 = λ o. AreAnswers old.total old.book o lines (all_of lines frames old new replied) in
+      let O : List OpenSession → Type 0 = λ o. AreAnswers old.total old.book o (map said_by lines) (all_of lines frames old new replied) in
       record {
         answers = all_of lines frames old new replied;
         fit = subst O (ap (λ ss. map seen ss) alone) (fit either bound told one lines frames old new replied);
         spelled = each either bound told one lines frames old new replied;
-        drawn = reached lines frames old new replied sound draws own_draws alone;
+        are = record {
+          each = frames_are either bound told one lines frames old new replied;
+          drawn = reached lines frames old new replied sound draws own_draws alone;
+        };
       }

@@ -1,5 +1,5 @@
 -- What is said to a line, by its reply.
-use Rattle.std.specs.Prelude.{slice_get, ◌+ℤ◌, ◌||◌, nat_le, nat_lt, is_some, if◌then◌else◌, filter}
+use Rattle.std.specs.Prelude.{slice_get, ◌+ℤ◌, ◌||◌, nat_le, nat_lt, is_some, if◌then◌else◌, drop, filter}
 use Rattle.std.specs.Option.{option_map}
 use Rattle.std.proofs.Common.{◌≡◌, ℕ, ℤ, suc, ◌+◌, ◌*◌, ◌<◌, ◌≤◌, inl, inr, Bool, true, false, ◌==◌, List, [], ◌∷◌, length, map}
 use Rattle.std.proofs.Common.{Option, None, Some, Result, Ok, Err, refl, ap, sym, subst, ◌∙◌, arith}
@@ -9,6 +9,7 @@ use Rattle.series_book.specs.declared.one_series.Series.{Series}
 use Rattle.series_book.specs.declared.refusals.Refusal.{Refusal}
 use Rattle.series_book.specs.declared.refusals.Refusal.TheVariants.{SessionOpen, TooManySessions, BadCache}
 use Rattle.series_book.specs.Edits.{Edited, apply, id_of}
+use Rattle.series_book.specs.Refusals.{number_of, pair_of}
 use Rattle.request_lines.specs.declared.requests.Request.{Request}
 use Rattle.request_lines.specs.declared.requests.Request.TheVariants.{Edit, Open, View, Zoom, Pan, Close}
 use Rattle.request_lines.specs.declared.ranges.RangeWord.{RangeWord}
@@ -40,6 +41,10 @@ use Rattle.line_raster.specs.Canvas.{Canvas}
 use Rattle.chart_frames.specs.declared.frame.Frame.{Frame}
 use Rattle.chart_frames.specs.declared.frame.Frame.TheVariants as frame
 use Rattle.chart_frames.specs.declared.frame.RowsFrame.{RowsFrame}
+use Rattle.chart_frames.specs.declared.frame.ViewFrame.{ViewFrame}
+use Rattle.chart_frames.specs.Format.{number_in}
+use Rattle.chart_frames.specs.Frames.{spelling}
+use Rattle.served_fronts.proofs.FrameKinds.{kind_at, view_kind, rows_kind}
 use Rattle.chart_service.specs.State.{State}
 use Rattle.chart_service.specs.Viewing.{axis_of, kept_by, range_spec, view_frame, rows_frame, ShowsRange, Answers, AnswersRows}
 use Rattle.chart_service.specs.Replies.{Refuses, Edits, Opens, Closes, cache_of, NeedsTooMany, AnswersBy, Views, ViewsSeries, ViewsId}
@@ -47,11 +52,11 @@ use Rattle.chart_service.specs.Replies.{RepliesToView, RepliesByText, MovesLast,
 use Rattle.drawn_replies.specs.Mirrors.{IsPictureOf}
 use Rattle.drawn_replies.specs.Pictures.{names}
 use Rattle.draw_command.specs.Covers.{picture_bytes}
-use Rattle.served_fronts.specs.Books.{Line}
+use Rattle.served_fronts.specs.Books.{Line, ok_of, said_by}
 use Rattle.served_fronts.specs.Answers.{OpenSession, session_at, is_there, cant_open, without, with_view, Reply, after_reply, Keeps}
-use Rattle.served_fronts.specs.Answers.Reply.{opened, closed, shown, no_picture}
+use Rattle.served_fronts.specs.Answers.Reply.{applied, opened, closed, shown, refused}
 use Rattle.served_fronts.specs.Answers.{HasFilter, IsBadFilter, MayLack, IsAsked, CantShow, IsMoved, CantMove}
-use Rattle.served_fronts.specs.Answers.{FitsIn, FitsRequest, FitsRead, FitsLine, IsPicture, HasPicture, says_in}
+use Rattle.served_fronts.specs.Answers.{FitsIn, reply_of, FitsRequest, FitsSaid, kind_of, IsPicture, HasPicture, says_in}
 
 some_one : {A : Type 0} (a b : A) (o : Option A) → o ≡ Some a → o ≡ Some b → a ≡ b
 some_one a b o is other = cc
@@ -148,8 +153,11 @@ cant_seen n cache ss =
 
 -- ---- one line
 
-not_no : (m cache : ℕ) → no_picture ≡ opened m cache → ⊥
+not_no : (m cache : ℕ) → refused ≡ opened m cache → ⊥
 not_no m cache is = cc
+
+not_applied : (m cache : ℕ) → applied ≡ opened m cache → ⊥
+not_applied m cache is = cc
 
 not_closed : (n m cache : ℕ) → closed n ≡ opened m cache → ⊥
 not_closed n m cache is = cc
@@ -164,22 +172,52 @@ not_there : (a : Bool) (rest : Option Refusal) → (if a then Some SessionOpen e
 not_there true rest is = absurd (some_none SessionOpen (Some SessionOpen) refl is)
 not_there false rest is = refl
 
+-- the frame shows a view of this session, by coefficients or, with a filter, by rows
+abbrev pub Shows : ℕ → Bool → Frame → Type 0
+Shows n false f = (view : ViewFrame) × (f ≡ frame.View view) × (view.session ≡ n)
+Shows n true f = (rows : RowsFrame) × (f ≡ frame.Rows rows) × (rows.session ≡ n)
+
+-- the frame of a reply
+abbrev pub Tells : Reply → Frame → Type 0
+Tells applied f = (slots : ℕ) × (f ≡ frame.Done slots)
+Tells (opened n cache) f = f ≡ frame.Opened n cache
+Tells (closed n) f = f ≡ frame.Closed n
+Tells (shown n view samples) f = Shows n (is_some view.filter) f
+Tells refused f = (number : ℕ) × (a : ℕ) × (b : ℕ) × (f ≡ frame.Refused number a b)
+
+abbrev kind_in : Frame → ℕ
+kind_in f = number_in 1 (drop 4 (spelling f))
+
+shown_kind : (n : ℕ) (o : Option (List Step)) (f : Frame) → Shows n (is_some o) f → kind_in f ≡ (if is_some o then 6 else 5)
+shown_kind n None f is = ap kind_in is.1 ∙ view_kind is.0
+shown_kind n (Some steps) f is = ap kind_in is.1 ∙ rows_kind is.0
+
+-- behind its length it has the kind of the reply
+pub told_kind : (reply : Reply) (f : Frame) → Tells reply f → kind_in f ≡ kind_of reply
+told_kind applied f is = ap kind_in is.1 ∙ kind_at 9 1 (is.0 ∷ []) (omega arith)
+told_kind (opened n cache) f is = ap kind_in is ∙ kind_at 9 3 (n ∷ cache ∷ []) (omega arith)
+told_kind (closed n) f is = ap kind_in is ∙ kind_at 5 4 (n ∷ []) (omega arith)
+told_kind (shown n view samples) f is = shown_kind n view.filter f is
+told_kind refused f is = ap kind_in is.3 ∙ kind_at 18 2 (is.0 ∷ is.1 ∷ is.2 ∷ []) (omega arith)
+
 -- what is said by a frame
 pub record Said (old new : State) (answer : Frame) (Fits : Reply → Type 0) : Type 0 where
   pub reply : Reply
   pub fits : Fits reply
+  pub tells : Tells reply answer
   pub open_is : open_in new ≡ after_reply (open_in old) reply
   pub shows : (drawing : Option Canvas) → IsPictureOf old new answer drawing → HasPicture reply (picture_bytes drawing)
   pub named : (m : ℕ) → names m answer ≡ says_in m reply
   pub absent : (m cache : ℕ) → reply ≡ opened m cache → is_open m old.sessions ≡ false
 
 -- a refusal
-refused_so : (refusal : Refusal) (old new : State) (answer : Frame) (Fits : Reply → Type 0) → Fits no_picture
+refused_so : (refusal : Refusal) (old new : State) (answer : Frame) (Fits : Reply → Type 0) → Fits refused
     → Refuses refusal answer old new
     → Said old new answer Fits
 refused_so refusal old new answer Fits fits r = record {
-  reply = no_picture;
+  reply = refused;
   fits = fits;
+  tells = (number_of refusal, (pair_of refusal).0, (pair_of refusal).1, r.reply);
   open_is = ap open_in r.state;
   shows = λ drawing is. let P : Frame → Type 0 = λ f. IsPictureOf old new f drawing in ap picture_bytes (subst P r.reply is);
   named = λ m. ap (names m) r.reply;
@@ -187,30 +225,32 @@ refused_so refusal old new answer Fits fits r = record {
 }
 
 edited : (r : Result Edited Refusal) (old new : State) (answer : Frame) → Edits r answer old new
-    → Said old new answer (λ reply. reply ≡ no_picture)
-edited (Err refusal) old new answer is = refused_so refusal old new answer (λ reply. reply ≡ no_picture) refl is
+    → Said old new answer (λ reply. reply ≡ reply_of r)
+edited (Err refusal) old new answer is = refused_so refusal old new answer (λ reply. reply ≡ refused) refl is
 edited (Ok done) old new answer is = record {
-  reply = no_picture;
+  reply = applied;
   fits = refl;
+  tells = (done.slots, is.0);
   open_is = ap open_in is.1;
   shows = λ drawing p. let P : Frame → Type 0 = λ f. IsPictureOf old new f drawing in ap picture_bytes (subst P is.0 p);
   named = λ m. ap (names m) is.0;
-  absent = λ m cache e. absurd (not_no m cache e);
+  absent = λ m cache e. absurd (not_applied m cache e);
 }
 
 abbrev Opening : ℕ → ℕ → State → Reply → Type 0
-Opening n cache old reply = reply ≡ (if cant_open n cache (open_in old) then no_picture else opened n cache)
+Opening n cache old reply = reply ≡ (if cant_open n cache (open_in old) then refused else opened n cache)
 
 opened_so : (o : Option Refusal) (n cache : ℕ) (old new : State) (answer : Frame) → open_refusal old.sessions n cache ≡ o
     → Opens o n cache answer old new → Said old new answer (Opening n cache old)
 opened_so (Some refusal) n cache old new answer is opens =
     let cant = sym (cant_seen n cache old.sessions) ∙ ap is_some is in
-    refused_so refusal old new answer (Opening n cache old) (sym (ap (λ b. if b then no_picture else opened n cache) cant)) opens
+    refused_so refusal old new answer (Opening n cache old) (sym (ap (λ b. if b then refused else opened n cache) cant)) opens
 opened_so None n cache old new answer is opens =
     let can = sym (cant_seen n cache old.sessions) ∙ ap is_some is in
     record {
       reply = opened n cache;
-      fits = sym (ap (λ b. if b then no_picture else opened n cache) can);
+      fits = sym (ap (λ b. if b then refused else opened n cache) can);
+      tells = opens.0;
       open_is = ap open_in opens.1 ∙ map-append seen old.sessions (fresh_session n cache ∷ []);
       shows = λ drawing p. let P : Frame → Type 0 = λ f. IsPictureOf old new f drawing in ap picture_bytes (subst P opens.0 p);
       named = λ m. ap (names m) opens.0;
@@ -218,18 +258,19 @@ opened_so None n cache old new answer is opens =
     }
 
 abbrev Closing : ℕ → State → Reply → Type 0
-Closing n old reply = reply ≡ (if is_there n (open_in old) then closed n else no_picture)
+Closing n old reply = reply ≡ (if is_there n (open_in old) then closed n else refused)
 
 closed_so : (b : Bool) (n : ℕ) (old new : State) (answer : Frame) → is_open n old.sessions ≡ b → Closes b n answer old new
     → Said old new answer (Closing n old)
 closed_so false n old new answer is closes =
     let there = there_seen n old.sessions ∙ is in
-    refused_so _ old new answer (Closing n old) (sym (ap (λ b. if b then closed n else no_picture) there)) closes
+    refused_so _ old new answer (Closing n old) (sym (ap (λ b. if b then closed n else refused) there)) closes
 closed_so true n old new answer is closes =
     let there = there_seen n old.sessions ∙ is in
     record {
       reply = closed n;
-      fits = sym (ap (λ b. if b then closed n else no_picture) there);
+      fits = sym (ap (λ b. if b then closed n else refused) there);
+      tells = closes.0;
       open_is = ap open_in closes.1 ∙ sym (without_seen n old.sessions);
       shows = λ drawing p. let P : Frame → Type 0 = λ f. IsPictureOf old new f drawing in ap picture_bytes (subst P closes.0 p);
       named = λ m. ap (names m) closes.0;
@@ -264,6 +305,12 @@ view_picture series spec n range send old new (Some drawing) stored none over is
     let on_grid = subst G (grid_same shows.grid spec.grid shows.from shows.to shows.columns shows.rows) shows.chart in
     record { range = range; over = over; drawing = drawing; chart = subst K (sym all) (subst S same on_grid); are = refl }
 
+tells_view : (n : ℕ) (spec : ViewSpec) (answer : Frame) (view : ViewFrame) → spec.filter ≡ None → answer ≡ frame.View view
+    → view.session ≡ n → Shows n (is_some spec.filter) answer
+tells_view n spec answer view none is session =
+    let F : Option (List Step) → Type 0 = λ o. Shows n (is_some o) answer in
+    subst F (sym none) (view, is, session)
+
 view_said : (series : Series) (spec : ViewSpec) (n : ℕ) (old new : State) (answer : Frame) (Fits : Reply → Type 0)
     → slice_get old.book spec.series ≡ Some series → spec.filter ≡ None → Answers series spec n answer old new
     → Fits (shown n spec (kept_by spec series)) → Said old new answer Fits
@@ -273,6 +320,7 @@ view_said series spec n old new answer Fits stored none a fits =
     record {
       reply = shown n spec (kept_by spec series);
       fits = fits;
+      tells = tells_view n spec answer (view_frame n spec a.range series (to_send a.session.cache.pairs spec.series a.needed)) none a.frame_is refl;
       open_is = ap open_in a.state ∙ sym (view_seen n spec (Some a.needed) old.sessions);
       shows = λ drawing is.
           let P : Frame → Type 0 = λ f. IsPictureOf old new f drawing in
@@ -302,14 +350,21 @@ rows_picture series spec n range rows old new (Some drawing) own low high stored
     let chart = subst H high (subst L low (subst S one (subst C same is.shows.chart))) in
     record { range = range; over = over; drawing = drawing; chart = chart; are = refl }
 
-rows_said : (series : Series) (spec : ViewSpec) (n : ℕ) (old new : State) (answer : Frame) (Fits : Reply → Type 0)
-    → slice_get old.book spec.series ≡ Some series → AnswersRows series spec n answer old new
+tells_rows : (n : ℕ) (spec : ViewSpec) (steps : List Step) (answer : Frame) (rows : RowsFrame) → spec.filter ≡ Some steps
+    → answer ≡ frame.Rows rows → rows.session ≡ n → Shows n (is_some spec.filter) answer
+tells_rows n spec steps answer rows some is session =
+    let F : Option (List Step) → Type 0 = λ o. Shows n (is_some o) answer in
+    subst F (sym some) (rows, is, session)
+
+rows_said : (series : Series) (spec : ViewSpec) (steps : List Step) (n : ℕ) (old new : State) (answer : Frame) (Fits : Reply → Type 0)
+    → slice_get old.book spec.series ≡ Some series → spec.filter ≡ Some steps → AnswersRows series spec n answer old new
     → Fits (shown n spec (kept_by spec series)) → Said old new answer Fits
-rows_said series spec n old new answer Fits stored a fits =
+rows_said series spec steps n old new answer Fits stored some a fits =
     let last = ap (λ s. last_of (session_of n s.sessions)) a.state ∙ last_viewed n spec None a.session old.sessions a.open_is in
     record {
       reply = shown n spec (kept_by spec series);
       fits = fits;
+      tells = tells_rows n spec steps answer (rows_frame n spec a.range a.rows) some a.frame_is refl;
       open_is = ap open_in a.state ∙ sym (view_seen n spec None old.sessions);
       shows = λ drawing is.
           let P : Frame → Type 0 = λ f. IsPictureOf old new f drawing in
@@ -322,7 +377,7 @@ rows_said series spec n old new answer Fits stored a fits =
 -- ---- a reply in a session
 
 fits_no : (book : List Series) (n : ℕ) (Asks : OpenSession → ViewSpec → Type 0) (Cant : OpenSession → Type 0) (o : Option OpenSession)
-    → ((s : OpenSession) → o ≡ Some s → Cant s) → FitsIn book n Asks Cant o no_picture
+    → ((s : OpenSession) → o ≡ Some s → Cant s) → FitsIn book n Asks Cant o refused
 fits_no book n Asks Cant None cause = refl
 fits_no book n Asks Cant (Some s) cause = cause s refl
 
@@ -381,7 +436,7 @@ module _ (either : OneReading) (bound : NeededKeysAreFew) where
   by_filter (Some steps) series spec n old new answer Asks Cant filter stored asks cant a =
       let at = session_seen n old.sessions ∙ ap (option_map seen) a.open_is in
       let keeps : Keeps old.book spec (kept_by spec series) = record { series = series; stored = stored; are = refl } in
-      rows_said series spec n old new answer (FitsIn old.book n Asks Cant (session_at n (open_in old))) stored a
+      rows_said series spec steps n old new answer (FitsIn old.book n Asks Cant (session_at n (open_in old))) stored filter a
       (fits_shown old.book n Asks Cant (session_at n (open_in old)) (seen a.session) spec (kept_by spec series) at
       (asks (seen a.session) at) keeps)
 
@@ -494,7 +549,7 @@ module _ (either : OneReading) (bound : NeededKeysAreFew) where
   -- ---- each line
 
   request_said : (r : Request) (old new : State) (answer : Frame) → Replies r answer old new
-      → Said old new answer (FitsRequest old.book (open_in old) r)
+      → Said old new answer (FitsRequest old.total old.book (open_in old) r)
   request_said (Edit edit) old new answer is = edited (apply old.book old.total edit) old new answer is
   request_said (Open n cache) old new answer is =
       opened_so (open_refusal old.sessions n (cache_of cache)) n (cache_of cache) old new answer refl is
@@ -505,11 +560,11 @@ module _ (either : OneReading) (bound : NeededKeysAreFew) where
   request_said (Close n) old new answer is = closed_so (is_open n old.sessions) n old new answer refl is
 
   read_said : (r : Result Request ℕ) (old new : State) (answer : Frame) → RepliesTo r answer old new
-      → Said old new answer (FitsRead old.book (open_in old) r)
-  read_said (Err at) old new answer is = refused_so _ old new answer (FitsRead old.book (open_in old) (Err at)) refl is
+      → Said old new answer (FitsSaid old.total old.book (open_in old) (ok_of r))
+  read_said (Err at) old new answer is = refused_so _ old new answer (FitsSaid old.total old.book (open_in old) None) refl is
   read_said (Ok request) old new answer is = request_said request old new answer is
 
   pub line_said : (line : Line) (old new : State) (answer : Frame) → RepliesToLine line answer old new
-      → Said old new answer (FitsLine old.book (open_in old) line)
-  line_said None old new answer is = refused_so _ old new answer (FitsLine old.book (open_in old) None) refl is
+      → Said old new answer (FitsSaid old.total old.book (open_in old) (said_by line))
+  line_said None old new answer is = refused_so _ old new answer (FitsSaid old.total old.book (open_in old) None) refl is
   line_said (Some text) old new answer is = read_said (read_line text) old new answer is

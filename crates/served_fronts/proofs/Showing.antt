@@ -1,11 +1,13 @@
 -- The answers to lines, and what is drawn of a front of them.
-use Rattle.std.proofs.Common.{◌≡◌, ℕ, ◌-◌, true, false, List, [], ◌∷◌, ◌++◌, length, map, Option, refl, ap, sym}
+use Rattle.std.proofs.Common.{◌≡◌, ℕ, ◌+◌, ◌-◌, true, false, List, [], ◌∷◌, ◌++◌, length, map, Option, refl, ap, sym}
 use Rattle.std.proofs.Common.{subst, ◌∙◌, append-nil}
-use Rattle.std.specs.Prelude.{flat_map, nat_le, if◌then◌else◌}
+use Rattle.std.proofs.lemmas.List.Elements.{All-nil, All-cons}
+use Rattle.std.specs.Prelude.{flat_map, nat_le, All, if◌then◌else◌}
 use Rattle.series_book.specs.declared.one_series.Series.{Series}
 use Rattle.view_keys.specs.Laws.{NeededKeysAreFew}
 use Rattle.line_raster.specs.Canvas.{Canvas}
 use Rattle.chart_frames.specs.declared.frame.Frame.{Frame}
+use Rattle.chart_frames.specs.Format.{number_in}
 use Rattle.chart_frames.specs.Frames.{spelling}
 use Rattle.chart_service.specs.State.{State}
 use Rattle.chart_service.specs.Serving.{RepliesToAll}
@@ -13,13 +15,13 @@ use Rattle.chart_service.specs.Replies.{RepliesToLine}
 use Rattle.drawn_replies.specs.Mirrors.{IsPictureOf}
 use Rattle.drawn_replies.specs.Pictures.{ArePictured}
 use Rattle.draw_command.specs.Covers.{picture_bytes}
-use Rattle.served_fronts.specs.Books.{Line, after_line}
+use Rattle.served_fronts.specs.Books.{Line, said_by, after_line}
 use Rattle.served_fronts.specs.Fronts.{whole_frames}
-use Rattle.served_fronts.specs.Answers.{OpenSession, Answer, AreAnswers, bytes_of, whole_in, ArePictures}
+use Rattle.served_fronts.specs.Answers.{OpenSession, Answer, IsFrame, AreAnswers, bytes_of, whole_in, ArePictures}
 use Rattle.served_fronts.proofs.Agreeing.{OneReply}
 use Rattle.served_fronts.proofs.Books.{by_line}
-use Rattle.served_fronts.proofs.Fronts.{Told, some_bytes}
-use Rattle.served_fronts.proofs.Saying.{OneReading, open_in, line_said}
+use Rattle.served_fronts.proofs.Fronts.{Told}
+use Rattle.served_fronts.proofs.Saying.{OneReading, open_in, line_said, told_kind}
 
 -- no picture
 none_drawn : (old state : State) (lines : List Line) (drawings : List (Option Canvas)) → ArePictured old lines [] drawings state
@@ -54,7 +56,7 @@ module _ (either : OneReading) (bound : NeededKeysAreFew) (told : Told) (one : O
   each (l ∷ ls) (f ∷ fs) old new replied = ap (λ bytes. spelling f ∷ bytes) (each ls fs replied.0 new replied.2)
 
   pub fit : (lines : List Line) (frames : List Frame) (old new : State) → (replied : RepliesToAll old lines frames new)
-      → AreAnswers old.total old.book (open_in old) lines (answers_of lines frames old new replied)
+      → AreAnswers old.total old.book (open_in old) (map said_by lines) (answers_of lines frames old new replied)
   fit [] [] old new replied = tt
   fit [] (f ∷ fs) old new replied = absurd replied
   fit (l ∷ ls) [] old new replied = absurd replied
@@ -62,11 +64,24 @@ module _ (either : OneReading) (bound : NeededKeysAreFew) (told : Told) (one : O
       let said = line_said either bound l old replied.0 f replied.1.0 in
       let later = answers_of ls fs replied.0 new replied.2 in
       let book = by_line old replied.0 f l replied.1.0 in
-      let T : ℕ → Type 0 = λ total. AreAnswers total replied.0.book (open_in replied.0) ls later in
-      let B : List Series → Type 0 = λ b. AreAnswers old.total b (open_in replied.0) ls later in
-      let O : List OpenSession → Type 0 = λ o. AreAnswers old.total (after_line old.total old.book l) o ls later in
+      let T : ℕ → Type 0 = λ total. AreAnswers total replied.0.book (open_in replied.0) (map said_by ls) later in
+      let B : List Series → Type 0 = λ b. AreAnswers old.total b (open_in replied.0) (map said_by ls) later in
+      let O : List OpenSession → Type 0 = λ o. AreAnswers old.total (after_line old.total old.book l) o (map said_by ls) later in
       let behind = subst O said.open_is (subst B book.0 (subst T book.1 (fit ls fs replied.0 new replied.2))) in
-      (λ none. some_bytes told f [] replied.1.1 (append-nil (spelling f) ∙ none), said.fits, behind)
+      (said.fits, behind)
+
+  pub frames_are : (lines : List Line) (frames : List Frame) (old new : State) → (replied : RepliesToAll old lines frames new)
+      → All (λ answer. IsFrame answer.reply answer.bytes) (answers_of lines frames old new replied)
+  frames_are [] [] old new replied = All-nil (λ answer. IsFrame answer.reply answer.bytes)
+  frames_are [] (f ∷ fs) old new replied = absurd replied
+  frames_are (l ∷ ls) [] old new replied = absurd replied
+  frames_are (l ∷ ls) (f ∷ fs) old new replied =
+      let said = line_said either bound l old replied.0 f replied.1.0 in
+      let size = told f [] replied.1.1 ∙ ap (λ l. 4 + number_in 4 l) (append-nil (spelling f)) in
+      let answer : Answer = record { bytes = spelling f; reply = said.reply } in
+      let is : IsFrame said.reply (spelling f) = record { size = size; kind = told_kind said.reply f said.tells } in
+      All-cons (λ a. IsFrame a.reply a.bytes) answer (answers_of ls fs replied.0 new replied.2) is
+      (frames_are ls fs replied.0 new replied.2)
 
   step : (l : Line) (ls : List Line) (f : Frame) (rest : List Frame) (old between : State) (is : RepliesToLine l f old between)
       (later : List Answer)

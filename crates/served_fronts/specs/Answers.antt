@@ -1,13 +1,14 @@
 -- What is said to the lines of an input, in the words of books, sessions, views and pictures.
-use Rattle.std.specs.Prelude.{⊤, ◌≡◌, ◌≢◌, ℕ, ℤ, ◌+◌, ◌*◌, ◌-◌, ◌<◌, ◌≤◌, ◌^◌, ◌+ℤ◌, ◌⊎◌, ◌==◌, ◌||◌, nat_le, nat_lt, if◌then◌else◌}
-use Rattle.std.specs.Prelude.{Bool, false, List, [], ◌∷◌, ◌++◌, length, map, take, flat_map, Option, None, Some, Result, Ok, Err, slice_get}
+use Rattle.std.specs.Prelude.{⊤, ◌≡◌, ℕ, ℤ, ◌+◌, ◌*◌, ◌-◌, ◌<◌, ◌≤◌, ◌^◌, ◌+ℤ◌, ◌⊎◌, ◌==◌, ◌||◌, nat_le, nat_lt, if◌then◌else◌}
+use Rattle.std.specs.Prelude.{Bool, false, List, [], ◌∷◌, ◌++◌, length, map, take, drop, flat_map, All, Option, None, Some, is_some}
+use Rattle.std.specs.Prelude.{Result, Ok, Err, slice_get}
 use Rattle.std.specs.List.{filter, list_any}
 use Rattle.series_book.specs.declared.one_series.Series.{Series}
-use Rattle.series_book.specs.Edits.{id_of}
+use Rattle.series_book.specs.declared.refusals.Refusal.{Refusal}
+use Rattle.series_book.specs.Edits.{Edited, apply, id_of}
 use Rattle.request_lines.specs.declared.requests.Request.{Request}
 use Rattle.request_lines.specs.declared.requests.Request.TheVariants.{Edit, Open, View, Zoom, Pan, Close}
 use Rattle.request_lines.specs.declared.ranges.RangeWord.{RangeWord}
-use Rattle.request_lines.specs.Requests.{read_line}
 use Rattle.value_filter.specs.declared.steps.Step.{Step}
 use Rattle.value_filter.specs.Expressions.{Expression}
 use Rattle.value_filter.specs.Grammar.{IsFilter}
@@ -25,9 +26,10 @@ use Rattle.line_raster.specs.Canvas.{Canvas}
 use Rattle.pbm_writer.specs.Picture.{picture}
 use Rattle.block_disk.specs.Streams.{sent_after}
 use Rattle.chart_frames.specs.declared.frame.Frame.{Frame}
+use Rattle.chart_frames.specs.Format.{number_in}
 use Rattle.chart_frames.specs.Frames.{spelling}
 use Rattle.chart_service.specs.State.{State}
-use Rattle.served_fronts.specs.Books.{Line, after_line}
+use Rattle.served_fronts.specs.Books.{Line, said_by, after_request}
 use Rattle.served_fronts.specs.Fronts.{Draws}
 
 -- ---- sessions
@@ -63,19 +65,21 @@ with_view n view (s ∷ ss) =
 
 -- ---- what is said to a line
 
--- A session was opened, whose client keeps so many coefficients, or one was closed; a view was answered in one, which keeps
--- these samples; or an edit was done or refused, or another line was refused.
+-- An edit was done; a session was opened, whose client keeps so many coefficients, or one was closed; a view was answered in one,
+-- which keeps these samples; or an edit or another line was refused.
 pub data Reply : Type 0 where
+  applied : Reply
   opened : ℕ → ℕ → Reply
   closed : ℕ → Reply
   shown : ℕ → ViewSpec → List Sample → Reply
-  no_picture : Reply
+  refused : Reply
 
 abbrev pub after_reply : List OpenSession → Reply → List OpenSession
+after_reply sessions applied = sessions
 after_reply sessions (opened n cache) = sessions ++ record { number = n; cache = cache; last = None } ∷ []
 after_reply sessions (closed n) = without n sessions
 after_reply sessions (shown n view samples) = with_view n view sessions
-after_reply sessions no_picture = sessions
+after_reply sessions refused = sessions
 
 -- the samples are those that the view keeps of its series, as it is in the book
 pub record Keeps (book : List Series) (view : ViewSpec) (samples : List Sample) : Type 0 where
@@ -136,35 +140,37 @@ CantMove window s =
 
 -- A reply in the session of a number: the view that is asked for is shown, or there is a cause why it isn't.
 abbrev pub FitsIn : List Series → ℕ → (OpenSession → ViewSpec → Type 0) → (OpenSession → Type 0) → Option OpenSession → Reply → Type 0
-FitsIn book n Asks Cant None reply = reply ≡ no_picture
+FitsIn book n Asks Cant None reply = reply ≡ refused
+FitsIn book n Asks Cant (Some s) applied = ⊥
 FitsIn book n Asks Cant (Some s) (opened m cache) = ⊥
 FitsIn book n Asks Cant (Some s) (closed m) = ⊥
 FitsIn book n Asks Cant (Some s) (shown m view samples) = (m ≡ n) × Asks s view × Keeps book view samples
-FitsIn book n Asks Cant (Some s) no_picture = Cant s
+FitsIn book n Asks Cant (Some s) refused = Cant s
 
--- a reply fits a request, over this book and these open sessions
-abbrev pub FitsRequest : List Series → List OpenSession → Request → Reply → Type 0
-FitsRequest book sessions (Edit edit) reply = reply ≡ no_picture
-FitsRequest book sessions (Open n cache) reply =
-    reply ≡ (if cant_open n (cache_of cache) sessions then no_picture else opened n (cache_of cache))
-FitsRequest book sessions (View n name w h t0 t1 word text) reply =
+-- an edit is done or refused
+abbrev pub reply_of : Result Edited Refusal → Reply
+reply_of (Ok edited) = applied
+reply_of (Err refusal) = refused
+
+-- a reply fits a request, over this book, which may take so many pages, and these open sessions
+abbrev pub FitsRequest : ℕ → List Series → List OpenSession → Request → Reply → Type 0
+FitsRequest total book sessions (Edit edit) reply = reply ≡ reply_of (apply book total edit)
+FitsRequest total book sessions (Open n cache) reply =
+    reply ≡ (if cant_open n (cache_of cache) sessions then refused else opened n (cache_of cache))
+FitsRequest total book sessions (View n name w h t0 t1 word text) reply =
     FitsIn book n (λ s view. IsAsked book name w h t0 t1 word text view) (CantShow book name w h t0 t1 word text)
     (session_at n sessions) reply
-FitsRequest book sessions (Zoom n t0 t1) reply =
+FitsRequest total book sessions (Zoom n t0 t1) reply =
     FitsIn book n (IsMoved (λ last. (t0, t1))) (CantMove (λ last. (t0, t1))) (session_at n sessions) reply
-FitsRequest book sessions (Pan n by) reply =
+FitsRequest total book sessions (Pan n by) reply =
     FitsIn book n (IsMoved (λ last. (last.grid.t0 +ℤ by, last.grid.t1 +ℤ by))) (CantMove (λ last. (last.grid.t0 +ℤ by, last.grid.t1 +ℤ by)))
     (session_at n sessions) reply
-FitsRequest book sessions (Close n) reply = reply ≡ (if is_there n sessions then closed n else no_picture)
+FitsRequest total book sessions (Close n) reply = reply ≡ (if is_there n sessions then closed n else refused)
 
--- a reply fits what a line is read as, and a line
-abbrev pub FitsRead : List Series → List OpenSession → Result Request ℕ → Reply → Type 0
-FitsRead book sessions (Err at) reply = reply ≡ no_picture
-FitsRead book sessions (Ok request) reply = FitsRequest book sessions request reply
-
-abbrev pub FitsLine : List Series → List OpenSession → Line → Reply → Type 0
-FitsLine book sessions None reply = reply ≡ no_picture
-FitsLine book sessions (Some text) reply = FitsRead book sessions (read_line text) reply
+-- a reply fits what a line says
+abbrev pub FitsSaid : ℕ → List Series → List OpenSession → Option Request → Reply → Type 0
+FitsSaid total book sessions None reply = reply ≡ refused
+FitsSaid total book sessions (Some request) reply = FitsRequest total book sessions request reply
 
 -- ---- answers, with their bytes
 
@@ -173,14 +179,32 @@ pub record Answer : Type 0 where
   pub bytes : List ℕ
   pub reply : Reply
 
--- each line has its answer, over the book and the open sessions that the lines before it left
-abbrev pub AreAnswers : ℕ → List Series → List OpenSession → List Line → List Answer → Type 0
+-- The kind of a reply: of a view that is shown by the samples' coefficients, or with a filter by its rows.
+abbrev pub kind_of : Reply → ℕ
+kind_of applied = 1
+kind_of refused = 2
+kind_of (opened n cache) = 3
+kind_of (closed n) = 4
+kind_of (shown n view samples) = if is_some view.filter then 6 else 5
+
+-- the number in the first four of these bytes, the highest first, tells how many follow
+abbrev pub TellsSize : List ℕ → Type 0
+TellsSize bytes = length bytes ≡ 4 + number_in 4 bytes
+
+-- The bytes of one answer of `serve`, and no more: they tell their size, so that bytes are cut into answers in one way, and then
+-- the kind of the reply.
+pub record IsFrame (reply : Reply) (bytes : List ℕ) : Type 0 where
+  pub size : TellsSize bytes
+  pub kind : number_in 1 (drop 4 bytes) ≡ kind_of reply
+
+-- each request has its answer, over the book and the open sessions that those before it left
+abbrev pub AreAnswers : ℕ → List Series → List OpenSession → List (Option Request) → List Answer → Type 0
 AreAnswers total book sessions [] [] = ⊤
 AreAnswers total book sessions [] (answer ∷ later) = ⊥
-AreAnswers total book sessions (line ∷ lines) [] = ⊥
-AreAnswers total book sessions (line ∷ lines) (answer ∷ later) =
-    (answer.bytes ≢ []) × FitsLine book sessions line answer.reply
-    × AreAnswers total (after_line total book line) (after_reply sessions answer.reply) lines later
+AreAnswers total book sessions (request ∷ requests) [] = ⊥
+AreAnswers total book sessions (request ∷ requests) (answer ∷ later) =
+    FitsSaid total book sessions request answer.reply
+    × AreAnswers total (after_request total book request) (after_reply sessions answer.reply) requests later
 
 abbrev pub bytes_of : List Answer → List ℕ
 bytes_of answers = flat_map (λ answer. answer.bytes) answers
@@ -202,10 +226,11 @@ pub record IsPicture (view : ViewSpec) (samples : List Sample) (bytes : List ℕ
 
 -- a view that is shown has its picture, and no other reply has one
 abbrev pub HasPicture : Reply → List ℕ → Type 0
+HasPicture applied bytes = bytes ≡ []
 HasPicture (opened n cache) bytes = bytes ≡ []
 HasPicture (closed n) bytes = bytes ≡ []
 HasPicture (shown n view samples) bytes = IsPicture view samples bytes
-HasPicture no_picture bytes = bytes ≡ []
+HasPicture refused bytes = bytes ≡ []
 
 -- the bytes are the pictures of the answers, one behind the other
 abbrev pub ArePictures : List Answer → List ℕ → Type 0
@@ -217,10 +242,11 @@ ArePictures (answer ∷ later) bytes =
 
 -- whether a reply is said in the session of a number, and the answers that are
 abbrev pub says_in : ℕ → Reply → Bool
+says_in m applied = false
 says_in m (opened n cache) = n == m
 says_in m (closed n) = n == m
 says_in m (shown n view samples) = n == m
-says_in m no_picture = false
+says_in m refused = false
 
 abbrev pub said_in : ℕ → List Answer → List Answer
 said_in m answers = filter (λ answer. says_in m answer.reply) answers
@@ -246,9 +272,14 @@ FrontsAreDrawn answers =
     (got : List Answer) (n : ℕ) (left before now : Option (List ℕ)) → Reach answers got → n ≤ 2 ^ 32
     → Draws (take n (bytes_of got)) left before now → SendsPictures (whole_in n got) before now
 
--- The lines are answered, each by the bytes that spell its frame, over the book of a state; and each front is drawn.
+-- What `serve` sends of answers: the bytes of each are a frame, and of each front of them `draw` sends the pictures.
+pub record AreFrames (answers : List Answer) : Type 0 where
+  pub each : All (λ answer. IsFrame answer.reply answer.bytes) answers
+  pub drawn : FrontsAreDrawn answers
+
+-- The lines are answered, each by the bytes that spell its frame, over the book of a state.
 pub record HasAnswers (old : State) (lines : List Line) (frames : List Frame) : Type 0 where
   pub answers : List Answer
-  pub fit : AreAnswers old.total old.book [] lines answers
+  pub fit : AreAnswers old.total old.book [] (map said_by lines) answers
   pub spelled : map (λ answer. answer.bytes) answers ≡ map spelling frames
-  pub drawn : FrontsAreDrawn answers
+  pub are : AreFrames answers

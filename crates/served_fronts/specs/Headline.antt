@@ -1,20 +1,24 @@
 -- What is promised of served charts: over any list of runs, each begun on what a crash of the one before left, no acknowledged
 -- edit is lost, and of any front of the bytes that were sent `draw` sends the pictures of the book. Books.antt has the book after
 -- lines, Answers.antt what is said to lines and what is drawn of it; this is the rest, in the order in which it is needed.
-use Rattle.std.specs.Prelude.{⊤, ◌≡◌, ℕ, ◌+◌, ◌≤◌, List, [], ◌∷◌, ◌++◌, length, take}
+use Rattle.std.specs.Prelude.{⊤, ◌≡◌, ℕ, ◌+◌, ◌≤◌, List, [], ◌∷◌, ◌++◌, length, take, Option}
 use Rattle.series_book.specs.declared.one_series.Series.{Series}
 use Rattle.block_disk.specs.View.{Image}
 use Rattle.stored_book.specs.Standing.{RecoversTo}
 use Rattle.chart_service.specs.Serving.{told}
-use Rattle.served_fronts.specs.Books.{Line, after_lines}
-use Rattle.served_fronts.specs.Answers.{Answer, AreAnswers, FrontsAreDrawn, bytes_of, whole_in}
+use Rattle.request_lines.specs.declared.requests.Request.{Request}
+use Rattle.served_fronts.specs.Books.{Line, AreSaid, after_requests}
+use Rattle.served_fronts.specs.Answers.{Answer, AreAnswers, AreFrames, bytes_of, whole_in}
+use Rattle.served_fronts.specs.Texts.{AreTexted}
 
 -- ---- runs
 
--- what a run is for: it serves lines, it answers them by texts, it leaves the book alone, or it changes the book otherwise
+-- what a run is for: it serves lines, it answers them by texts, it answers them and follows views, it leaves the book alone, or it
+-- changes the book otherwise
 pub data Task : Type 0 where
   serves : Task
   runs : Task
+  watches : Task
   looks : Task
   changes : Task
 
@@ -31,45 +35,67 @@ pub record Run : Type 0 where
 
 -- ---- what is promised of a run
 
--- These are answers to some first lines of the input, over a book and with no session open. Of each front of their bytes, or of
--- those of one session, `draw` sends the pictures of all views that stand whole in it.
-pub record AnswersFirst (total : ℕ) (book : List Series) (input : List ℕ) (lines : List Line) (answers : List Answer) : Type 0 where
+-- Some first lines of the input say these requests, and these are answers to them, over a book and with no session open.
+pub record AnswersFirst (total : ℕ) (book : List Series) (input : List ℕ) (requests : List (Option Request)) (answers : List Answer) : Type 0 where
+  pub lines : List Line
   pub later : List Line
   pub split : told input ≡ lines ++ later
-  pub fit : AreAnswers total book [] lines answers
-  pub drawn : FrontsAreDrawn answers
+  pub said : AreSaid lines requests
+  pub fit : AreAnswers total book [] requests answers
 
--- The bytes that were sent begin those of such answers; with status 0 they are those of the answers to all lines.
-pub record Says (total : ℕ) (book : List Series) (run : Run) : Type 0 where
-  pub lines : List Line
+-- The bytes that were sent begin those of such answers, which are so; with status 0 they are those of the answers to all lines.
+pub record Says (AreSo : List Answer → Type 0) (total : ℕ) (book : List Series) (run : Run) : Type 0 where
+  pub requests : List (Option Request)
   pub answers : List Answer
-  pub first : AnswersFirst total book run.input lines answers
+  pub first : AnswersFirst total book run.input requests answers
+  pub are : AreSo answers
   pub unsent : List ℕ
   pub bytes : bytes_of answers ≡ run.sent ++ unsent
-  pub all : run.status ≡ 0 → (lines ≡ told run.input) × (unsent ≡ [])
+  pub all : run.status ≡ 0 → (first.later ≡ []) × (unsent ≡ [])
 
--- The crash left the book after some first lines. All bytes that were sent by then are of the answers to these: so each edit is in
--- the book whose answer stands whole in them. At most 64 of these lines have answers that don't.
+-- The crash of a serving left the book after some first lines. All bytes that were sent by then are of the answers to these: so
+-- each edit is in the book whose answer stands whole in them. At most 64 of these lines have answers that don't.
 pub record LeavesBook (total : ℕ) (book : List Series) (run : Run) (next : List Series) : Type 0 where
-  pub lines : List Line
+  pub requests : List (Option Request)
   pub answers : List Answer
-  pub first : AnswersFirst total book run.input lines answers
+  pub first : AnswersFirst total book run.input requests answers
+  pub are : AreFrames answers
   pub unsent : List ℕ
   pub bytes : bytes_of answers ≡ take run.by_then run.sent ++ unsent
   pub few : length answers ≤ length (whole_in run.by_then answers) + 64
-  pub next_is : next ≡ after_lines total book lines
+  pub next_is : next ≡ after_requests total book requests
 
--- the book is the one after some first lines
-pub record Follows (total : ℕ) (book : List Series) (input : List ℕ) (next : List Series) : Type 0 where
+-- The same of texts, where requests behind these may have been done ahead: of what answers those nothing was sent, and with them
+-- there are at most 64 whose texts weren't sent whole.
+pub record LeavesAhead (total : ℕ) (book : List Series) (run : Run) (next : List Series) : Type 0 where
+  pub requests : List (Option Request)
+  pub ahead : List (Option Request)
+  pub texts : List Answer
+  pub lines : List Line
+  pub later : List Line
+  pub split : told run.input ≡ lines ++ later
+  pub said : AreSaid lines (requests ++ ahead)
+  pub fit : AreAnswers total book [] requests texts
+  pub are : AreTexted texts
+  pub unsent : List ℕ
+  pub bytes : bytes_of texts ≡ take run.by_then run.sent ++ unsent
+  pub few : length lines ≤ length (whole_in run.by_then texts) + 64
+  pub next_is : next ≡ after_requests total book (requests ++ ahead)
+
+-- the crash left the book after some first lines
+pub record LeavesLines (total : ℕ) (book : List Series) (input : List ℕ) (next : List Series) : Type 0 where
   pub lines : List Line
   pub later : List Line
   pub split : told input ≡ lines ++ later
-  pub next_is : next ≡ after_lines total book lines
+  pub requests : List (Option Request)
+  pub said : AreSaid lines requests
+  pub next_is : next ≡ after_requests total book requests
 
 -- From one book to the next a run was exact. What a run leaves that changes the book otherwise isn't said here.
 abbrev pub IsExact : Task → ℕ → List Series → Run → List Series → Type 0
-IsExact serves total book run next = Says total book run × LeavesBook total book run next
-IsExact runs total book run next = Follows total book run.input next
+IsExact serves total book run next = Says AreFrames total book run × LeavesBook total book run next
+IsExact runs total book run next = Says AreTexted total book run × LeavesAhead total book run next
+IsExact watches total book run next = LeavesLines total book run.input next
 IsExact looks total book run next = next ≡ book
 IsExact changes total book run next = ⊤
 

@@ -1,5 +1,5 @@
 -- The laws of fronts of what answers lines.
-use Rattle.std.specs.Prelude.{◌≡◌, ℕ, ◌-◌, ◌≤◌, ◌^◌, List, [], ◌++◌, length, take, flat_map, Option, None}
+use Rattle.std.specs.Prelude.{◌≡◌, ℕ, ◌-◌, ◌≤◌, ◌^◌, List, [], ◌++◌, length, map, take, flat_map, All, Option, None}
 use Rattle.std.specs.List.{filter}
 use Rattle.block_disk.specs.View.{Image}
 use Rattle.series_book.specs.declared.one_series.Series.{Series}
@@ -21,9 +21,9 @@ use Rattle.chart_service.specs.Stepping.{state_of}
 use Rattle.chart_service.specs.Alone.{only}
 use Rattle.drawn_replies.specs.Pictures.{names}
 use Rattle.draw_command.specs.Draws.{DrawsFirst, IsFront}
-use Rattle.served_fronts.specs.Books.{Line, after_lines}
+use Rattle.served_fronts.specs.Books.{Line, AreSaid, said_by, after_lines}
 use Rattle.served_fronts.specs.Fronts.{whole_frames, SendsFirstPictures, SendsFirstOwn, Draws}
-use Rattle.served_fronts.specs.Answers.{HasAnswers}
+use Rattle.served_fronts.specs.Answers.{TellsSize, HasAnswers}
 use Rattle.served_fronts.specs.Crashes.{KeepsLines}
 
 -- Where some first frames of a front were drawn, and no frame stands whole behind them, they are those that stand whole in it.
@@ -91,6 +91,17 @@ abbrev pub ChartsHaveOnePicture : Type 0
 ChartsHaveOnePicture =
     (grid : Grid) (range : ValueRange) (samples : List Sample) (first second : Canvas)
     → IsChart grid range samples first → IsChart grid range samples second → picture first ≡ picture second
+
+-- Bytes are cut into answers in one way: of two cuts of bytes that begin alike the one with fewer answers is a front of the other.
+abbrev pub BytesAreCutInOneWay : Type 0
+BytesAreCutInOneWay =
+    (first second : List (List ℕ)) (behind more : List ℕ) → All TellsSize first → All TellsSize second
+    → flat_map (λ bytes. bytes) first ++ behind ≡ flat_map (λ bytes. bytes) second ++ more → length first ≤ length second
+    → (later : List (List ℕ)) × (second ≡ first ++ later)
+
+-- A line says what it is read as.
+abbrev pub LinesSayWhatIsRead : Type 0
+LinesSayWhatIsRead = (lines : List Line) → AreSaid lines (map said_by lines)
 
 -- A store that recovers to a book begins a sound state, with no session open.
 abbrev pub StoresBeginSound : Type 0

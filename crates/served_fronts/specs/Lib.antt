@@ -1,6 +1,7 @@
 pub mod Books
 pub mod Fronts
 pub mod Answers
+pub mod Texts
 pub mod Crashes
 pub mod Laws
 pub mod Headline

@@ -2,9 +2,10 @@
 
 ghost use Rattle.served_fronts.specs.Laws.{FrontsDrawTheBook, OwnFrontsDrawTheBook, DrawnFrontsAreTheBook, BooksFollowTheLines};
 ghost use Rattle.served_fronts.specs.Laws.{DrawnOwnFrontsAreTheBook, LinesAreAnswered, CrashesKeepTheLines};
-ghost use Rattle.served_fronts.specs.Laws.{FirstBytesAgree, ChartsHaveOnePicture, StoresBeginSound};
+ghost use Rattle.served_fronts.specs.Laws.{LinesSayWhatIsRead};
+ghost use Rattle.served_fronts.specs.Laws.{FirstBytesAgree, BytesAreCutInOneWay, ChartsHaveOnePicture, StoresBeginSound};
 ghost use Rattle.served_fronts.specs.Headline.{ChartsAreExact};
-ghost use Rattle.served_fronts.specs.Servings.{ServingsAreExact};
+ghost use Rattle.served_fronts.specs.Servings.{ServingsAreExact, TextsAreExact};
 ghost use Rattle.served_fronts.specs.Witness.{StoresCanBe, DisksInMemoryAreHonest};
 ghost use Rattle.served_fronts.specs.Example.{TheExampleIsDrawn};
 
@@ -15,6 +16,7 @@ use chart_service::laws::{replies_are_one, sessions_stand_alone};
 use drawn_replies::laws::{
     clients_draw_the_book, one_session_draws_the_book, replies_are_accepted, replies_draw_the_book,
 };
+use request_lines::laws::lines_spell_requests;
 use stored_book::laws::empty_stores_have_no_series;
 use value_filter::laws::a_text_is_read_in_one_way;
 use view_keys::laws::keys_of_a_view_are_few;
@@ -97,6 +99,13 @@ pub fn books_follow_the_lines()
     ensures { BooksFollowTheLines }
 {}
 
+/// What a line is read as is the request that it spells, and it spells none where none is read.
+pub fn lines_say_what_is_read()
+    ensures { LinesSayWhatIsRead }
+{
+    lines_spell_requests();
+}
+
 /// What was sent is determined by its length: the first so many bytes of what answers some first lines are those of what
 /// answers any other number of first lines of the same ones.
 pub fn first_bytes_agree()
@@ -104,6 +113,12 @@ pub fn first_bytes_agree()
 {
     replies_are_one();
 }
+
+/// Bytes are cut into answers in one way: of two cuts of bytes that begin alike the one with fewer answers is a front of the
+/// other. So where among the bytes that were sent one answer ends and the next begins is determined by these bytes.
+pub fn bytes_are_cut_in_one_way()
+    ensures { BytesAreCutInOneWay }
+{}
 
 /// Two canvases that are the chart of the same samples have the same picture, whatever their cells are.
 pub fn charts_have_one_picture()
@@ -129,8 +144,21 @@ pub fn charts_are_exact()
 pub fn servings_are_exact()
     ensures { ServingsAreExact }
 {
+    lines_spell_requests();
     first_bytes_agree();
     lines_have_their_answers();
+}
+
+/// So does what a run says of its texts: those that were sent begin the texts of some first lines, each with the picture of the book
+/// as it is at its line.
+pub fn texts_are_exact()
+    ensures { TextsAreExact }
+{
+    lines_spell_requests();
+    replies_are_one();
+    charts_have_one_picture();
+    a_text_is_read_in_one_way();
+    keys_of_a_view_are_few();
 }
 
 /// That what is asked of a disk can be met: of each size from 128 blocks on there is one with a store without a series, where
@@ -151,6 +179,7 @@ pub fn disks_in_memory_are_honest()
 pub fn the_example_is_drawn()
     ensures { TheExampleIsDrawn }
 {
+    lines_spell_requests();
     charts_are_exact();
     charts_have_one_picture();
 }

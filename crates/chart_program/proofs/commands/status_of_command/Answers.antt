@@ -359,13 +359,13 @@ pub returns-in-Run-clause-does : goal.returns-in-Run-clause-does
 returns-in-Run-clause-does g c =
     let at = course g.W.Disk.view g.W.Streams.left g.W.Streams.sent c.args.world c.run_status.result.1 in
     let P : Command → Type 0 = λ command. Does command at c.run_status.result.0 in
-    subst P (sym c.in-Run.is) tt
+    subst P (sym c.in-Run.is) c.run_status.ensures.does
 
 pub returns-in-Serve-clause-does : goal.returns-in-Serve-clause-does
 returns-in-Serve-clause-does g c =
     let at = course g.W.Disk.view g.W.Streams.left g.W.Streams.sent c.args.world c.serve_status.result.1 in
     let P : Command → Type 0 = λ command. Does command at c.serve_status.result.0 in
-    subst P (sym c.in-Serve.is) tt
+    subst P (sym c.in-Serve.is) c.serve_status.ensures.does
 
 pub returns-in-Retain-clause-does : goal.returns-in-Retain-clause-does
 returns-in-Retain-clause-does g c =

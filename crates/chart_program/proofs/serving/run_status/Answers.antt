@@ -1,3 +1,4 @@
+use Rattle.std.proofs.Common.{refl, ◌∙◌}
 use Rattle.chart_program.specs.Served.{AreTexts, faults_of}
 use Rattle.chart_program.proofs.Ended.{numbered_by, ends_so}
 use Rattle.store_commands.specs.Faulting.{counts_as}
@@ -5,6 +6,7 @@ use Rattle.store_commands.specs.Traffic.{traffic}
 use Rattle.chart_program.specs.Ended.{status_by}
 use Rattle.chart_program.proofs.CommandCodes.{run_codes}
 use Rattle.chart_program.proofs.FirstOpened.{away_served, barred_served}
+use Rattle.chart_program.proofs.ServePage.{end_of, of_run, status_is}
 use Rattle.chart_program.proofs.serving.run_status.Goals as goal
 
 pub lines_status-requires : goal.lines_status-requires
@@ -42,6 +44,20 @@ returns-clause-bars g c =
     let t = traffic g.W.Streams.left g.W.Streams.sent reads sends old new in
     let e = c.run_world-answer.ensures in
     barred_served (Unit {0}) (g.W.Disk.view old) (g.W.Disk.view new) t faults c.run_world-answer.result.0 c.lines_status.result c.lines_status.ensures e.first e.serves.cause
+
+pub returns-clause-does : goal.returns-clause-does
+returns-clause-does g c =
+    let view = g.W.Disk.view in
+    let old = c.args.world in
+    let new = c.run_world-answer.result.1 in
+    let reads = g.W.Streams.read_faults in
+    let sends = g.W.Streams.send_faults in
+    let faults = faults_of (reads old) (reads new) (sends old) (sends new) in
+    let t = traffic g.W.Streams.left g.W.Streams.sent reads sends old new in
+    let answer = c.run_world-answer.result.0 in
+    let e = c.run_world-answer.ensures in
+    let away = away_served (Unit {0}) (view old) (view new) t faults answer (status_by answer) refl e.first e.serves.cause in
+    (end_of answer, c.lines_status.ensures ∙ status_is answer, of_run (view old) (view new) t faults answer e.serves e.first away)
 
 pub returns-clause-own : goal.returns-clause-own
 returns-clause-own g c =

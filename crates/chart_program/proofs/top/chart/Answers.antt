@@ -13,7 +13,7 @@ use Rattle.chart_program.proofs.Parsing.{told_good, replies_good, covers_book}
 use Rattle.chart_program.proofs.Codes.{told_both}
 use Rattle.chart_program.proofs.Words.{of_command, with_operands, chart_codes, streams, one_init, one_draw, completes, covers_complete, good_never, wrong_never, wrong_end}
 use Rattle.chart_program.proofs.OneCommand.{by_words}
-use Rattle.program_words.specs.declared.words.Command.TheVariants.{Check, Cover, Demo, Derive, Draw, Export, Init, ListSeries, Live, Load, Plot, Retain}
+use Rattle.program_words.specs.declared.words.Command.TheVariants.{Check, Cover, Demo, Derive, Draw, Export, Init, ListSeries, Live, Load, Plot, Retain, Run, Serve}
 use Rattle.chart_program.proofs.top.chart.Goals as goal
 
 pub returns-in-Err-NoMemory-clause-codes : goal.returns-in-Err-NoMemory-clause-codes
@@ -484,7 +484,7 @@ returns-in-Ok-clause-exact g c =
     let new = c.status_of_command.result.1 in
     let e = c.status_of_command.ensures.ends in
     λ other. inr (of_command _ c.in-Ok.command c.in-Ok.command _ refl c.in-Ok.ensures.command
-    (runs_made c.servings_are_exact.ensures c.pages_stand_for_one_book.ensures.book c.in-Ok.command
+    (runs_made c.servings_are_exact.ensures c.texts_are_exact.ensures c.lines_say_what_is_read.ensures c.pages_stand_for_one_book.ensures.book c.in-Ok.command
     (view old) (view new) (left old) (left new) (sent old) (sent new) _ _ _ e))
 
 pub returns-in-Err-Wrong-clause-exact : goal.returns-in-Err-Wrong-clause-exact
@@ -687,3 +687,21 @@ returns-in-Err-Wrong-clause-live g c = λ own. absurd (wrong_never c.in-Err-Wron
 
 pub returns-in-Err-NoMemory-clause-live : goal.returns-in-Err-NoMemory-clause-live
 returns-in-Err-NoMemory-clause-live g c = λ own. inl (c.status_of-in-Err-NoMemory.ensures.code, refl)
+
+pub returns-in-Ok-clause-run : goal.returns-in-Ok-clause-run
+returns-in-Ok-clause-run g c = λ own. inr (by_words c.in-Ok.command Run _ _ _ c.in-Ok.ensures.command own.1 c.status_of_command.ensures.does)
+
+pub returns-in-Err-Wrong-clause-run : goal.returns-in-Err-Wrong-clause-run
+returns-in-Err-Wrong-clause-run g c = λ own. absurd (wrong_never c.in-Err-Wrong.place _ Run own.0 own.1 (wrong_end c.in-Err-Wrong.field-0 c.in-Err-Wrong.place _ c.in-Err-Wrong.field-0-is c.in-Err-Wrong.ensures.wrong))
+
+pub returns-in-Err-NoMemory-clause-run : goal.returns-in-Err-NoMemory-clause-run
+returns-in-Err-NoMemory-clause-run g c = λ own. inl (c.status_of-in-Err-NoMemory.ensures.code, refl)
+
+pub returns-in-Ok-clause-serve : goal.returns-in-Ok-clause-serve
+returns-in-Ok-clause-serve g c = λ own. inr (by_words c.in-Ok.command Serve _ _ _ c.in-Ok.ensures.command own.1 c.status_of_command.ensures.does)
+
+pub returns-in-Err-Wrong-clause-serve : goal.returns-in-Err-Wrong-clause-serve
+returns-in-Err-Wrong-clause-serve g c = λ own. absurd (wrong_never c.in-Err-Wrong.place _ Serve own.0 own.1 (wrong_end c.in-Err-Wrong.field-0 c.in-Err-Wrong.place _ c.in-Err-Wrong.field-0-is c.in-Err-Wrong.ensures.wrong))
+
+pub returns-in-Err-NoMemory-clause-serve : goal.returns-in-Err-NoMemory-clause-serve
+returns-in-Err-NoMemory-clause-serve g c = λ own. inl (c.status_of-in-Err-NoMemory.ensures.code, refl)
