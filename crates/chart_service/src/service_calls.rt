@@ -7,6 +7,7 @@ ghost use Rattle.chart_service.specs.State.{IsSound};
 ghost use Rattle.chart_service.specs.Shown as shown;
 
 use crate::service::Service;
+use crate::store_work::StoreWork;
 use block_disk::Back;
 use gate_pages::Pages;
 use series_book::Name;
@@ -39,6 +40,23 @@ impl<P: Pages> Service<P> {
         ensures { result ≡ self.store }
     {
         self.store
+    }
+
+    /// The store.
+    pub fn store(&self) -> &Store<P>
+        ensures { result.now ≡ shown.store self.now }
+    {
+        &self.store
+    }
+
+    /// Does a work on the store. The sessions stay: each has its list and its last view, whatever was done.
+    pub fn with_store<W: StoreWork<Store<P>>>(&mut self, work: &mut W) -> W::Answer
+        requires counts { shown.CountsSeries W.series }
+        requires may { W.may work.old (shown.store self.old) }
+        ensures does { W.does work.old (shown.store self.old) result work.new (shown.store self.new) }
+        ensures sessions { shown.sessions self.new ≡ shown.sessions self.old }
+    {
+        work.work(&mut self.store)
     }
 
     /// Whether more calls may be made. After a fault in a commit they may not.

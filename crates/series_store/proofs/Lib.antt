@@ -22,6 +22,9 @@ pub mod BookCountLemmas
 pub mod SelectedLemmas
 pub mod SendLemmas
 pub mod SeriesSendLemmas
+pub mod WindowLemmas
+pub mod MetLemmas
+pub mod ReadingLemmas
 pub mod DoneLemmas
 pub mod GroupLemmas
 pub mod CoverLemmas

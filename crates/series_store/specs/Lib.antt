@@ -10,6 +10,8 @@ pub mod Looking
 pub mod Creating
 pub mod Counting
 pub mod Sending
+pub mod Windows
+pub mod WindowReading
 pub mod Groups
 pub mod Staging
 pub mod Grouping
