@@ -20,7 +20,7 @@ OneLine = (line : Option (List ℕ)) (frame other : Frame) (old new behind : Sta
 abbrev pub OneRequest : Type 0
 OneRequest = (request : Request) (frame other : Frame) (old new behind : State) → Replies request frame old new → Replies request other old behind → (frame ≡ other) × (new ≡ behind)
 
-same_live : (one other : LiveState) → one.state ≡ other.state → one.followed ≡ other.followed → one.pending ≡ other.pending → one ≡ other
+pub same_live : (one other : LiveState) → one.state ≡ other.state → one.followed ≡ other.followed → one.pending ≡ other.pending → one ≡ other
 same_live one other state followed pending = λ i. record { state = state i; followed = followed i; pending = pending i }
 
 module _ (frame other : Frame) (old new behind : LiveState) where

@@ -1,10 +1,12 @@
 -- The laws of what a client draws of pushes.
-use Rattle.std.specs.Prelude.{ℕ, ◌≡◌, List, Option}
+use Rattle.std.specs.Prelude.{ℕ, ◌≡◌, ◌≤◌, ◌↔◌, List, [], ◌∷◌, length, Option, Some}
 use Rattle.chart_client.specs.declared.holding.Holding.{Holding}
 use Rattle.chart_frames.specs.declared.frame.Frame.{Frame}
+use Rattle.chart_service.specs.EditGroups.{SpellsEdit}
 use Rattle.chart_service.specs.State.{IsSound}
 use Rattle.drawn_replies.specs.Mirrors.{Mirrors, DrawsTheBook, OnlyLacksMemory}
-use Rattle.live_service.specs.LiveReplies.{LiveState, LiveReplied, Pushed}
+use Rattle.live_service.specs.LiveReplies.{GroupReplied, LiveState, LiveReplied, Pushed}
+use Rattle.series_book.specs.declared.edits.Edit.{Edit}
 
 -- A client that holds what the sessions hold draws of a push the chart of the book.
 abbrev pub PushesAreDrawn : Type 0
@@ -34,3 +36,15 @@ LiveRepliesAreOne =
 abbrev pub PushesAreOne : Type 0
 PushesAreOne =
     (frame other : Frame) (old new behind : LiveState) → Pushed frame old new → Pushed other old behind → (frame ≡ other) × (new ≡ behind)
+
+-- And so are the frames of edits that are done together.
+abbrev pub GroupsAreOne : Type 0
+GroupsAreOne =
+    (edits : List Edit) (frames others : List Frame) (old new behind : LiveState)
+    → GroupReplied edits frames old new → GroupReplied edits others old behind → (frames ≡ others) × (new ≡ behind)
+
+-- One edit that is done as a group is answered, and pushed, as the line that spells it.
+abbrev pub GroupsOfOneAreLines : Type 0
+GroupsOfOneAreLines =
+    (line : List ℕ) (edit : Edit) (frame : Frame) (old new : LiveState)
+    → SpellsEdit (Some line) edit → length line ≤ 8192 → GroupReplied (edit ∷ []) (frame ∷ []) old new ↔ LiveReplied (Some line) frame old new

@@ -2,6 +2,7 @@
 use Rattle.std.specs.Prelude.{ℕ, ◌≡◌, List, [], ◌∷◌, Option, None, Some}
 use Rattle.chart_frames.specs.declared.frame.Frame.{Frame}
 use Rattle.chart_frames.specs.declared.frame.Frame.TheVariants.{Done, Refused, Opened, Closed, View as ViewOf, Rows, Live}
+use Rattle.chart_service.specs.EditGroups.{RepliesToEdits}
 use Rattle.chart_service.specs.Replies.{Replied, own_zoom}
 use Rattle.chart_service.specs.State.{State}
 use Rattle.chart_service.specs.Stepping.{RepliedTo, ReadsLast}
@@ -10,8 +11,10 @@ use Rattle.live_view.specs.declared.live_lines.LiveLine.TheVariants.{Follow, Unf
 use Rattle.live_view.specs.declared.meaning.Meaning.{Meaning}
 use Rattle.live_view.specs.declared.meaning.Meaning.TheVariants.{View, Edit, Other}
 use Rattle.live_view.specs.Lines.{live_line}
-use Rattle.live_view.specs.Meaning.{meaning_of}
+use Rattle.live_view.specs.Groups.{followers_of}
+use Rattle.live_view.specs.Meaning.{meaning_of, name_of}
 use Rattle.live_view.specs.Replies.{refused, follow_reply, unfollow_reply, followed_by, ended, still_followed, followers}
+use Rattle.series_book.specs.declared.edits.Edit.{Edit as OneEdit}
 use Rattle.series_book.specs.declared.one_series.Series.{Series}
 use Rattle.series_book.specs.declared.refusals.Refusal.TheVariants.{BadLine}
 use Rattle.series_book.specs.Edits.{id_of}
@@ -68,6 +71,19 @@ RepliesTo OtherLine text frame old new = PassesOn text frame old new
 abbrev pub LiveReplied : Option (List ℕ) → Frame → LiveState → LiveState → Type 0
 LiveReplied None frame old new = RefusesLong frame old new
 LiveReplied (Some text) frame old new = RepliesTo (live_line text) text frame old new
+
+-- of each edit the series of a book that was changed by it, as the frame says that answers it; none where the edit wasn't done
+abbrev pub changed_by : List Series → List OneEdit → List Frame → List (Option ℕ)
+changed_by book [] frames = []
+changed_by book (edit ∷ later) [] = []
+changed_by book (edit ∷ later) (frame ∷ frames) = changed_in book (Edit (name_of edit)) frame ∷ changed_by book later frames
+
+-- Edits are done together, each answered as by the service alone. A frame is to be pushed to each followed session whose last
+-- view is of a series of which one was done, also one that left the book as it was.
+pub record GroupReplied (edits : List OneEdit) (frames : List Frame) (old new : LiveState) : Type 0 where
+  pub replied : RepliesToEdits edits frames old.state new.state
+  pub followed_same : new.followed ≡ old.followed
+  pub pending_now : new.pending ≡ followers_of (changed_by new.state.book edits frames) new.state.sessions old.followed
 
 -- the next push: the reply to a zoom of its session to the window of that session's own last view
 pub record Pushed (frame : Frame) (old new : LiveState) : Type 0 where

@@ -1,5 +1,5 @@
 -- What a live service shows.
-use Rattle.std.specs.Prelude.{ℕ, ◌⊎◌, List, Option}
+use Rattle.std.specs.Prelude.{◌≡◌, ℕ, ◌⊎◌, List, ◌++◌, Option}
 use Rattle.block_disk.specs.View.{Image, View, Passes}
 use Rattle.block_disk.specs.declared.streams.Streams.{Ghosts as StreamGhosts}
 use Rattle.chart_frames.specs.declared.frame.Frame.{Frame}
@@ -8,6 +8,7 @@ use Rattle.gate_pages.specs.declared.pages.Pages.{Ghosts}
 use Rattle.live_view.specs.declared.live.Live.{Live}
 use Rattle.live_view.specs.declared.stepper.Stepper.{Ghosts as StepperGhosts}
 use Rattle.live_view.specs.Live as live
+use Rattle.series_book.specs.declared.edits.Edit.{Edit}
 use Rattle.series_book.specs.declared.one_series.Series.{Series}
 use Rattle.chart_service.specs.Called as called
 use Rattle.chart_service.specs.Shown as shown
@@ -17,7 +18,7 @@ use Rattle.chart_service.specs.declared.failure.ServiceError.{ServiceError}
 use Rattle.chart_service.specs.declared.service.Service.{Service}
 use Rattle.stored_book.specs.Standing.{StandsForBook}
 use Rattle.live_service.specs.declared.stepper.ServiceStepper.{ServiceStepper}
-use Rattle.live_service.specs.LiveReplies.{LiveState, ReadsPush}
+use Rattle.live_service.specs.LiveReplies.{GroupReplied, LiveState, ReadsPush}
 
 -- the live state over a state of the service
 abbrev pub live_of : State → List ℕ → List ℕ → LiveState
@@ -33,6 +34,17 @@ pub record IsAfterAnswer (Reply : Frame → LiveState → LiveState → Type 0) 
 -- they stand for the book from before, or for the one that an answer leaves
 abbrev pub IsBeforeOrAfter : (Frame → LiveState → LiveState → Type 0) → ℕ → LiveState → Image → Type 0
 IsBeforeOrAfter Reply total old image = StandsForBook image total old.state.book ⊎ IsAfterAnswer Reply total old image
+
+-- some first of the edits are done, and the pages stand for the book then
+pub record DoesSome (edits : List Edit) (old : LiveState) (image : Image) : Type 0 where
+  pub first : List Edit
+  pub later : List Edit
+  pub edits_are : edits ≡ first ++ later
+  pub frames : List Frame
+  pub after : LiveState
+  pub replied : GroupReplied first frames old after
+  pub total_is : after.state.total ≡ old.state.total
+  pub stands : StandsForBook image old.state.total after.state.book
 
 module _ {P : Type 0} {g : Ghosts P} {h : StepperGhosts (ServiceStepper P g) ServiceError} {streams : StreamGhosts (ServiceStepper P g)} where
   abbrev pub service : Live (ServiceStepper P g) ServiceError h streams → Service P g

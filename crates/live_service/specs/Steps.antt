@@ -1,5 +1,5 @@
 -- What a service's answer to a line does, and a repeat of a view: all that the contracts of these calls say.
-use Rattle.std.specs.Prelude.{ℕ, ◌≡◌, List, [], Some, Result, Err, IfOk, IfErr, OnErr}
+use Rattle.std.specs.Prelude.{ℕ, ◌≡◌, ◌≢◌, ◌≤◌, ◌+◌, ◌*◌, List, [], length, None, Some, Result, Err, IfOk, IfErr, OnErr}
 use Rattle.block_disk.specs.Counts.{HasRisen}
 use Rattle.block_disk.specs.View.{Now}
 use Rattle.chart_frames.specs.declared.frame.Frame.{Frame}
@@ -10,14 +10,16 @@ use Rattle.chart_service.specs.Alone.{session_named}
 use Rattle.chart_world.specs.Faults.{CountsFault, fault_in}
 use Rattle.chart_service.specs.Faulting.{step_fault}
 use Rattle.chart_service.specs.Called.{AnswersSo, CommitsOnly, ForLast, IsCause, IsCauseOfLine, ReadsFewFor}
+use Rattle.chart_service.specs.EditGroups.{AnswersSome, RepliesToEdits}
 use Rattle.chart_service.specs.Opening.{OpensBy, LosesAtMost}
 use Rattle.chart_service.specs.Replies.{Replied, line_text, own_zoom}
 use Rattle.chart_service.specs.Shown as shown
 use Rattle.chart_service.specs.Stepping.{RepliedTo, NamesBad, IsOutside, Steps, ReadsFew}
-use Rattle.chart_service.specs.Syncing.{edit_of}
+use Rattle.chart_service.specs.Syncing.{edit_of, group_syncs}
 use Rattle.chart_service.specs.declared.failure.ServiceError.{ServiceError}
 use Rattle.chart_service.specs.declared.failure.ServiceError.TheVariants.{DiskFault}
 use Rattle.chart_service.specs.declared.service.Service.{Service}
+use Rattle.series_book.specs.declared.edits.Edit.{Edit}
 
 module _ {P : Type 0} {g : Ghosts P} where
   -- a line is answered, or why it isn't
@@ -53,3 +55,30 @@ module _ {P : Type 0} {g : Ghosts P} where
     pub steps : Steps (shown.IsTold old) (shown.IsTold new) (shown.view old) (shown.view new)
     pub goes_on : GoesOn (shown.under old) (shown.under new)
     pub total : shown.total new ≡ shown.total old
+
+  -- what edits do that are done together, answered or not
+  pub record DoesTogether (edits : List Edit) (old new : Service P g) : Type 0 where
+    pub moments : shown.ForBook old (λ total book. shown.PassesTo (AnswersSome edits (shown.state old total book)) old new)
+    pub reads : shown.ForBook old (λ total book. (shown.view new).reads ≤ (shown.view old).reads + 96 * length edits)
+    pub syncs : shown.ForBook old (λ total book. (shown.view new).syncs ≤ (shown.view old).syncs + group_syncs total book edits)
+    pub sessions : shown.sessions new ≡ shown.sessions old
+    pub moves : shown.MovesSo old new
+    pub goes_on : GoesOn (shown.under old) (shown.under new)
+    pub total : shown.total new ≡ shown.total old
+
+  -- they are answered by these frames
+  pub record AnswersEdits (edits : List Edit) (frames : List Frame) (old new : Service P g) : Type 0 where
+    pub reply : shown.ForBook old (λ total book. shown.StandsSo total new (RepliesToEdits edits frames (shown.state old total book)))
+    pub left : shown.ForBook old (λ total book. AnswersSome edits (shown.state old total book) (shown.image new))
+    pub does : DoesTogether edits old new
+    pub faults : CountsFault None (shown.view old) (shown.view new)
+
+  -- or why they aren't
+  pub record LosesEdits (edits : List Edit) (error : ServiceError) (old new : Service P g) : Type 0 where
+    pub standing : shown.ForBook old (λ total book. IsOutside error)
+    pub left : shown.ForBook old (λ total book. error ≢ DiskFault → AnswersSome edits (shown.state old total book) (shown.image new))
+    pub does : DoesTogether edits old new
+    pub disk : error ≡ DiskFault → HasRisen (shown.view old).faults (shown.view new).faults
+    pub faults : CountsFault (step_fault error) (shown.view old) (shown.view new)
+    pub bad : NamesBad (shown.IsTold new) (shown.view new).size (shown.image new) error
+    pub sound : error ≢ DiskFault → (shown.view new).fit

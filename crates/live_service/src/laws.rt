@@ -6,8 +6,9 @@ ghost use Rattle.chart_service.specs.State.{IsSound};
 ghost use Rattle.drawn_replies.specs.Mirrors.{Mirrors, OnlyLacksMemory};
 ghost use Rattle.chart_service.specs.Replies.{line_text};
 ghost use Rattle.live_service.specs.Following.{FollowsWell, ShowsView};
-ghost use Rattle.live_service.specs.LiveReplies.{LiveState, LiveReplied, Pushed};
-ghost use Rattle.live_service.specs.Laws.{PushesAreDrawn, LinesAreDrawn, LinesAreAccepted, LiveRepliesAreOne, PushesAreOne};
+ghost use Rattle.live_service.specs.LiveReplies.{GroupReplied, LiveState, LiveReplied, Pushed};
+ghost use Rattle.live_service.specs.Laws.{PushesAreDrawn, LinesAreDrawn, LinesAreAccepted, LiveRepliesAreOne, PushesAreOne, GroupsAreOne, GroupsOfOneAreLines};
+ghost use Rattle.series_book.specs.declared.edits.Edit.{Edit};
 
 use chart_service::laws::replies_are_one;
 use drawn_replies::laws::{clients_draw_requests, clients_draw_the_book};
@@ -41,6 +42,8 @@ pub fn followed_sessions_can_follow()
     ensures first { (live : LiveState) → live.followed ≡ [] → live.pending ≡ [] → FollowsWell live }
     ensures lines { (line : List ℕ) (frame : Frame) (old new : LiveState) →
         FollowsWell old → LiveReplied (line_text line) frame old new → FollowsWell new }
+    ensures groups { (edits : List Edit) (frames : List Frame) (old new : LiveState) →
+        FollowsWell old → GroupReplied edits frames old new → FollowsWell new }
     ensures pushes { (frame : Frame) (old new : LiveState) → FollowsWell old → Pushed frame old new → FollowsWell new }
 {}
 
@@ -51,11 +54,18 @@ pub fn pushes_show_views()
     followed_views_fit();
 }
 
-/// Each line has one answer of a live service, and each push is one: the frame, and what the service holds behind it, are
+/// Each line has one answer of a live service, and so have edits that are done together, and each push is one: the frame, and what the service holds behind it, are
 /// determined by what it holds before.
 pub fn live_replies_are_one()
     ensures lines { LiveRepliesAreOne }
+    ensures groups { GroupsAreOne }
     ensures pushes { PushesAreOne }
 {
     replies_are_one();
 }
+
+/// One edit that is done as a group is answered, and pushed, as the line that spells it. So what is said of groups is said
+/// of lines too, of which each is one.
+pub fn groups_of_one_are_lines()
+    ensures { GroupsOfOneAreLines }
+{}

@@ -5,6 +5,8 @@
 //! - `step_line` and `push` say over the plain book what a live service answers: a line by the reply that the
 //!   service gives, or by a frame of kind 7; and behind an edit that was done, for each session that follows its
 //!   series, by rising number, the reply to a zoom to that view's own window.
+//! - `step_edits` says the same of edits that are done together: behind them one push for each session that follows one of
+//!   their series.
 //! - Of what was pushed the client draws the chart of the book behind the edit (`laws`).
 //!
 //! Between calls what holds of a service and of a `Live` holds. A push commits nothing: a crash leaves then what it
@@ -17,5 +19,5 @@ pub mod stepper;
 mod stepping;
 mod streams;
 
-pub use answering::{push, step_line};
+pub use answering::{push, step_edits, step_line};
 pub use stepper::ServiceStepper;

@@ -2,14 +2,14 @@
 ghost use Rattle.std.specs.Prelude.{◌≡◌};
 ghost use Rattle.series_book.specs.Edits.{id_of};
 ghost use Rattle.chart_service.specs.Shown as shown;
-ghost use Rattle.live_service.specs.Steps.{AnswersLine, RepeatsView};
+ghost use Rattle.live_service.specs.Steps.{AnswersEdits, AnswersLine, LosesEdits, RepeatsView};
 
 use crate::stepper::ServiceStepper;
 use chart_frames::Frame;
 use chart_service::ServiceError;
 use gate_pages::PageWorld;
 use live_view::Stepper;
-use series_book::Name;
+use series_book::{Edit, Name};
 use zoom_session::ViewSpec;
 
 impl<P: PageWorld> Stepper for ServiceStepper<P> {
@@ -26,8 +26,19 @@ impl<P: PageWorld> Stepper for ServiceStepper<P> {
 
     ghost repeats = { λ old session result new. RepeatsView session result old.service new.service };
 
+    ghost does_edits = { λ old edits frames new. AnswersEdits edits frames old.service new.service };
+
+    ghost fails_edits = { λ old edits error new. LosesEdits edits error old.service new.service };
+
     fn step_line(&mut self, line: &[u8]) -> Result<Frame, ServiceError> {
         self.service.step_line(line)
+    }
+
+    fn step_edits(&mut self, edits: &[Edit]) -> Result<Vec<Frame>, ServiceError> {
+        match self.service.step_edits(edits) {
+            Ok(frames) => Ok(frames),
+            Err(error) => Err(error),
+        }
     }
 
     fn repeat(&mut self, session: u32) -> Result<Frame, ServiceError> {

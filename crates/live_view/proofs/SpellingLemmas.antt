@@ -10,7 +10,9 @@ use Rattle.whole_number.specs.Numbers.{is_natural, natural_value}
 use Rattle.whole_number.specs.Spelling.{SpellsNatural}
 use Rattle.whole_number.proofs.Tests.{natural_spelt, spelt_natural}
 use Rattle.request_lines.specs.declared.places.Place.TheVariants.{Session}
-use Rattle.request_lines.specs.Grammar.{allows, fault, ending_fault}
+use Rattle.request_lines.specs.Grammar.{allows, fault, ending_fault, fault_of, kind_fault, kind_of, tokens_fault}
+use Rattle.request_lines.specs.Requests.{named, read_by, read_line}
+use Rattle.request_lines.specs.declared.requests.Request.{Request}
 use Rattle.request_lines.specs.Tokens.{tokens}
 use Rattle.request_lines.proofs.Spelt.{natural_back}
 use Rattle.chart_frames.specs.Frames.{IsSession}
@@ -142,3 +144,42 @@ unfollows-spelt line n = (
       let parts = asks-unfollow (length line) n (tokens line) (sym (asks-short line short) ∙ is) in (short, parts.0, parts.1)),
   (λ spells. asks-short line spells.0 ∙ ap (tokens_ask (length line)) spells.1 ∙ ap unfollows (spelt-alone (length line) 9 n spells.2)),
 )
+
+-- ---- lines that spell requests
+
+follow-unknown : kind_of (codes "follow") ≡ None
+unfolding kind_of
+follow-unknown = refl
+
+unfollow-unknown : kind_of (codes "unfollow") ≡ None
+unfolding kind_of
+unfollow-unknown = refl
+
+-- a line whose first word is unknown spells no request
+never-read : (end : ℕ) (word known : List ℕ) (others : List (List ℕ)) (r : Request) → word ≡ known → kind_of known ≡ None → read_by (tokens_fault end (word ∷ others)) (named (word ∷ others)) ≡ Ok r → ⊥
+never-read end word known others r same none read =
+    let unknown : kind_of word ≡ None = ap kind_of same ∙ none in
+    let bad : read_by (tokens_fault end (word ∷ others)) (named (word ∷ others)) ≡ Err 0 = ap (λ k. read_by (kind_fault end k others (length word + 1)) (named (word ∷ others))) unknown in
+    let clash : ◌≡◌ {A = Result Request ℕ} (Err 0) (Ok r) = sym bad ∙ read in
+    cc
+
+asks-nothing : (end : ℕ) (ts : List (List ℕ)) (r : Request) → read_by (tokens_fault end ts) (named ts) ≡ Ok r → tokens_ask end ts ≡ Other
+asks-nothing end [] r read = refl
+asks-nothing end (word ∷ others) r read =
+    let answer : Result ℕ ℕ = session_alone end others (length word + 1) in
+    (elim (bytes_eq word (codes "follow")) as (λ b. bytes_eq word (codes "follow") ≡ b
+    → (if b then follows answer else if bytes_eq word (codes "unfollow") then unfollows answer else Other) ≡ Other) [
+      | true ↦ λ is. absurd (never-read end word (codes "follow") others r ((bytes_eq-Decides word (codes "follow")).0 is) follow-unknown read)
+      | false ↦ λ not. (elim (bytes_eq word (codes "unfollow")) as (λ b. bytes_eq word (codes "unfollow") ≡ b → (if b then unfollows answer else Other) ≡ Other) [
+        | true ↦ λ is. absurd (never-read end word (codes "unfollow") others r ((bytes_eq-Decides word (codes "unfollow")).0 is) unfollow-unknown read)
+        | false ↦ λ other. refl
+      ]) refl
+    ]) refl
+
+pub request-asks-nothing : (line : List ℕ) (r : Request) → read_line line ≡ Ok r → live_line line ≡ Other
+unfolding live_line read_line fault_of
+request-asks-nothing line r read =
+    elim (ltb 8192 (length line)) as (λ b. (if b then Other else tokens_ask (length line) (tokens line)) ≡ Other) [
+      | true ↦ refl
+      | false ↦ asks-nothing (length line) (tokens line) r read
+    ]

@@ -2,6 +2,7 @@
 use Rattle.std.specs.Prelude.{ℕ, ◌≡◌, List, [], ◌∷◌, Option, Result, Ok, Err, refl}
 use Rattle.std.proofs.Common.{◌∙◌}
 use Rattle.block_disk.specs.declared.streams.Streams.{Ghosts as StreamGhosts}
+use Rattle.series_book.specs.declared.edits.Edit.{Edit}
 use Rattle.series_book.specs.declared.refusals.Refusal.TheVariants.{BadLine}
 use Rattle.chart_frames.specs.declared.frame.Frame.{Frame}
 use Rattle.zoom_session.specs.declared.session.Session.{Session}
@@ -12,6 +13,7 @@ use Rattle.live_view.specs.declared.live.Live.{Live}
 use Rattle.live_view.specs.declared.live_lines.LiveLine.{LiveLine}
 use Rattle.live_view.specs.declared.live_lines.LiveLine.TheVariants.{Follow, Unfollow, Bad, Other}
 use Rattle.live_view.specs.declared.stepper.Stepper.{Ghosts}
+use Rattle.live_view.specs.Groups.{ArePushedTo}
 use Rattle.live_view.specs.Lines.{live_line}
 use Rattle.live_view.specs.Meaning.{meaning_of}
 use Rattle.live_view.specs.Replies.{refused, follow_reply, unfollow_reply, followed_by, ended, still_followed, followers, Changes}
@@ -82,6 +84,32 @@ module _ {S F : Type 0} {g : Ghosts S F} {streams : StreamGhosts S} where
   abbrev pub Fails : List ℕ → LiveFault F → Live S F g streams → Live S F g streams → Type 0
   Fails line (Stepper fault) old new = FailsAt line fault old new
   Fails line NoMemory old new = Stays old new
+
+  -- Edits are done together, each answered by its frame. A push is pending then for each session that follows a series of
+  -- which one was done.
+  pub record DoesEdits (edits : List Edit) (frames : List Frame) (old new : Live S F g streams) : Type 0 where
+    pub done : g.does_edits old.stepper edits frames new.stepper
+    pub followed_same : followed new ≡ followed old
+    pub pushed_to : ArePushedTo (g.names new.stepper) (sessions new) edits frames (followed old) (pending new)
+
+  -- what does the edits failed at them; no push is pending
+  pub record FailsAtEdits (edits : List Edit) (fault : F) (old new : Live S F g streams) : Type 0 where
+    pub failed : g.fails_edits old.stepper edits fault new.stepper
+    pub followed_same : followed new ≡ followed old
+    pub idle : IsIdle new
+
+  -- they are done, but there was no memory to tell whom to push to; no push is pending
+  pub record DoesUntold (edits : List Edit) (old new : Live S F g streams) : Type 0 where
+    pub frames : List Frame
+    pub done : g.does_edits old.stepper edits frames new.stepper
+    pub fit : g.fit new.stepper
+    pub followed_same : followed new ≡ followed old
+    pub idle : IsIdle new
+
+  -- why edits aren't answered, and what that leaves
+  abbrev pub EditsFail : List Edit → LiveFault F → Live S F g streams → Live S F g streams → Type 0
+  EditsFail edits (Stepper fault) old new = FailsAtEdits edits fault old new
+  EditsFail edits NoMemory old new = DoesUntold edits old new
 
   -- the first pending push is made, with this answer of a repeat of its session
   pub record Repeats (answer : Result Frame F) (old new : Live S F g streams) : Type 0 where

@@ -1,14 +1,17 @@
 //! What follows from the definitions. The functions do nothing: their contracts are the laws.
-ghost use Rattle.std.specs.Prelude.{◌≡◌, ◌≢◌, ◌⊎◌, ◌↔◌, ℕ, ◌≤◌, List, Contains, Some, codes};
+ghost use Rattle.std.specs.Prelude.{◌≡◌, ◌≢◌, ◌⊎◌, ◌↔◌, ℕ, ◌≤◌, List, [], ◌∷◌, Contains, Option, Some, Ok, codes};
 ghost use Rattle.std.specs.List.Sorted.{IsStrictlyIncreasing};
 ghost use Rattle.coefficient_cache.specs.Caches.{IsCapacity};
+ghost use Rattle.request_lines.specs.declared.requests.Request.{Request};
+ghost use Rattle.request_lines.specs.Requests.{read_line};
 ghost use Rattle.zoom_session.specs.declared.session.Session.{Session};
 ghost use Rattle.zoom_session.specs.declared.view_spec.ViewSpec.{ViewSpec};
-ghost use Rattle.live_view.specs.declared.live_lines.LiveLine.TheVariants.{Follow, Unfollow};
+ghost use Rattle.live_view.specs.declared.live_lines.LiveLine.TheVariants.{Follow, Unfollow, Other};
+ghost use Rattle.live_view.specs.Groups.{followers_of};
 ghost use Rattle.live_view.specs.Lines.{live_line, SpellsWith};
 ghost use Rattle.live_view.specs.Numbers.{with_number, without_number};
 ghost use Rattle.live_view.specs.Replies.{FollowsUnfiltered, followers};
-ghost use Rattle.live_view.specs.Laws.{EditsGoToFollowers, FollowedViewsFit};
+ghost use Rattle.live_view.specs.Laws.{EditsGoToFollowers, FollowedViewsFit, GroupsGoToFollowers};
 
 use view_keys::laws::keys_of_a_view_are_few;
 
@@ -16,6 +19,8 @@ use view_keys::laws::keys_of_a_view_are_few;
 pub fn lines_spell_followings()
     ensures follow { (line : List ℕ) (n : ℕ) → (live_line line ≡ Follow n) ↔ SpellsWith (codes "follow") n line }
     ensures unfollow { (line : List ℕ) (n : ℕ) → (live_line line ≡ Unfollow n) ↔ SpellsWith (codes "unfollow") n line }
+    // a line that spells a request asks for neither
+    ensures requests { (line : List ℕ) (request : Request) → read_line line ≡ Ok request → live_line line ≡ Other }
 {}
 
 /// Numbers that rise go on to rise with one more and with one less, and have just these.
@@ -32,6 +37,16 @@ pub fn edits_go_to_followers()
     ensures just { EditsGoToFollowers }
     ensures rising { (series : ℕ) (sessions : List Session) (followed : List ℕ) →
         IsStrictlyIncreasing followed → IsStrictlyIncreasing (followers (Some series) sessions followed) }
+{}
+
+/// Edits that are done together are pushed to just the followed sessions whose last view is one of a series that one of
+/// them changed, each of them once, by rising number. One edit is pushed to the same sessions as alone.
+pub fn groups_go_to_followers()
+    ensures just { GroupsGoToFollowers }
+    ensures rising { (series : List (Option ℕ)) (sessions : List Session) (followed : List ℕ) →
+        IsStrictlyIncreasing followed → IsStrictlyIncreasing (followers_of series sessions followed) }
+    ensures one { (series : Option ℕ) (sessions : List Session) (followed : List ℕ) →
+        followers_of (series ∷ []) sessions followed ≡ followers series sessions followed }
 {}
 
 /// Where a session is followed by a view without a filter, no view without one on as many columns needs more

@@ -13,6 +13,7 @@
 
 pub mod errors;
 pub mod following;
+mod grouping;
 pub mod laws;
 pub mod live;
 pub mod live_lines;

@@ -1,15 +1,17 @@
 //! What answers the lines of a live view's sessions.
-ghost use Rattle.std.specs.Prelude.{ℕ, ◌≡◌, ◌≢◌, ◌≤◌, List, Option, Result, IfOk, OnOk, IsTrue};
+ghost use Rattle.std.specs.Prelude.{ℕ, ◌≡◌, ◌≢◌, ◌≤◌, ◌<◌, List, All, length, Option, Result, IfOk, IfErr, OnOk, IsTrue};
 ghost use Rattle.std.specs.Option.{option_copied};
 ghost use Rattle.chart_frames.specs.declared.frame.Frame.{Frame};
 ghost use Rattle.chart_frames.specs.Frames.{Fits};
+ghost use Rattle.series_book.specs.declared.edits.Edit.{Edit};
+ghost use Rattle.series_book.specs.Edits.{IsEdit};
 ghost use Rattle.zoom_session.specs.declared.session.Session.{Session};
 ghost use Rattle.zoom_session.specs.Sessions.{session_of, last_of, cache_of, AreSessions};
 ghost use Rattle.live_view.specs.Sessions.{has_view, OpensBy, AreOpenAlike};
 
 use block_disk::Streams;
 use chart_frames::Frame;
-use series_book::Name;
+use series_book::{Edit, Name};
 use zoom_session::ViewSpec;
 
 /// A server that answers lines one by one, as a service over pages does.
@@ -32,12 +34,31 @@ pub trait Stepper: Streams {
     /// The same of a zoom of a session to the window of its own last view.
     ghost repeats: { Self → ℕ → Result Frame Self.Fault → Self → Type 0 };
 
+    /// What doing edits together may leave, where it answers by these frames.
+    ghost does_edits: { Self → List Edit → List Frame → Self → Type 0 };
+
+    /// Why edits weren't answered, and what that may leave.
+    ghost fails_edits: { Self → List Edit → Self.Fault → Self → Type 0 };
+
     /// Answers a line.
     fn step_line(&mut self, line: &[u8]) -> Result<Frame, Self::Fault>
         requires { fit self.old }
         ensures reply { replies self.old line.now result self.new }
         ensures fits { IfOk result Fits }
         ensures opens { IfOk result (λ frame. OpensBy frame (sessions self.old) (sessions self.new)) }
+        ensures fit { OnOk result (fit self.new) };
+
+    /// Does 1 to 64 edits together, and answers each by its frame. The sessions stay.
+    fn step_edits(&mut self, edits: &[Edit]) -> Result<Vec<Frame>, Self::Fault>
+        requires fit { fit self.old }
+        requires some { 0 < length edits.now }
+        requires few { length edits.now ≤ 64 }
+        requires are_edits { All IsEdit edits.now }
+        ensures reply { IfOk result (λ frames. does_edits self.old edits.now frames.items self.new) }
+        ensures fails { IfErr result (λ fault. fails_edits self.old edits.now fault self.new) }
+        ensures each { IfOk result (λ frames. length frames.items ≡ length edits.now) }
+        ensures fits { IfOk result (λ frames. All Fits frames.items) }
+        ensures same_sessions { sessions self.new ≡ sessions self.old }
         ensures fit { OnOk result (fit self.new) };
 
     /// Answers a zoom of a session to the window of its own last view. Other sessions keep their last views.
