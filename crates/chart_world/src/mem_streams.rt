@@ -1,6 +1,6 @@
 //! What a world in memory takes and sends.
 ghost use Rattle.std.proofs.Common.{◌∙◌};
-ghost use Rattle.std.specs.Prelude.{◌≡◌, ◌<◌, ◌+◌, ◌++◌, ◌∷◌, ◌⊎◌, ◌/◌, ◌↔◌, ℕ, [], Some, min, length, take, drop, IsErr, IfOk, OnOk, OnErr, Contains, refl, if◌then◌else◌};
+ghost use Rattle.std.specs.Prelude.{◌≡◌, ◌≤◌, ◌<◌, ◌+◌, ◌++◌, ◌∷◌, ◌⊎◌, ◌/◌, ◌↔◌, ℕ, [], Some, min, length, take, drop, IsErr, IfOk, OnOk, OnErr, Contains, refl, if◌then◌else◌};
 ghost use Rattle.std.specs.Bool.{OnTrue, OnFalse};
 ghost use Rattle.block_disk.specs.Counts.{counted};
 ghost use Rattle.block_disk.specs.MemDisk.{alone};

@@ -9,7 +9,7 @@ pub returns-then-count-gt0-clause-front : goal.returns-then-count-gt0-clause-fro
 returns-then-count-gt0-clause-front g c = rw c.as_slice.ensures.value at c.move_front-count.ensures.front
 
 pub returns-then-count-gt0-clause-fills : goal.returns-then-count-gt0-clause-fills
-returns-then-count-gt0-clause-fills g c = rw (c.as_slice.ensures.value, c.requires) at c.move_front-count.ensures.count
+returns-then-count-gt0-clause-fills g c = rw c.as_slice.ensures.value at c.move_front-count.ensures.count
 
 pub returns-else-count-gt0-clause-left : goal.returns-else-count-gt0-clause-left
 returns-else-count-gt0-clause-left g c = sym (drop-drop c.move_front-count.result c.args.self.now.at c.args.self.now.input.items)
@@ -18,4 +18,4 @@ pub returns-else-count-gt0-clause-front : goal.returns-else-count-gt0-clause-fro
 returns-else-count-gt0-clause-front g c = rw c.as_slice.ensures.value at c.move_front-count.ensures.front
 
 pub returns-else-count-gt0-clause-fills : goal.returns-else-count-gt0-clause-fills
-returns-else-count-gt0-clause-fills g c = rw (c.as_slice.ensures.value, c.requires) at c.move_front-count.ensures.count
+returns-else-count-gt0-clause-fills g c = rw c.as_slice.ensures.value at c.move_front-count.ensures.count
