@@ -1,4 +1,5 @@
 pub mod ExportLemmas
+pub mod PieceLemmas
 pub mod FaultLemmas
 pub mod CutLemmas
 pub mod SetLemmas

@@ -1,5 +1,5 @@
 -- The laws of exports that are loaded again.
-use Rattle.std.specs.Prelude.{◌≡◌, ◌≤◌, ℕ, List, [], Option, None}
+use Rattle.std.specs.Prelude.{◌≡◌, ◌≤◌, ℕ, List, [], ◌++◌, length, Option, None, Some}
 use Rattle.block_disk.specs.View.{Image}
 use Rattle.series_book.specs.declared.one_series.Series.{Series}
 use Rattle.series_book.specs.Books.{IsSeries}
@@ -8,7 +8,9 @@ use Rattle.series_load.specs.Ends.{IsLoaded}
 use Rattle.series_load.specs.Rows.{Reading, ReadsRows}
 use Rattle.series_load.specs.Runs.{Run, AllRuns}
 use Rattle.series_load.specs.Sets.{IsNamed, Loads}
-use Rattle.series_export.specs.Exports.{stored_values, export_text}
+use Rattle.series_export.specs.Exports.{stored_values, export_text, header, lines_of}
+use Rattle.series_export.specs.Pieces.{AreBefore, Piece, ArePieces, readings_in}
+use Rattle.series_export.specs.declared.window.Window.{Window}
 use Rattle.series_export.specs.RoundTrips.{values_of, IsBegunAs, HoldsNamed, StandsForSame}
 use Rattle.series_export.specs.Room.{HasNewFor, HasRoomFor, AreRunsOf, Accepts, GoesThrough}
 
@@ -44,3 +46,16 @@ abbrev pub ExportsGoThrough : Type 0
 ExportsGoThrough =
     (total : ℕ) (name : List ℕ) (book : List Series) (series begun : Series)
     → IsSeries series → HasRoomFor total name book series → IsNamed book name begun → GoesThrough total name book begun (export_text series None)
+
+-- Of the pieces of a window, one behind the other, comes the export of the window, line by line.
+abbrev pub PiecesAreTheExport : Type 0
+PiecesAreTheExport =
+    (series : Series) (window : Window) (from to : ℕ) (pieces : List Piece)
+    → AreBefore series window.from from → AreBefore series window.to to → ArePieces series.slots from to pieces
+    → export_text series (Some window) ≡ header ++ lines_of series.scale (readings_in series pieces)
+
+-- And of those of all slots comes the whole export.
+abbrev pub PiecesAreTheWholeExport : Type 0
+PiecesAreTheWholeExport =
+    (series : Series) (pieces : List Piece)
+    → ArePieces series.slots 0 (length series.slots) pieces → export_text series None ≡ header ++ lines_of series.scale (readings_in series pieces)

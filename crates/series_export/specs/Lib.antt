@@ -2,4 +2,5 @@ pub mod Exports
 pub mod Faults
 pub mod RoundTrips
 pub mod Room
+pub mod Pieces
 pub mod Laws

@@ -7,7 +7,7 @@ ghost use Rattle.series_export.specs.Exports.{export_text};
 ghost use Rattle.series_export.specs.RoundTrips.{HoldsSame};
 ghost use Rattle.series_export.specs.Room.{HasRoomFor, AcceptsRunsOf, LoadsBack};
 ghost use Rattle.series_export.specs.declared.window.Window.{Window};
-ghost use Rattle.series_export.specs.Laws.{SetsHoldTheSame, RowsAreTheValues, LoadedExportsAreTheSame, RoomIsNeeded, ExportsGoThrough};
+ghost use Rattle.series_export.specs.Laws.{SetsHoldTheSame, RowsAreTheValues, LoadedExportsAreTheSame, RoomIsNeeded, ExportsGoThrough, PiecesAreTheExport, PiecesAreTheWholeExport};
 
 use csv_load::laws::{one_answer, plain_lines};
 use reading_lines::laws::{lines_are_plain, lines_are_read_back};
@@ -50,3 +50,10 @@ pub fn exports_load_where_there_is_room()
     plain_lines();
     runs_are_one();
 }
+
+/// Pieces of a window, each asked for from where the one before it ends, have all its values: of them comes the
+/// export of the window, line by line.
+pub fn pieces_are_the_export()
+    ensures window { PiecesAreTheExport }
+    ensures whole { PiecesAreTheWholeExport }
+{}
