@@ -17,7 +17,7 @@ use Rattle.program_words.specs.declared.words.Command.{Command}
 use Rattle.program_words.specs.declared.words.Command.TheVariants.{Plot, Load, Demo, Run, Serve, Draw, Init}
 use Rattle.program_words.specs.declared.words.Command.TheVariants.{Check, ListSeries, Export, Retain, Cover, Live, Derive}
 use Rattle.series_book.specs.declared.one_series.Series.{Series}
-use Rattle.served_fronts.specs.Fronts.{Draws}
+use Rattle.served_fronts.specs.Fronts.{Draws, Covers}
 use Rattle.served_fronts.specs.Headline.{IsRun}
 use Rattle.served_fronts.specs.Headline.Task.{serves, runs, watches, looks, changes}
 use Rattle.served_fronts.specs.Servings.{SendsFirstBytes, ServingsAreExact, TextsAreExact}
@@ -299,6 +299,22 @@ drawing old new input left' before now faults code place e (suc (suc (suc (suc (
 drawing old new input left' before now faults code place e (suc (suc (suc (suc (suc (suc k))))), inside, is) =
     absurd (omega (arith, inside))
 
+-- and with covers
+covering : (every : ℕ) (old new : View) (input : List ℕ) (left' before now : Option (List ℕ)) (faults : Faults) (code place : ℕ)
+    → CommandEnds (Cover every) old new (Some input) left' before now faults code place → Contains drawing_codes code → Covers every input left' before now
+covering every old new input left' before now faults code place e (zero, inside, is) = inl (e.done (sym is))
+covering every old new input left' before now faults code place e (suc zero, inside, is) = inr (draw_end.BadFrame place, tt, e.bad (sym is))
+covering every old new input left' before now faults code place e (suc (suc zero), inside, is) =
+    inr (draw_end.InputTooLong, tt, (e.much (sym is)).1)
+covering every old new input left' before now faults code place e (suc (suc (suc zero)), inside, is) =
+    let lacks = e.missing (sym is) in inr (draw_end.Missing lacks.0, tt, lacks.2)
+covering every old new input left' before now faults code place e (suc (suc (suc (suc zero))), inside, is) =
+    let misfits = e.misfit (sym is) in inr (draw_end.BadCoefficient misfits.0, tt, misfits.2)
+covering every old new input left' before now faults code place e (suc (suc (suc (suc (suc zero)))), inside, is) =
+    inr (draw_end.UnknownSession place, tt, e.unopened (sym is))
+covering every old new input left' before now faults code place e (suc (suc (suc (suc (suc (suc k))))), inside, is) =
+    absurd (omega (arith, inside))
+
 pub drawings_told : (command : Command) (old new : View) (left left' before now : Option (List ℕ)) (faults : Faults) (code place : ℕ)
     → CommandEnds command old new left left' before now faults code place → Contains drawing_codes code
     → IfSome left (λ input. DrawsFronts left' command old new input before now)
@@ -307,7 +323,8 @@ drawings_told Draw old new (Some input) left' before now faults code place e is 
     drawing old new input left' before now faults code place e is
 drawings_told Init old new (Some input) left' before now faults code place e is = tt
 drawings_told (Plot w h) old new (Some input) left' before now faults code place e is = tt
-drawings_told (Cover every) old new (Some input) left' before now faults code place e is = tt
+drawings_told (Cover every) old new (Some input) left' before now faults code place e is =
+    covering every old new input left' before now faults code place e is
 drawings_told Check old new (Some input) left' before now faults code place e is = tt
 drawings_told ListSeries old new (Some input) left' before now faults code place e is = tt
 drawings_told (Export name window) old new (Some input) left' before now faults code place e is = tt

@@ -1,7 +1,7 @@
 -- The book behind the lines of `live`.
 use Rattle.std.specs.Prelude.{codes, if◌then◌else◌, nat_lt}
 use Rattle.std.specs.Str.{bytes_eq}
-use Rattle.std.proofs.Common.{◌≡◌, ℕ, ◌+◌, true, false, List, [], ◌∷◌, length, map, Option, None, Some, Ok, refl, ap, sym, subst, ◌∙◌}
+use Rattle.std.proofs.Common.{◌≡◌, ℕ, ◌+◌, true, false, List, [], ◌∷◌, length, None, Some, Ok, refl, ap, sym, subst, ◌∙◌}
 use Rattle.std.proofs.lemmas.Slice.Eq.{bytes_eq-Decides}
 use Rattle.chart_frames.specs.declared.frame.Frame.{Frame}
 use Rattle.chart_service.specs.Replies.{own_zoom}
@@ -13,8 +13,7 @@ use Rattle.live_view.specs.declared.live_lines.LiveLine.TheVariants.{Follow, Unf
 use Rattle.request_lines.specs.Grammar.{kind_of, tokens_fault, fault_of}
 use Rattle.request_lines.specs.Requests.{named, read_by, read_line}
 use Rattle.request_lines.specs.Tokens.{tokens}
-use Rattle.series_book.specs.declared.one_series.Series.{Series}
-use Rattle.served_fronts.specs.Books.{Line, ok_of, said_by, after_request, after_requests, after_line, after_lines}
+use Rattle.served_fronts.specs.Books.{Line, ok_of, said_by, after_request, after_line, after_lines}
 use Rattle.served_fronts.proofs.Books.{by_line, by_request}
 
 -- ---- a line that asks for a following says no request

@@ -1,6 +1,5 @@
 -- The commands `serve` and `run` did as their pages say.
-use Rattle.std.proofs.Common.{◌≡◌, ◌<◌, ◌≤◌, ◌^◌, ℕ, List, length, Option, None, Some, IfSome, Result, Ok, Err, refl, ap, sym, subst, ◌∙◌, arith}
-use Rattle.block_disk.specs.Counts.{HasRisen}
+use Rattle.std.proofs.Common.{◌≡◌, ◌<◌, ◌^◌, ℕ, List, length, Option, None, Some, IfSome, Result, Ok, Err, refl, subst, arith}
 use Rattle.block_disk.specs.View.{View}
 use Rattle.gate_pages.specs.Journal.{page_count}
 use Rattle.chart_client.specs.declared.errors.ClientError.TheVariants as client
@@ -25,7 +24,6 @@ use Rattle.chart_program.specs.Served.{AreTexts, Faults, Says, ServesWorld, Spel
 use Rattle.chart_program.specs.declared.lines_end.LinesEnd.{LinesEnd}
 use Rattle.chart_program.specs.declared.lines_end.LinesEnd.TheVariants as lines_end
 use Rattle.chart_program.specs.declared.run_end.RunEnd.TheVariants as run_end
-use Rattle.chart_program.proofs.Codes.{told_all}
 use Rattle.chart_program.proofs.CommandsEnd.{small_never}
 use Rattle.chart_program.proofs.Ended.{told_first, told_with}
 

@@ -5,7 +5,7 @@ use Rattle.gate_pages.specs.Journal.{page_count}
 use Rattle.program_words.specs.declared.words.Command.{Command}
 use Rattle.program_words.specs.declared.words.Command.TheVariants.{Plot, Load, Demo, Run, Serve, Draw, Init}
 use Rattle.program_words.specs.declared.words.Command.TheVariants.{Check, ListSeries, Export, Retain, Cover, Live, Derive}
-use Rattle.served_fronts.specs.Fronts.{Draws}
+use Rattle.served_fronts.specs.Fronts.{Draws, Covers}
 use Rattle.served_fronts.specs.Headline.{Task, IsRun}
 use Rattle.served_fronts.specs.Headline as headline
 use Rattle.served_fronts.specs.Headline.Task.{serves, runs, watches, looks, changes}
@@ -58,7 +58,8 @@ BeginsRuns command old new = ⊤
 abbrev pub drawing_codes : List ℕ
 drawing_codes = 0 ∷ 8 ∷ 9 ∷ 10 ∷ 11 ∷ 15 ∷ []
 
--- what `draw` sends is what the laws on fronts take it for
+-- what `draw` and `cover` send is what the laws on fronts take it for
 abbrev pub DrawsFronts : Option (List ℕ) → Command → View → View → List ℕ → Option (List ℕ) → Option (List ℕ) → Type 0
 DrawsFronts left Draw old new input before now = Draws input left before now
+DrawsFronts left (Cover every) old new input before now = Covers every input left before now
 DrawsFronts left command old new input before now = ⊤

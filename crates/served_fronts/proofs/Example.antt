@@ -269,11 +269,12 @@ module _ (law : Spelling) (one : ChartsHaveOnePicture) where
       → samples ≡ two_samples
       → IsPicture view samples bytes → bytes ≡ bitmap
   its_picture view samples bytes values asked are is =
-      let S : RangeSpec → Type 0 = λ r. ShowsRange r (values_of samples) is.range in
-      let over = subst S asked.range is.over in
-      let C : List Sample → Type 0 = λ l. IsChart view.grid is.range l is.drawing in
-      is.are ∙ one view.grid is.range two_samples is.drawing canvas (subst C are is.chart)
-      (chart view.grid is.range asked.window asked.canvas over.0 over.1) ∙ its_bytes
+      let d = is.1 in
+      let S : RangeSpec → Type 0 = λ r. ShowsRange r (values_of samples) d.range in
+      let over = subst S asked.range d.over in
+      let C : List Sample → Type 0 = λ l. IsChart view.grid d.range l is.0 in
+      is.2 ∙ one view.grid d.range two_samples is.0 canvas (subst C are d.chart)
+      (chart view.grid d.range asked.window asked.canvas over.0 over.1) ∙ its_bytes
 
   pictures : (values : List (Option ℤ)) (answers : List Answer) (bytes : List ℕ) → KeepsTwo values → AreShown values answers
       → ArePictures answers bytes → bytes ≡ bitmap

@@ -148,12 +148,12 @@ first_lines n (l ∷ ls) (f ∷ fs) old new replied =
 
 -- ---- what was sent
 
-pub accepted_by : (frames : List Frame) (drawings : List (Option Canvas)) (h h' : List Holding) (bytes : List ℕ)
-    → SendsFrames None frames drawings h h' bytes → AcceptsAll h frames drawings h'
-accepted_by [] [] h h' bytes all = all.0
-accepted_by [] (d ∷ ds) h h' bytes all = absurd all
-accepted_by (f ∷ fs) [] h h' bytes all = absurd all
-accepted_by (f ∷ fs) (d ∷ ds) h h' bytes all = (all.0, all.3.accepted, accepted_by fs ds all.0 h' all.2 all.4)
+pub accepted_by : (every : Option ℕ) (frames : List Frame) (drawings : List (Option Canvas)) (h h' : List Holding) (bytes : List ℕ)
+    → SendsFrames every frames drawings h h' bytes → AcceptsAll h frames drawings h'
+accepted_by every [] [] h h' bytes all = all.0
+accepted_by every [] (d ∷ ds) h h' bytes all = absurd all
+accepted_by every (f ∷ fs) [] h h' bytes all = absurd all
+accepted_by every (f ∷ fs) (d ∷ ds) h h' bytes all = (all.0, all.3.accepted, accepted_by every fs ds all.0 h' all.2 all.4)
 
 pub pictured_by : (frames : List Frame) (drawings : List (Option Canvas)) (h h' : List Holding) (bytes : List ℕ)
     → SendsFrames None frames drawings h h' bytes → bytes ≡ flat_map picture_bytes drawings
@@ -173,7 +173,7 @@ fronts_draw one told draws lines frames old new n rest holdings before now sound
     let S : List Frame → Type 0 = λ fs. SendsFrames None fs drawn.drawings [] holdings drawn.bytes in
     let sends = subst S is drawn.sends in
     let mirrors = ap (λ ss. map mirrored ss) (sym alone) in
-    let accepts = accepted_by own drawn.drawings [] holdings drawn.bytes sends in
+    let accepts = accepted_by None own drawn.drawings [] holdings drawn.bytes sends in
     record {
       front = first.front;
       behind = first.behind;
@@ -243,7 +243,7 @@ own_fronts_draw one told draws m lines frames old new n rest holdings before now
     let S : List Frame → Type 0 = λ fs. SendsFrames None fs drawn.drawings [] holdings drawn.bytes in
     let sends = subst S (is ∙ sym first.own_is) drawn.sends in
     let mirrors = ap (λ ss. map mirrored ss) (sym closed) in
-    let accepts = accepted_by own drawn.drawings [] holdings drawn.bytes sends in
+    let accepts = accepted_by None own drawn.drawings [] holdings drawn.bytes sends in
     record {
       front = first.front;
       behind = first.behind;

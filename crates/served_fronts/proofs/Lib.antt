@@ -8,6 +8,7 @@ pub mod Saying
 pub mod Accepting
 pub mod Stopped
 pub mod Showing
+pub mod Covering
 pub mod Owning
 pub mod Keeping
 pub mod Cutting

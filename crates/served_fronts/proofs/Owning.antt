@@ -19,12 +19,12 @@ use Rattle.draw_command.specs.Covers.{picture_bytes}
 use Rattle.served_fronts.specs.Books.{Line, said_by}
 use Rattle.served_fronts.specs.Fronts.{whole_frames, Draws}
 use Rattle.served_fronts.specs.Answers.{OpenSession, Answer, AreAnswers, bytes_of, whole_in, ArePictures, says_in, said_in, SendsPictures}
-use Rattle.served_fronts.specs.Answers.{FrontsAreDrawn}
+use Rattle.served_fronts.specs.Answers.{FrontsAreDrawn, FrontsAreCovered}
 use Rattle.served_fronts.specs.Laws.{DrawnFrontsAreTheBook, DrawnOwnFrontsAreTheBook, LinesAreAnswered}
 use Rattle.served_fronts.specs.Answers.Reply.{opened}
 use Rattle.served_fronts.proofs.Agreeing.{OneReply}
 use Rattle.served_fronts.proofs.Fronts.{Told}
-use Rattle.served_fronts.proofs.Saying.{OneReading, seen, line_said}
+use Rattle.served_fronts.proofs.Saying.{OneReading, seen, line_said, picture_of}
 use Rattle.served_fronts.proofs.Showing.{answers_of, spelled, each, frames_are, fit, drawn as drawn_all}
 
 some_frame : {A : Type 0} (x : A) (xs : List A) → x ∷ xs ≡ [] → ⊥
@@ -118,7 +118,7 @@ module _ (either : OneReading) (bound : NeededKeysAreFew) (told : Told) (one : O
               | true ↦ λ e. (
                 picture_bytes p.0,
                 flat_map picture_bytes pictured.3,
-                said.shows p.0 p.2,
+                picture_of said.reply p.0 (said.shows p.0 p.2),
                 drawn m k ls fs replied.0 new replied.2 xs behind gs pictured.3 state (rest_of l x ls (xs ++ behind) split)
                     (rest_of f f (own m gs) (whole_frames k (own m fs)) e) later,
                 refl,
@@ -224,8 +224,13 @@ module _ (either : OneReading) (bound : NeededKeysAreFew) (told : Told) (one : O
         (from_opening own_draws m own_got.1 own_got.2 own_got.3 own_got.4 own_got.5 own_got.6 n left before now few
         (subst D got_is drew))
 
-  pub answered : DrawnFrontsAreTheBook → DrawnOwnFrontsAreTheBook → LinesAreAnswered
-  answered draws own_draws lines frames old new sound alone replied =
+  abbrev pub AllCovered : Type 0
+  AllCovered =
+      (lines : List Line) (frames : List Frame) (old new : State) (replied : RepliesToAll old lines frames new)
+      → IsSound old → old.sessions ≡ [] → FrontsAreCovered (all_of lines frames old new replied)
+
+  pub answered : DrawnFrontsAreTheBook → DrawnOwnFrontsAreTheBook → AllCovered → LinesAreAnswered
+  answered draws own_draws covered lines frames old new sound alone replied =
       let O : List OpenSession → Type 0 = λ o. AreAnswers old.total old.book o (map said_by lines) (all_of lines frames old new replied) in
       record {
         answers = all_of lines frames old new replied;
@@ -234,5 +239,6 @@ module _ (either : OneReading) (bound : NeededKeysAreFew) (told : Told) (one : O
         are = record {
           each = frames_are either bound told one lines frames old new replied;
           drawn = reached lines frames old new replied sound draws own_draws alone;
+          covered = covered lines frames old new replied sound alone;
         };
       }

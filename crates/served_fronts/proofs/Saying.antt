@@ -56,7 +56,7 @@ use Rattle.served_fronts.specs.Books.{Line, ok_of, said_by}
 use Rattle.served_fronts.specs.Answers.{OpenSession, session_at, is_there, cant_open, without, with_view, Reply, after_reply, Keeps}
 use Rattle.served_fronts.specs.Answers.Reply.{applied, opened, closed, shown, refused}
 use Rattle.served_fronts.specs.Answers.{HasFilter, IsBadFilter, MayLack, IsAsked, CantShow, IsMoved, CantMove}
-use Rattle.served_fronts.specs.Answers.{FitsIn, reply_of, FitsRequest, FitsSaid, kind_of, IsPicture, HasPicture, says_in}
+use Rattle.served_fronts.specs.Answers.{FitsIn, reply_of, FitsRequest, FitsSaid, kind_of, IsDrawing, HasPicture, says_in}
 
 some_one : {A : Type 0} (a b : A) (o : Option A) → o ≡ Some a → o ≡ Some b → a ≡ b
 some_one a b o is other = cc
@@ -200,13 +200,30 @@ told_kind (closed n) f is = ap kind_in is ∙ kind_at 5 4 (n ∷ []) (omega arit
 told_kind (shown n view samples) f is = shown_kind n view.filter f is
 told_kind refused f is = ap kind_in is.3 ∙ kind_at 18 2 (is.0 ∷ is.1 ∷ is.2 ∷ []) (omega arith)
 
+-- a view that is shown has its drawing, and no other reply has one
+abbrev pub HasDrawing : Reply → Option Canvas → Type 0
+HasDrawing applied drawing = drawing ≡ None
+HasDrawing (opened n cache) drawing = drawing ≡ None
+HasDrawing (closed n) drawing = drawing ≡ None
+HasDrawing (shown n view samples) None = ⊥
+HasDrawing (shown n view samples) (Some drawing) = IsDrawing view samples drawing
+HasDrawing refused drawing = drawing ≡ None
+
+pub picture_of : (reply : Reply) (drawing : Option Canvas) → HasDrawing reply drawing → HasPicture reply (picture_bytes drawing)
+picture_of applied drawing is = ap picture_bytes is
+picture_of (opened n cache) drawing is = ap picture_bytes is
+picture_of (closed n) drawing is = ap picture_bytes is
+picture_of (shown n view samples) None is = absurd is
+picture_of (shown n view samples) (Some drawing) is = (drawing, is, refl)
+picture_of refused drawing is = ap picture_bytes is
+
 -- what is said by a frame
 pub record Said (old new : State) (answer : Frame) (Fits : Reply → Type 0) : Type 0 where
   pub reply : Reply
   pub fits : Fits reply
   pub tells : Tells reply answer
   pub open_is : open_in new ≡ after_reply (open_in old) reply
-  pub shows : (drawing : Option Canvas) → IsPictureOf old new answer drawing → HasPicture reply (picture_bytes drawing)
+  pub shows : (drawing : Option Canvas) → IsPictureOf old new answer drawing → HasDrawing reply drawing
   pub named : (m : ℕ) → names m answer ≡ says_in m reply
   pub absent : (m cache : ℕ) → reply ≡ opened m cache → is_open m old.sessions ≡ false
 
@@ -219,7 +236,7 @@ refused_so refusal old new answer Fits fits r = record {
   fits = fits;
   tells = (number_of refusal, (pair_of refusal).0, (pair_of refusal).1, r.reply);
   open_is = ap open_in r.state;
-  shows = λ drawing is. let P : Frame → Type 0 = λ f. IsPictureOf old new f drawing in ap picture_bytes (subst P r.reply is);
+  shows = λ drawing is. let P : Frame → Type 0 = λ f. IsPictureOf old new f drawing in subst P r.reply is;
   named = λ m. ap (names m) r.reply;
   absent = λ m cache is. absurd (not_no m cache is);
 }
@@ -232,7 +249,7 @@ edited (Ok done) old new answer is = record {
   fits = refl;
   tells = (done.slots, is.0);
   open_is = ap open_in is.1;
-  shows = λ drawing p. let P : Frame → Type 0 = λ f. IsPictureOf old new f drawing in ap picture_bytes (subst P is.0 p);
+  shows = λ drawing p. let P : Frame → Type 0 = λ f. IsPictureOf old new f drawing in subst P is.0 p;
   named = λ m. ap (names m) is.0;
   absent = λ m cache e. absurd (not_applied m cache e);
 }
@@ -252,7 +269,7 @@ opened_so None n cache old new answer is opens =
       fits = sym (ap (λ b. if b then refused else opened n cache) can);
       tells = opens.0;
       open_is = ap open_in opens.1 ∙ map-append seen old.sessions (fresh_session n cache ∷ []);
-      shows = λ drawing p. let P : Frame → Type 0 = λ f. IsPictureOf old new f drawing in ap picture_bytes (subst P opens.0 p);
+      shows = λ drawing p. let P : Frame → Type 0 = λ f. IsPictureOf old new f drawing in subst P opens.0 p;
       named = λ m. ap (names m) opens.0;
       absent = λ m size e. ap (λ k. is_open k old.sessions) (sym (same_opened n cache m size e)) ∙ not_there (is_open n old.sessions) _ is;
     }
@@ -272,7 +289,7 @@ closed_so true n old new answer is closes =
       fits = sym (ap (λ b. if b then closed n else refused) there);
       tells = closes.0;
       open_is = ap open_in closes.1 ∙ sym (without_seen n old.sessions);
-      shows = λ drawing p. let P : Frame → Type 0 = λ f. IsPictureOf old new f drawing in ap picture_bytes (subst P closes.0 p);
+      shows = λ drawing p. let P : Frame → Type 0 = λ f. IsPictureOf old new f drawing in subst P closes.0 p;
       named = λ m. ap (names m) closes.0;
       absent = λ m size e. absurd (not_closed n m size e);
     }
@@ -292,7 +309,7 @@ view_picture : (series : Series) (spec : ViewSpec) (n : ℕ) (range : ValueRange
     (drawing : Option Canvas)
     → slice_get old.book spec.series ≡ Some series → spec.filter ≡ None → ShowsRange spec.range (values_of (kept_by spec series)) range
     → IsPictureOf old new (frame.View (view_frame n spec range series send)) drawing
-    → IsPicture spec (kept_by spec series) (picture_bytes drawing)
+    → HasDrawing (shown n spec (kept_by spec series)) drawing
 view_picture series spec n range send old new None stored none over is = absurd is
 view_picture series spec n range send old new (Some drawing) stored none over is =
     let other = is.0 in
@@ -303,7 +320,7 @@ view_picture series spec n range send old new (Some drawing) stored none over is
     let S : Series → Type 0 = λ s. IsChart spec.grid range (kept spec.grid (axis_of s) s.slots) drawing in
     let K : List Sample → Type 0 = λ l. IsChart spec.grid range l drawing in
     let on_grid = subst G (grid_same shows.grid spec.grid shows.from shows.to shows.columns shows.rows) shows.chart in
-    record { range = range; over = over; drawing = drawing; chart = subst K (sym all) (subst S same on_grid); are = refl }
+    record { range = range; over = over; chart = subst K (sym all) (subst S same on_grid) }
 
 tells_view : (n : ℕ) (spec : ViewSpec) (answer : Frame) (view : ViewFrame) → spec.filter ≡ None → answer ≡ frame.View view
     → view.session ≡ n → Shows n (is_some spec.filter) answer
@@ -335,7 +352,7 @@ rows_picture : (series : Series) (spec : ViewSpec) (n : ℕ) (range : ValueRange
     → rows.session ≡ n → rows.lo ≡ range.lo → rows.hi ≡ range.hi
     → slice_get old.book spec.series ≡ Some series → last_of (session_of n new.sessions) ≡ Some spec
     → ShowsRange spec.range (values_of (kept_by spec series)) range
-    → IsPictureOf old new (frame.Rows rows) drawing → IsPicture spec (kept_by spec series) (picture_bytes drawing)
+    → IsPictureOf old new (frame.Rows rows) drawing → HasDrawing (shown n spec (kept_by spec series)) drawing
 rows_picture series spec n range rows old new None own low high stored last over is = absurd is
 rows_picture series spec n range rows old new (Some drawing) own low high stored last over is =
     let at : last_of (session_of n new.sessions) ≡ Some is.spec = ap (λ k. last_of (session_of k new.sessions)) (sym own) ∙ is.answered in
@@ -348,7 +365,7 @@ rows_picture series spec n range rows old new (Some drawing) own low high stored
     let L : ℤ → Type 0 = λ lo. IsChart spec.grid (record { lo = lo; hi = rows.hi }) (kept_by spec series) drawing in
     let H : ℤ → Type 0 = λ hi. IsChart spec.grid (record { lo = range.lo; hi = hi }) (kept_by spec series) drawing in
     let chart = subst H high (subst L low (subst S one (subst C same is.shows.chart))) in
-    record { range = range; over = over; drawing = drawing; chart = chart; are = refl }
+    record { range = range; over = over; chart = chart }
 
 tells_rows : (n : ℕ) (spec : ViewSpec) (steps : List Step) (answer : Frame) (rows : RowsFrame) → spec.filter ≡ Some steps
     → answer ≡ frame.Rows rows → rows.session ≡ n → Shows n (is_some spec.filter) answer

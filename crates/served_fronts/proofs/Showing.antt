@@ -21,7 +21,7 @@ use Rattle.served_fronts.specs.Answers.{OpenSession, Answer, IsFrame, AreAnswers
 use Rattle.served_fronts.proofs.Agreeing.{OneReply}
 use Rattle.served_fronts.proofs.Books.{by_line}
 use Rattle.served_fronts.proofs.Fronts.{Told}
-use Rattle.served_fronts.proofs.Saying.{OneReading, open_in, line_said, told_kind}
+use Rattle.served_fronts.proofs.Saying.{OneReading, open_in, line_said, picture_of, told_kind}
 
 -- no picture
 none_drawn : (old state : State) (lines : List Line) (drawings : List (Option Canvas)) → ArePictured old lines [] drawings state
@@ -100,7 +100,8 @@ module _ (either : OneReading) (bound : NeededKeysAreFew) (told : Told) (one : O
       let same = (one l f f old between pictured.0 is (subst L (sym first) pictured.1)).1 in
       let P : State → Type 0 = λ s. IsPictureOf old s f d in
       let Q : State → Type 0 = λ s. ArePictured s xs rest ds state in
-      let shows = (line_said either bound l old between f is).shows d (subst P (sym same) pictured.2) in
+      let said = line_said either bound l old between f is in
+      let shows = picture_of said.reply d (said.shows d (subst P (sym same) pictured.2)) in
       (picture_bytes d, flat_map picture_bytes ds, shows, all xs ds split_on (subst Q (sym same) pictured.3), refl)
 
   pub drawn : (n : ℕ) (lines : List Line) (frames : List Frame) (old new : State) → (replied : RepliesToAll old lines frames new)

@@ -26,7 +26,7 @@ use Rattle.draw_command.specs.declared.draw_end.DrawEnd.{DrawEnd}
 use Rattle.draw_command.specs.declared.draw_end.DrawEnd.TheVariants as draw_end
 use Rattle.draw_command.specs.Draws.{DrawsFirst, FramesStop, StopsAtFrame, NextStops, EndsDraw}
 use Rattle.served_fronts.specs.Books.{Line}
-use Rattle.served_fronts.specs.Fronts.{whole_frames, IsOfInput, Draws}
+use Rattle.served_fronts.specs.Fronts.{whole_frames, IsOfInput, DrawsBy}
 use Rattle.served_fronts.specs.Laws.{DrawnFrontsAreTheBook, DrawnOwnFrontsAreTheBook}
 use Rattle.served_fronts.proofs.Accepting.{OwnAccepted}
 use Rattle.served_fronts.proofs.Fronts.{OneFrame, Told, NoneWhole, some_bytes, none_whole, cut_frame, take_behind, low_of, high_of}
@@ -81,26 +81,26 @@ module _ (one : OneFrame) (told : Told) where
       (subst P (take-append-drop most all) (stay (take most all) (drop most all) at breaks))
 
   -- and the next frame isn't rejected
-  none_rejects : (frames drawn : List Frame) (n : ℕ) (rest : List ℕ) (frame : Frame) (more : List ℕ) (drawings : List (Option Canvas))
+  none_rejects : (every : Option ℕ) (frames drawn : List Frame) (n : ℕ) (rest : List ℕ) (frame : Frame) (more : List ℕ) (drawings : List (Option Canvas))
       (h : List Holding) (bytes : List ℕ) (e : ClientError) → All Fits frames → All Fits drawn → NoneRejected frames
       → take n (flat_map spelling frames) ≡ flat_map spelling drawn ++ rest → rest ≡ spelling frame ++ more → Fits frame
-      → SendsFrames None drawn drawings [] h bytes → Rejects frame e h → e ≡ client.NoMemory
-  none_rejects frames drawn n rest frame more drawings h bytes e fit fit_drawn accepted same next fits sends rejects =
+      → SendsFrames every drawn drawings [] h bytes → Rejects frame e h → e ≡ client.NoMemory
+  none_rejects every frames drawn n rest frame more drawings h bytes e fit fit_drawn accepted same next fits sends rejects =
       let b = behind frames drawn n rest fit fit_drawn same in
       let c = behind b.later (frame ∷ []) b.most more b.fit (All-cons Fits frame [] fits (All-nil Fits))
       (sym b.is ∙ next ∙ ap (λ l. l ++ more) (sym (append-nil (spelling frame)))) in
       accepted drawn c.later frame drawings h e (b.split ∙ ap (λ l. drawn ++ l) c.split)
-      (accepted_by drawn drawings [] h bytes sends) rejects
+      (accepted_by every drawn drawings [] h bytes sends) rejects
 
   -- what was drawn of a front
-  pub record Drawn (n : ℕ) (frames : List Frame) (before now : Option (List ℕ)) : Type 0 where
+  pub record Drawn (every : Option ℕ) (n : ℕ) (frames : List Frame) (before now : Option (List ℕ)) : Type 0 where
     pub drawings : List (Option Canvas)
     pub holdings : List Holding
     pub bytes : List ℕ
-    pub sends : SendsFrames None (whole_frames n frames) drawings [] holdings bytes
+    pub sends : SendsFrames every (whole_frames n frames) drawings [] holdings bytes
     pub sent : now ≡ sent_after bytes before
 
-  module _ (stay : Stay) (good : Good) (frames : List Frame) (n : ℕ) (before now : Option (List ℕ)) (fit : All Fits frames)
+  module _ (every : Option ℕ) (stay : Stay) (good : Good) (frames : List Frame) (n : ℕ) (before now : Option (List ℕ)) (fit : All Fits frames)
       (accepted : NoneRejected frames) (few : n ≤ 2 ^ 32) where
     abbrev input : List ℕ
     input = take n (flat_map spelling frames)
@@ -108,10 +108,10 @@ module _ (one : OneFrame) (told : Told) where
     within : length input ≤ 2 ^ 32
     within = omega (arith, few, length-take n (flat_map spelling frames))
 
-    ends : (rest : Pending) (holdings : List Holding) → DrawsFirst None input rest holdings before now → NoneWhole rest.rest
-        → Drawn n frames before now
+    ends : (rest : Pending) (holdings : List Holding) → DrawsFirst every input rest holdings before now → NoneWhole rest.rest
+        → Drawn every n frames before now
     ends rest holdings d none =
-        let S : List Frame → Type 0 = λ fs. SendsFrames None fs d.drawings [] holdings d.bytes in
+        let S : List Frame → Type 0 = λ fs. SendsFrames every fs d.drawings [] holdings d.bytes in
         record {
           drawings = d.drawings;
           holdings = holdings;
@@ -120,19 +120,19 @@ module _ (one : OneFrame) (told : Told) where
           sent = d.sent;
         }
 
-    at_all : (end : DrawEnd) → StopsAtFrame None input before now end → FramesStop None (held 0 input) [] before now end
+    at_all : (end : DrawEnd) → StopsAtFrame every input before now end → FramesStop every (held 0 input) [] before now end
     at_all end stops =
-        let P : List ℕ → Type 0 = λ l. FramesStop None (held 0 l) [] before now end in
+        let P : List ℕ → Type 0 = λ l. FramesStop every (held 0 l) [] before now end in
         subst P (take_all (2 ^ 32) input within) stops
 
-    at_next : (end : DrawEnd) (e : ClientError) → (s : FramesStop None (held 0 input) [] before now end)
-        → (next : NextStops None s.rest s.client s.sent_first now end) → Rejects next.frame e s.client → e ≡ client.NoMemory
+    at_next : (end : DrawEnd) (e : ClientError) → (s : FramesStop every (held 0 input) [] before now end)
+        → (next : NextStops every s.rest s.client s.sent_first now end) → Rejects next.frame e s.client → e ≡ client.NoMemory
     at_next end e s next rejects =
-        none_rejects frames s.first.frames n s.rest.rest next.frame next.behind s.first.drawings s.client s.first.bytes e fit s.first.fit
+        none_rejects every frames s.first.frames n s.rest.rest next.frame next.behind s.first.drawings s.client s.first.bytes e fit s.first.fit
         accepted s.first.split next.next next.fits s.first.sends rejects
 
     -- the drawing didn't stop at a frame
-    no_stop : (end : DrawEnd) → IsOfInput end → StopsAtFrame None input before now end → ⊥
+    no_stop : (end : DrawEnd) → IsOfInput end → StopsAtFrame every input before now end → ⊥
     no_stop draw_end.NoMemory own stops = absurd own
     no_stop draw_end.ReadFault own stops = absurd own
     no_stop draw_end.SendFault own stops = absurd own
@@ -158,7 +158,7 @@ module _ (one : OneFrame) (told : Told) where
         at_next (draw_end.UnknownSession number) (client.UnknownSession number) s s.stops s.stops.stops.0 in
         cc
 
-    any_end : (left : Option (List ℕ)) (end : DrawEnd) → IsOfInput end → EndsDraw None input left before now end → Drawn n frames before now
+    any_end : (left : Option (List ℕ)) (end : DrawEnd) → IsOfInput end → EndsDraw every input left before now end → Drawn every n frames before now
     any_end left draw_end.NoMemory own ends = absurd own
     any_end left draw_end.ReadFault own ends = absurd own
     any_end left draw_end.SendFault own ends = absurd own
@@ -170,7 +170,7 @@ module _ (one : OneFrame) (told : Told) where
     any_end left (draw_end.UnknownSession number) own stops = absurd (no_stop (draw_end.UnknownSession number) own stops)
 
     -- whatever end it had: the frames that stand whole in the front were drawn
-    pub drawn_by : (left : Option (List ℕ)) → Draws input left before now → Drawn n frames before now
+    pub drawn_by : (left : Option (List ℕ)) → DrawsBy every input left before now → Drawn every n frames before now
     drawn_by left (inl all) = ends (held all.0 []) all.1 all.2 (λ f y fits same. some_bytes told f y fits (sym same))
     drawn_by left (inr (end, own, ends)) = any_end left end own ends
 
@@ -183,11 +183,11 @@ pub drawn_fronts : OneFrame → Told → Stay → Good → RepliesDrawTheBook �
 drawn_fronts one told stay good draws accepted lines frames old new n left before now sound alone replied few drew =
     let fit = replies_fit lines frames old new replied in
     let all = accepted lines frames old new sound alone replied in
-    let d = drawn_by one told stay good frames n before now fit all few left drew in
+    let d = drawn_by one told None stay good frames n before now fit all few left drew in
     let first = first_lines n lines frames old new replied in
     let own = whole_frames n frames in
     let mirrors = ap (λ ss. map mirrored ss) (sym alone) in
-    let accepts = accepted_by own d.drawings [] d.holdings d.bytes d.sends in
+    let accepts = accepted_by None own d.drawings [] d.holdings d.bytes d.sends in
     record {
       front = first.front;
       behind = first.behind;
@@ -203,13 +203,13 @@ drawn_own_fronts one told stay good draws accepted m lines frames old new n left
     let all = filter (names m) frames in
     let fit = All-filter (names m) Fits frames (replies_fit lines frames old new replied) in
     let none_rejected = accepted m lines frames old new sound closed replied in
-    let d = drawn_by one told stay good all n before now fit none_rejected few left drew in
+    let d = drawn_by one told None stay good all n before now fit none_rejected few left drew in
     let first = own_first m n lines frames old new replied in
     let own = filter (names m) first.frames in
     let S : List Frame → Type 0 = λ fs. SendsFrames None fs d.drawings [] d.holdings d.bytes in
     let sends = subst S (sym first.own_is) d.sends in
     let mirrors = ap (λ ss. map mirrored ss) (sym closed) in
-    let accepts = accepted_by own d.drawings [] d.holdings d.bytes sends in
+    let accepts = accepted_by None own d.drawings [] d.holdings d.bytes sends in
     record {
       front = first.front;
       behind = first.behind;

@@ -36,7 +36,7 @@ use Rattle.served_fronts.specs.Texts.{view_line, line_of, text_of, texts_of, IsL
 use Rattle.served_fronts.proofs.Agreeing.{OneReply, take_zero, joined}
 use Rattle.served_fronts.proofs.Books.{by_line}
 use Rattle.served_fronts.proofs.Fronts.{high_of}
-use Rattle.served_fronts.proofs.Saying.{OneReading, Shows, Tells, open_in, line_said}
+use Rattle.served_fronts.proofs.Saying.{OneReading, Shows, Tells, open_in, line_said, picture_of}
 
 -- ---- the line of a reply
 
@@ -216,7 +216,7 @@ module _ (one : OneReply) (pictures : ChartsHaveOnePicture) where
           line = line_of f k;
           picture = picture_bytes d;
           says = told_line said.reply f k said.tells;
-          shows = said.shows d here;
+          shows = picture_of said.reply d (said.shows d here);
           are = refl;
         } in
         All-cons (λ a. IsText a.reply a.bytes) answer (texted ls fs ds replied.0 new replied.2) is

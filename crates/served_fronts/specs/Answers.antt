@@ -1,7 +1,7 @@
 -- What is said to the lines of an input, in the words of books, sessions, views and pictures.
 use Rattle.std.specs.Prelude.{⊤, ◌≡◌, ℕ, ℤ, ◌+◌, ◌*◌, ◌-◌, ◌<◌, ◌≤◌, ◌^◌, ◌+ℤ◌, ◌⊎◌, ◌==◌, ◌||◌, nat_le, nat_lt, if◌then◌else◌}
 use Rattle.std.specs.Prelude.{Bool, false, List, [], ◌∷◌, ◌++◌, length, map, take, drop, flat_map, All, Option, None, Some, is_some}
-use Rattle.std.specs.Prelude.{Result, Ok, Err, slice_get}
+use Rattle.std.specs.Prelude.{IsTrue, Result, Ok, Err, slice_get}
 use Rattle.std.specs.List.{filter, list_any}
 use Rattle.series_book.specs.declared.one_series.Series.{Series}
 use Rattle.series_book.specs.declared.refusals.Refusal.{Refusal}
@@ -22,7 +22,8 @@ use Rattle.plain_chart.specs.declared.sample.Sample.{Sample}
 use Rattle.plain_chart.specs.declared.value_range.ValueRange.{ValueRange}
 use Rattle.plain_chart.specs.Samples.{values_of}
 use Rattle.plain_chart.specs.Chart.{IsChart}
-use Rattle.line_raster.specs.Canvas.{Canvas}
+use Rattle.line_raster.specs.Canvas.{Canvas, black_at}
+use Rattle.chart_grid.specs.declared.grid.Grid.{Grid}
 use Rattle.pbm_writer.specs.Picture.{picture}
 use Rattle.block_disk.specs.Streams.{sent_after}
 use Rattle.chart_frames.specs.declared.frame.Frame.{Frame}
@@ -30,7 +31,7 @@ use Rattle.chart_frames.specs.Format.{number_in}
 use Rattle.chart_frames.specs.Frames.{spelling}
 use Rattle.chart_service.specs.State.{State}
 use Rattle.served_fronts.specs.Books.{Line, said_by, after_request}
-use Rattle.served_fronts.specs.Fronts.{Draws}
+use Rattle.served_fronts.specs.Fronts.{Draws, Covers}
 
 -- ---- sessions
 
@@ -216,13 +217,15 @@ whole_in n (answer ∷ later) = if nat_le (length answer.bytes) n then answer �
 
 -- ---- pictures
 
--- the bytes are the picture of the samples that a view keeps, over the range that it asks for or over that of their values
-pub record IsPicture (view : ViewSpec) (samples : List Sample) (bytes : List ℕ) : Type 0 where
+-- the drawing is the chart of the samples that a view keeps, over the range that it asks for or over that of their values
+pub record IsDrawing (view : ViewSpec) (samples : List Sample) (drawing : Canvas) : Type 0 where
   pub range : ValueRange
   pub over : ShowsRange view.range (values_of samples) range
-  pub drawing : Canvas
   pub chart : IsChart view.grid range samples drawing
-  pub are : bytes ≡ picture drawing
+
+-- the bytes are the picture of such a drawing
+abbrev pub IsPicture : ViewSpec → List Sample → List ℕ → Type 0
+IsPicture view samples bytes = (drawing : Canvas) × IsDrawing view samples drawing × (bytes ≡ picture drawing)
 
 -- a view that is shown has its picture, and no other reply has one
 abbrev pub HasPicture : Reply → List ℕ → Type 0
@@ -272,10 +275,54 @@ FrontsAreDrawn answers =
     (got : List Answer) (n : ℕ) (left before now : Option (List ℕ)) → Reach answers got → n ≤ 2 ^ 32
     → Draws (take n (bytes_of got)) left before now → SendsPictures (whole_in n got) before now
 
--- What `serve` sends of answers: the bytes of each are a frame, and of each front of them `draw` sends the pictures.
+-- ---- covers
+
+-- of two drawings on the canvas of a grid the first is black only where the second is
+abbrev pub LiesIn : Grid → Canvas → Canvas → Type 0
+LiesIn grid inner outer = (x y : ℕ) → x < grid.w → y < grid.h → IsTrue (black_at inner x y) → IsTrue (black_at outer x y)
+
+-- The bytes are the covers of a view and behind them its picture: each cover holds the picture, and lies in those before it.
+pub record IsCovered (view : ViewSpec) (samples : List Sample) (bytes : List ℕ) : Type 0 where
+  pub drawing : Canvas
+  pub is : IsDrawing view samples drawing
+  pub covers : List Canvas
+  pub shrink : (i j : ℕ) (early late : Canvas) → slice_get covers i ≡ Some early → slice_get covers j ≡ Some late → i ≤ j
+      → LiesIn view.grid late early
+  pub hold : (i : ℕ) (cover : Canvas) → slice_get covers i ≡ Some cover → LiesIn view.grid drawing cover
+  pub are : bytes ≡ flat_map picture covers ++ picture drawing
+
+-- a view that is shown has its covers and its picture, and no other reply has any
+abbrev pub HasCovers : Reply → List ℕ → Type 0
+HasCovers applied bytes = bytes ≡ []
+HasCovers (opened n cache) bytes = bytes ≡ []
+HasCovers (closed n) bytes = bytes ≡ []
+HasCovers (shown n view samples) bytes = IsCovered view samples bytes
+HasCovers refused bytes = bytes ≡ []
+
+-- the bytes are those of the answers, one behind the other
+abbrev pub AreCovers : List Answer → List ℕ → Type 0
+AreCovers [] bytes = bytes ≡ []
+AreCovers (answer ∷ later) bytes =
+    (first : List ℕ) × (rest : List ℕ) × HasCovers answer.reply first × AreCovers later rest × (bytes ≡ first ++ rest)
+
+-- the covers and pictures of these answers were sent
+pub record SendsCovers (answers : List Answer) (before now : Option (List ℕ)) : Type 0 where
+  pub covers : List ℕ
+  pub are : AreCovers answers covers
+  pub sent : now ≡ sent_after covers before
+
+-- Of any front of the bytes of answers, cut anywhere, `cover` sends the covers and the pictures of those that stand whole in it.
+abbrev pub FrontsAreCovered : List Answer → Type 0
+FrontsAreCovered answers =
+    (every n : ℕ) (left before now : Option (List ℕ)) → n ≤ 2 ^ 32 → Covers every (take n (bytes_of answers)) left before now
+    → SendsCovers (whole_in n answers) before now
+
+-- What `serve` sends of answers: the bytes of each are a frame, and of each front of them `draw` sends the pictures, and `cover` the
+-- covers before them.
 pub record AreFrames (answers : List Answer) : Type 0 where
   pub each : All (λ answer. IsFrame answer.reply answer.bytes) answers
   pub drawn : FrontsAreDrawn answers
+  pub covered : FrontsAreCovered answers
 
 -- The lines are answered, each by the bytes that spell its frame, over the book of a state.
 pub record HasAnswers (old : State) (lines : List Line) (frames : List Frame) : Type 0 where

@@ -1,5 +1,5 @@
 -- What `draw` makes of a front of the frames that answer lines.
-use Rattle.std.specs.Prelude.{◌≡◌, ℕ, ◌-◌, ◌⊎◌, nat_le, if◌then◌else◌, List, [], ◌∷◌, ◌++◌, length, flat_map, Option, None, ⊤}
+use Rattle.std.specs.Prelude.{◌≡◌, ℕ, ◌-◌, ◌⊎◌, nat_le, if◌then◌else◌, List, [], ◌∷◌, ◌++◌, length, flat_map, Option, None, Some, ⊤}
 use Rattle.std.specs.List.{filter}
 use Rattle.block_disk.specs.Streams.{sent_after}
 use Rattle.chart_frames.specs.declared.frame.Frame.{Frame}
@@ -48,6 +48,15 @@ IsOfInput ReadFault = ⊥
 IsOfInput SendFault = ⊥
 IsOfInput end = ⊤
 
--- `draw` was given this input and sent what it could draw of it, whether that was all
+-- the input was given to `draw`, or to `cover` for covers after so many coefficients, which sent what it could, whether that was all
+abbrev pub DrawsBy : Option ℕ → List ℕ → Option (List ℕ) → Option (List ℕ) → Option (List ℕ) → Type 0
+DrawsBy every input left before now =
+    DrawsAll every input before now ⊎ ((end : DrawEnd) × IsOfInput end × EndsDraw every input left before now end)
+
+-- to `draw`
 abbrev pub Draws : List ℕ → Option (List ℕ) → Option (List ℕ) → Option (List ℕ) → Type 0
-Draws input left before now = DrawsAll None input before now ⊎ ((end : DrawEnd) × IsOfInput end × EndsDraw None input left before now end)
+Draws input left before now = DrawsBy None input left before now
+
+-- to `cover`
+abbrev pub Covers : ℕ → List ℕ → Option (List ℕ) → Option (List ℕ) → Option (List ℕ) → Type 0
+Covers every input left before now = DrawsBy (Some every) input left before now

@@ -13,8 +13,10 @@ use chart_frames::laws::{
     length_is_told, more_bytes_mend_nothing, one_frame_a_spelling, spellings_are_good,
 };
 use chart_service::laws::{replies_are_one, sessions_stand_alone};
+use draw_command::laws::covers_narrow_to_the_picture;
 use drawn_replies::laws::{
     clients_draw_the_book, one_session_draws_the_book, replies_are_accepted, replies_draw_the_book,
+    views_agree,
 };
 use request_lines::laws::lines_spell_requests;
 use stored_book::laws::empty_stores_have_no_series;
@@ -72,7 +74,8 @@ pub fn drawn_own_fronts_are_the_book()
 /// What is said to lines, in the words of books, sessions and views: a session is opened or closed, a view is shown with the
 /// samples that it keeps of the book as it is at its line, or there is no picture; for a view in an open session that has
 /// one of the causes of `CantShow` and `CantMove`. Of any front of the bytes of these answers, or of those of one session
-/// from one of its openings on, `draw` sends the pictures of the views that stand whole in it.
+/// from one of its openings on, `draw` sends the pictures of the views that stand whole in it; and of any front of all bytes
+/// `cover` sends the covers, too: each holds the picture, and lies in those before it.
 pub fn lines_have_their_answers()
     ensures { LinesAreAnswered }
 {
@@ -80,6 +83,13 @@ pub fn lines_have_their_answers()
     keys_of_a_view_are_few();
     length_is_told();
     replies_are_one();
+    one_frame_a_spelling();
+    spellings_are_good();
+    more_bytes_mend_nothing();
+    replies_are_accepted();
+    clients_draw_the_book();
+    views_agree();
+    covers_narrow_to_the_picture();
     drawn_fronts_are_the_book();
     drawn_own_fronts_are_the_book();
 }
