@@ -2,7 +2,7 @@
 use Rattle.run_ends.specs.declared.ending.End.{End}
 use Rattle.run_ends.specs.declared.ending.End.TheVariants.{Done, NoMemory, SendFault, DiskFault, DamagedBlock, TooSmall}
 use Rattle.store_commands.specs.Listed.{ReadsOpening, SendsList, SendsListPart}
-use Rattle.chart_program.specs.Course.{Course, FoundDamaged, HasFewBlocks, HeldNoBook, IsDoneOrCut, KeptBook, OverStore, SentNothing}
+use Rattle.chart_program.specs.Course.{Course, FoundDamaged, HasFewBlocks, HeldNoBook, IsDoneOrCut, KeptBook, OverStore, SentNothing, WritesLittle}
 use Rattle.chart_program.specs.Course.{StandsOn, TookNothing, count}
 
 -- what it sent, by how it ended
@@ -21,5 +21,6 @@ pub record OfList (c : Course) (end : End) : Type 0 where
   pub store : OverStore c end
   pub untaken : TookNothing c
   pub kept : KeptBook c
+  pub few : WritesLittle c
   pub reads : ReadsOpening c.old c.new
   pub good : StandsOn c.old c.new → IsDoneOrCut end

@@ -35,7 +35,7 @@ use Rattle.demo_workload.specs.Workload.{workload}
 use Rattle.stored_book.specs.Damage.{IsBadForEdit, IsBadForRequest}
 use Rattle.retain_command.specs.Retained.{LeavesSwept, RetainsAll, RetainsLines, RetainsPart, RetainsSome, RetainsTaken, RetainsToBad, RetainsToUnknown, RetainsWithin}
 use Rattle.live_command.specs.Ended.{LeavesLived, LivesAll, LivesLines, LivesPart, LivesSome, LivesTaken, LivesWithin, ReadsLiving, SyncsLiving}
-use Rattle.derive_command.specs.Derived.{DerivesAll, DerivesFirst, DerivesPart, DerivesTaken, DerivesToBad, DerivesToRefused, DerivesWithin}
+use Rattle.derive_command.specs.Derived.{IsBadForChart, DerivesAll, DerivesFirst, DerivesPart, DerivesTaken, DerivesToBad, DerivesToRefused, DerivesWithin}
 use Rattle.store_commands.specs.Damaged.{IsDamagedAtFirst, IsDamagedPlace}
 use Rattle.chart_program.specs.CommandStatuses.{codes_of, IsOverStore, TakesNone, Bars}
 use Rattle.draw_command.specs.Draws.{DrawsAll, DrawsTaken, DrawsWithin, IsCut, StopsAtFrame}
@@ -260,10 +260,10 @@ IsDamaged (Load name) old new place = IsDamagedPlace IsBadForEdit old new place
 IsDamaged (Demo seed rounds) old new place = IsDamagedPlace IsBadForRequest old new place
 IsDamaged Check old new place = IsDamagedPlace IsBadForCheck old old place
 IsDamaged ListSeries old new place = IsDamagedAtFirst old place
-IsDamaged (Export name window) old new place = IsDamagedPlace IsBadForExport old old place
+IsDamaged (Export name window) old new place = IsDamagedPlace (IsBadForExport name) old old place
 IsDamaged Retain old new place = IsDamagedPlace IsBadForRequest old new place
 IsDamaged Live old new place = IsDamagedPlace IsBadForRequest old new place
-IsDamaged Derive old new place = IsDamagedPlace IsBadForRequest old new place
+IsDamaged Derive old new place = IsDamagedPlace IsBadForChart old new place
 IsDamaged command old new place = ⊥
 
 -- which never comes where the disk of a serving command holds a book

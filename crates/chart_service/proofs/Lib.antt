@@ -1,5 +1,6 @@
 pub mod ReadLemmas
 pub mod LookLemmas
+pub mod KindLemmas
 pub mod SelectLemmas
 pub mod EditLemmas
 pub mod Ranged

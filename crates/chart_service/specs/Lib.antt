@@ -3,6 +3,7 @@ pub mod Viewing
 pub mod ViewingLaws
 pub mod Replies
 pub mod Opening
+pub mod Kinds
 pub mod Planning
 pub mod Alone
 pub mod Stepping

@@ -26,3 +26,4 @@ pub mod DoneLemmas
 pub mod GroupLemmas
 pub mod CoverLemmas
 pub mod KeptLemmas
+pub mod NameLemmas

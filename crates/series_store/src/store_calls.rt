@@ -8,7 +8,7 @@ ghost use Rattle.series_book.specs.declared.limits.TheConstants.{MOST_SLOTS};
 ghost use Rattle.series_book.specs.Edits.{id_of};
 ghost use Rattle.series_book.specs.Pages.{pages_of};
 ghost use Rattle.page_space.specs.Layout.{in_use};
-ghost use Rattle.series_store.specs.Asking.{IsFound, IsInfo};
+ghost use Rattle.series_store.specs.Asking.{IsFound, IsInfo, IsNamedAt, LacksName};
 ghost use Rattle.series_catalog.specs.declared.stored_series.StoredSeries.{StoredSeries};
 ghost use Rattle.series_store.specs.Shown as shown;
 
@@ -86,6 +86,7 @@ impl<P: Pages> Store<P> {
     }
 
     /// What is told of the series of this name; none exactly where no series has it.
+    #[tactic(auto, using(crate::proofs::NameLemmas::place_named, crate::proofs::NameLemmas::place_none))]
     pub fn series(&self, name: &Name) -> Option<SeriesInfo>
         ensures there { IfSome result (λ info. info.id < length (shown.catalog self.now)) }
         ensures few { IfSome result (λ info. info.id < 512) }
@@ -97,6 +98,8 @@ impl<P: Pages> Store<P> {
         ensures proper { IfSome result (λ info. IsProperIfAny info.span) }
         ensures none { IfSome result (λ info. info.slots ≡ 0 → info.span ≡ None) }
         ensures info { shown.ForSoundBook self.now (λ total book. MatchOption result (id_of name.now book ≡ None) (IsFound name.now book)) }
+        // so it is by the catalog that was read
+        ensures named { MatchOption result (LacksName (shown.catalog self.now) name.now) (λ info. IsNamedAt (shown.catalog self.now) name.now info.id) }
     {
         let id = self.catalog.find(name)?;
         Some(self.info(id))

@@ -1,5 +1,5 @@
 -- A store is read, and what a check found is sent: the disk holds its book on.
-use Rattle.std.proofs.Common.{arith, ◌≡◌, ℕ, ◌≤◌, Bool, List, Option, refl, sym, subst, inl, inr}
+use Rattle.std.proofs.Common.{arith, ◌≡◌, ◌∙◌, ℕ, ◌≤◌, Bool, List, Option, refl, sym, subst, inl, inr}
 use Rattle.block_disk.specs.View.{Image, View, Now, Honest, Passes, sent_now}
 use Rattle.block_disk.proofs.Passing.{passes_weaker}
 use Rattle.gate_pages.specs.GateLaws.{gate_rests, goes_by, goes_then, kept_told}
@@ -91,6 +91,7 @@ module _ (count count' : ℕ) (sound sound' : Bool) (old mid : View) (kept : Kep
         subst P (sym end_is) (not_counted count count' sound sound' old mid s before now sends sends_now error same keeps few low cause outside);
     crash = looked_since count count' sound sound' old mid kept goes rests;
     holds = looked_holds count count' sound sound' old mid kept goes rests closed;
+    unwritten = (kept.syncs, kept.writes);
     honest = kept.told;
     goes_on = goes;
   }
@@ -108,6 +109,7 @@ module _ (count count' : ℕ) (sound sound' : Bool) (old mid : View) (kept : Kep
         (looked_since count count' sound sound' old mid kept goes rests total book holds);
     holds = λ total book holds.
         holds_sent count total book mid new (λ bytes. (sent_now mid ≤ bytes) × (bytes ≤ sent_now new)) sent.kept sent.time (looked_holds count count' sound sound' old mid kept goes rests closed total book holds);
+    unwritten = (sent.kept.syncs ∙ kept.syncs, sent.kept.writes ∙ kept.writes);
     honest = λ h. kept_told mid new sent.kept (kept.told h);
     goes_on = goes_then old mid new goes (goes_by mid new (Now mid) (λ bytes. (sent_now mid ≤ bytes) × (bytes ≤ sent_now new)) sent.time);
   }

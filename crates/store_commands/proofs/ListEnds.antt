@@ -11,6 +11,7 @@ use Rattle.run_ends.specs.declared.ending.End.TheVariants.{Done, NoMemory, SendF
 use Rattle.series_book.specs.Axes.{IsAxisOf}
 use Rattle.series_book.specs.declared.axis.Axis.{Axis}
 use Rattle.series_book.specs.declared.one_series.Series.{Series}
+use Rattle.disk_store.proofs.Opened.{few_then}
 use Rattle.disk_store.specs.Openings.{Opens}
 use Rattle.disk_store.specs.declared.causes.OpeningCause.{OpeningCause}
 use Rattle.disk_store.specs.declared.causes.OpeningCause.TheVariants as opening
@@ -35,6 +36,7 @@ unlisted old new left left' before now sends sends_now cause end u same = record
   crash = opened_since old new u.opens;
   holds = held old new u.opens;
   reads = u.opens.reads.high;
+  few = u.opens.few;
   honest = u.opens.honest;
   goes_on = opened_goes old new u.opens;
 }
@@ -75,6 +77,7 @@ listed old mid new before mid_before now sends mid_sends sends_now end text open
       holds = λ total book holds.
           holds_sent (page_count old.size) total book mid new (λ count. (sent_now mid ≤ count) × (count ≤ sent_now new)) sent.kept sent.time (held old mid opens total book holds);
       reads = omega (arith, opens.reads.high, sent.kept.reads);
+      few = few_then (page_count old.size) old mid new opens.few sent.kept.syncs sent.kept.writes;
       honest = λ h. kept_told mid new sent.kept (opens.honest h);
       goes_on = goes_then old mid new (opened_goes old mid opens) (goes_by mid new (Now mid) (λ count. (sent_now mid ≤ count) × (count ≤ sent_now new)) sent.time);
     } in

@@ -12,6 +12,7 @@ use Rattle.path_repair.specs.Damage.{HasBadLink}
 use Rattle.series_store.specs.Counting.{AreCounts, AreNumbers, AreSound, HasBadTree}
 use Rattle.series_store.specs.declared.counts.Counts.{Counts}
 use Rattle.disk_store.specs.Held.{HoldsBook}
+use Rattle.disk_store.specs.Openings.{WritesFew}
 use Rattle.stored_book.specs.Damage.{SaysNumbers}
 use Rattle.stored_book.specs.Standing.{AreCatalog, book_pages}
 use Rattle.run_ends.specs.Statuses.{block_of}
@@ -67,6 +68,8 @@ pub record CheckEnds (old new : View) (before now : Option (List ℕ)) (sends se
   pub is : IsCheckEnd end old new before now sends sends_now
   pub crash : LeavesSame (page_count old.size) old new
   pub holds : OfBook (page_count old.size) old (λ total book. HoldsBook (page_count old.size) total book new)
+  -- it syncs and writes no more than an opening
+  pub few : WritesFew (page_count old.size) old new
   -- reads give what a crash may leave, where they did
   pub honest : Honest old → Honest new
   pub goes_on : GoesOn old new

@@ -9,6 +9,7 @@ use Rattle.reading_lines.specs.Lines.{series_line}
 use Rattle.series_book.specs.declared.axis.Axis.{Axis}
 use Rattle.series_book.specs.declared.one_series.Series.{Series}
 use Rattle.disk_store.specs.Held.{HoldsBook}
+use Rattle.disk_store.specs.Openings.{WritesFew}
 use Rattle.store_commands.specs.Books.{OfBook, LeavesSame, SendsPartOf}
 use Rattle.run_ends.specs.declared.ending.End.{End}
 use Rattle.run_ends.specs.declared.ending.End.TheVariants.{Done, SendFault}
@@ -50,6 +51,8 @@ pub record ListEnds (old new : View) (before now : Option (List ℕ)) (sends sen
   pub crash : LeavesSame (page_count old.size) old new
   pub holds : OfBook (page_count old.size) old (λ total book. HoldsBook (page_count old.size) total book new)
   pub reads : ReadsOpening old new
+  -- it syncs and writes no more than an opening
+  pub few : WritesFew (page_count old.size) old new
   -- reads give what a crash may leave, where they did
   pub honest : Honest old → Honest new
   pub goes_on : GoesOn old new
