@@ -90,6 +90,7 @@ module _ (c : Course) (sends sends_now : ℕ) where
     store = record { goes_on = e.goes_on; away = away };
     untaken = took;
     kept = record { holds = e.holds; crash = e.crash };
+    reads = e.reads;
     few = e.few;
     good = λ r. check_good r end e.is;
   }

@@ -26,7 +26,7 @@ use Rattle.chart_program.specs.Plotted.{SendsPlot, SendsFront}
 use Rattle.chart_program.specs.Served.{Faults, faults_of, AreTexts, Spelled, AnswersAll, AnswersFront, AnswersTaken, AnswersWithin, AnswersSome, AnswersLines, LeavesBooks, ReadsServing, SyncsServing, RejectsNext}
 use Rattle.store_commands.specs.Books.{FromBook, HoldsAgain, Never, LeavesSame}
 use Rattle.store_commands.specs.Loaded.{Unnamed, LoadsAll, LoadsAndSendsPart, LoadsSome, LoadsToBad, LoadsTaken, LoadsWithin, RefusesSet, LeavesLoads, LeavesUnnamed}
-use Rattle.store_commands.specs.Checked.{SendsCounts, SendsCountsPart, IsBadForCheck}
+use Rattle.store_commands.specs.Checked.{SendsCounts, SendsCountsPart, IsBadForCheck, ReadsStore}
 use Rattle.store_commands.specs.Listed.{SendsList, SendsListPart, ReadsOpening}
 use Rattle.store_commands.specs.Exported.{ExportsAll, ExportsPart, HasNone, IsBadForExport, ReadsSeries}
 use Rattle.store_commands.specs.Demonstrated.{SendsSummary, SendsSummaryPart, AnswersFirst, LeavesDemo}
@@ -370,9 +370,11 @@ TellsUnnamed (Load name) old code = Unnamed (page_count old.size) old name (λ t
 TellsUnnamed (Export name window) old code = Unnamed (page_count old.size) old name (λ total book. Contains (3 ∷ 6 ∷ 14 ∷ []) code)
 TellsUnnamed command old code = ⊤
 
--- A list reads at most the blocks that an opening reads, and an export beside these each page of its series' tree once.
+-- A list reads at most the blocks that an opening reads, an export beside these each page of its series' tree once, and a check
+-- each page of the store.
 abbrev pub ReadsFew : Command → View → View → Type 0
 ReadsFew ListSeries old new = ReadsOpening old new
+ReadsFew Check old new = ReadsStore (page_count old.size) old new
 ReadsFew (Export name window) old new = ReadsSeries name (page_count old.size) old new
 ReadsFew command old new = ⊤
 

@@ -7,6 +7,7 @@ pub mod Ranged
 pub mod PlanLemmas
 pub mod ViewLemmas
 pub mod StepLemmas
+pub mod BlameLemmas
 pub mod LineLemmas
 pub mod Progress
 pub mod DiskKept

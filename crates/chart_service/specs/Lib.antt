@@ -16,6 +16,7 @@ pub mod ReadingBlocks
 pub mod Making
 pub mod Spelled
 pub mod EditGroups
+pub mod EditDamage
 pub mod Knowing
 pub mod Naming
 pub mod Answering

@@ -86,7 +86,6 @@ impl<P: Pages> Store<P> {
     }
 
     /// What is told of the series of this name; none exactly where no series has it.
-    #[tactic(auto, using(crate::proofs::NameLemmas::place_named, crate::proofs::NameLemmas::place_none))]
     pub fn series(&self, name: &Name) -> Option<SeriesInfo>
         ensures there { IfSome result (λ info. info.id < length (shown.catalog self.now)) }
         ensures few { IfSome result (λ info. info.id < 512) }
