@@ -62,6 +62,7 @@ module _ (c : Course) (sends sends_now : ℕ) where
     untaken = took;
     kept = record { holds = e.holds; crash = e.crash };
     few = e.few;
+    records = e.records;
     reads = e.reads;
     good = λ r. list_good r end e.is;
   }

@@ -1,7 +1,8 @@
 -- The page of `list`: a line is sent for each series of the store's book.
+use Rattle.std.specs.Prelude.{◌≡◌}
 use Rattle.run_ends.specs.declared.ending.End.{End}
 use Rattle.run_ends.specs.declared.ending.End.TheVariants.{Done, NoMemory, SendFault, DiskFault, DamagedBlock, TooSmall}
-use Rattle.store_commands.specs.Listed.{ReadsOpening, SendsList, SendsListPart}
+use Rattle.store_commands.specs.Listed.{ListsRecords, ReadsOpening, SendsList, SendsListPart}
 use Rattle.chart_program.specs.Course.{Course, FoundDamaged, HasFewBlocks, HeldNoBook, IsDoneOrCut, KeptBook, OverStore, SentNothing, WritesLittle}
 use Rattle.chart_program.specs.Course.{StandsOn, TookNothing, count}
 
@@ -22,5 +23,6 @@ pub record OfList (c : Course) (end : End) : Type 0 where
   pub untaken : TookNothing c
   pub kept : KeptBook c
   pub few : WritesLittle c
+  pub records : end ≡ Done → ListsRecords (count c) c.old c.sent c.sent_now
   pub reads : ReadsOpening c.old c.new
   pub good : StandsOn c.old c.new → IsDoneOrCut end

@@ -1,5 +1,5 @@
 -- Where a catalog has a name.
-use Rattle.std.proofs.Common.{◌≡◌, ◌∙◌, ℕ, zero, suc, ◌+◌, ◌<◌, Bool, true, false, cond, not, ltb, List, [], ◌∷◌, length, get_or, Option, Some, None, refl, sym, ap, subst, arith}
+use Rattle.std.proofs.Common.{◌≡◌, ◌∙◌, ℕ, zero, suc, ◌+◌, ◌<◌, Bool, true, false, cond, not, ltb, List, [], ◌∷◌, length, map, get_or, Option, Some, None, refl, sym, ap, subst, arith}
 use Rattle.std.proofs.lemmas.Bool.{lt-ltb}
 use Rattle.std.proofs.lemmas.List.Quantifiers.{position-Some}
 use Rattle.std.proofs.lemmas.Slice.Eq.{bytes_eq-Decides}
@@ -8,7 +8,7 @@ use Rattle.std.specs.Str.{bytes_eq}
 use Rattle.block_disk.specs.View.{Image}
 use Rattle.catalog_page.specs.Entries.{Entry}
 use Rattle.page_space.specs.declared.superblock.Superblock.{Superblock}
-use Rattle.series_catalog.specs.Catalogs.{AreAsTold, place_of}
+use Rattle.series_catalog.specs.Catalogs.{AreAsTold, entry_of, place_of}
 use Rattle.series_catalog.specs.declared.stored_series.StoredSeries.{StoredSeries}
 use Rattle.series_store.specs.Asking.{IsNamedAt, LacksName}
 use Rattle.series_store.proofs.AskLemmas.{there}
@@ -61,3 +61,25 @@ pub no_record : (image : Image) (s : Superblock) (items : List StoredSeries) (na
 no_record image s items name count told lacks id low named =
     let one = there items id (omega (arith, low, count)) in
     lacks id one.0 one.1 (sym (ap (λ (e : Entry). e.name) (told id one.0 one.1)) ∙ named)
+
+-- ---- what the records of a catalog say, as a list
+
+pub entry_there : (items : List StoredSeries) (id : ℕ) (one : StoredSeries) → slice_get items id ≡ Some one → slice_get (map entry_of items) id ≡ Some (entry_of one)
+entry_there [] id one at = cc
+entry_there (o ∷ items) zero one at = let same : o ≡ one = cc in ap (λ (s : StoredSeries). Some (entry_of s)) same
+entry_there (o ∷ items) (suc id) one at = entry_there items id one at
+
+pub entry_is : (items : List StoredSeries) (id : ℕ) (e : Entry) → slice_get (map entry_of items) id ≡ Some e → (one : StoredSeries) × (slice_get items id ≡ Some one) × (e ≡ entry_of one)
+entry_is [] id e at = cc
+entry_is (o ∷ items) zero e at = let same : entry_of o ≡ e = cc in (o, refl, sym same)
+entry_is (o ∷ items) (suc id) e at = entry_is items id e at
+
+pub as_long : (items : List StoredSeries) → length (map entry_of items) ≡ length items
+as_long [] = refl
+as_long (o ∷ items) = ap suc (as_long items)
+
+-- they are those of the pages
+pub records_are : (image : Image) (items : List StoredSeries) → AreAsTold image items → (id : ℕ) (e : Entry) → slice_get (map entry_of items) id ≡ Some e → e ≡ entry image id
+records_are image items told id e at =
+    let one = entry_is items id e at in
+    one.2 ∙ sym (told id one.0 one.1)
