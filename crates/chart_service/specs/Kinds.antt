@@ -61,3 +61,10 @@ MayAnswerRead (Ok request) frame = MayAnswer request frame
 abbrev pub MayAnswerLine : Option (List ℕ) → Frame → Type 0
 MayAnswerLine None frame = frame ≡ refused LineTooLong
 MayAnswerLine (Some text) frame = MayAnswerRead (read_line text) frame
+
+-- there are as many frames as lines, and each of them may answer its line
+abbrev pub MayAnswerAll : List (Option (List ℕ)) → List Frame → Type 0
+MayAnswerAll [] [] = ⊤
+MayAnswerAll [] (frame ∷ frames) = ⊥
+MayAnswerAll (line ∷ lines) [] = ⊥
+MayAnswerAll (line ∷ lines) (frame ∷ frames) = MayAnswerLine line frame × MayAnswerAll lines frames
