@@ -399,5 +399,5 @@ answers_told input lines v w old b before now are g =
 pub serve_answers : (r : Result (Unit {0}) (AnswerEnd AllocError)) (v w : Unit {0}) (old new : List Session) (before now left : Option (List ℕ)) → GivesTold spelling_makes left v w old new before now r
     → OnOk (serve_end r) (IfSome left (λ input. SendsAnswers old input before now))
 serve_answers (Ok done) v w old new before now None g = tt
-serve_answers (Ok done) v w old new before now (Some input) g = answers_told input g.lines v w old (λ n. is_open n new) before now g.told_are g.gives
+serve_answers (Ok done) v w old new before now (Some input) g = answers_told input g.lines v w old (λ n. is_open n new) before now g.are_told g.gives
 serve_answers (Err end) v w old new before now left g = tt

@@ -90,7 +90,7 @@ GivesBy makes lines kept kept' sessions sessions' before now (Err end) = GivesFi
 pub record GivesTold {T S F : Type 0} (makes : Makes S F) (input : Option (List ℕ)) (kept kept' : S) (sessions sessions' : List Session) (before now : Option (List ℕ)) (result : Result T (AnswerEnd F)) : Type 0 where
   pub lines : List (Option (List ℕ))
   pub gives : GivesBy makes lines kept kept' sessions sessions' before now result
-  pub told_are : OnOk result (IfSome input (λ bytes. lines ≡ told bytes))
+  pub are_told : OnOk result (IfSome input (λ bytes. lines ≡ told bytes))
 
 -- What was sent is the spellings of frames whose fields meet their rules, or a first part of that: each of them that closes
 -- a session or answers in it names one that is open by those before it.

@@ -185,15 +185,15 @@ module _ {S F : Type 0} (makes : Makes S F) (v w : S) (own sessions : List Sessi
       → GivesTold makes o v w own sessions before now (answer_of r) × (name' ≡ name)
   gives_so o left pieces pieces' (Ok done) all why =
       let is = lines_told pieces pieces' o all in
-      (record { lines = is.0; gives = is.1; told_are = is.3 }, is.2)
+      (record { lines = is.0; gives = is.1; are_told = is.3 }, is.2)
   gives_so o left pieces pieces' (Err (stop.Fault fault.ReadFault)) all why =
       let t = given makes why.done.given start why.done.text why.done.behind why.done.carries in
       let g = gives_to why.done.given why.done.text why.done.behind t why.stands why.sent in
-      (record { lines = []; gives = first_fault makes t.gives.front v w (λ n. is_open n own) (λ n. is_open n sessions) before now fault.ReadFault g.0; told_are = tt }, g.1)
+      (record { lines = []; gives = first_fault makes t.gives.front v w (λ n. is_open n own) (λ n. is_open n sessions) before now fault.ReadFault g.0; are_told = tt }, g.1)
   gives_so o left pieces pieces' (Err (stop.Fault fault.InputTooLong)) all why =
       let t = given makes why.done.given start why.done.text why.done.behind why.done.carries in
       let g = gives_to why.done.given why.done.text why.done.behind t why.stands why.sent in
-      (record { lines = []; gives = first_fault makes t.gives.front v w (λ n. is_open n own) (λ n. is_open n sessions) before now fault.InputTooLong g.0; told_are = tt }, g.1)
+      (record { lines = []; gives = first_fault makes t.gives.front v w (λ n. is_open n own) (λ n. is_open n sessions) before now fault.InputTooLong g.0; are_told = tt }, g.1)
   gives_so o left pieces pieces' (Err (stop.Work end)) all why =
       let d = why.done in
       let t = given makes d.given start d.text d.behind d.carries in
@@ -204,7 +204,7 @@ module _ {S F : Type 0} (makes : Makes S F) (v w : S) (own sessions : List Sessi
           lines = [];
           gives = first_behind makes t.gives.front v t.new.kept w (λ n. is_open n own) (λ n. is_open n t.new.sessions) before mid now end (t.gives.gives before mid
               refl) s.gives;
-          told_are = tt;
+          are_told = tt;
         },
         s.same_reference ∙ t.gives.same_reference,
       )
