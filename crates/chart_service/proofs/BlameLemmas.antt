@@ -25,9 +25,12 @@ group_blames (store.Damaged page) end told told' catalog s old new is own moves 
     let P : ServiceError → Type 0 = NamesBadForEdit told' new.size new.image in
     let I : Image → Type 0 = λ i. IsBadForEdit old.size i page in
     let C : ℕ → Type 0 = λ n. IsBadForEdit n new.image page in
-    subst P (sym is) (omega (arith, cause.0, own.within, moves.size), λ t.
-    let was = moves.was_told t in
-    subst C (sym moves.size) (subst I (sym (kept.image was)) (record { numbers = s; keeps = own.keeps was; so = (cause.0, cause.1 was) })))
+    subst P (sym is) (
+      omega (arith, cause.0, own.within, moves.size),
+      λ t.
+          let was = moves.was_told t in
+          subst C (sym moves.size) (subst I (sym (kept.image was)) (record { numbers = s; keeps = own.keeps was; so = (cause.0, cause.1 was) })),
+    )
 group_blames store.NoMemory end told told' catalog s old new is own moves kept cause = let P : ServiceError → Type 0 = NamesBadForEdit told' new.size new.image in subst P (sym is) tt
 
 -- ---- edits of which none changes the book

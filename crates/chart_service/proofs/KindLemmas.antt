@@ -11,6 +11,7 @@ use Rattle.series_book.specs.declared.one_series.Series.{Series}
 use Rattle.series_book.specs.declared.refusals.Refusal.{Refusal}
 use Rattle.series_book.specs.declared.refusals.Refusal.TheVariants.{LineTooLong, BadLine, BadFilter, BadWindow, BadCanvas, BadRange, NoView, UnknownSeries, UnknownSession}
 use Rattle.series_book.specs.Edits.{Edited, apply, id_of}
+use Rattle.value_filter.specs.Steps.{postfix}
 use Rattle.value_filter.specs.declared.steps.Step.{Step}
 use Rattle.zoom_session.specs.declared.session.Session.{Session}
 use Rattle.zoom_session.specs.declared.view_spec.RangeSpec.{RangeSpec}
@@ -20,6 +21,7 @@ use Rattle.chart_service.specs.EditGroups.{IsEditReply}
 use Rattle.chart_service.specs.Kinds.{KeepsSessions, MayAnswer, MayAnswerLine, MayAnswerRead, MayClose, MayOpen, MayShow}
 use Rattle.chart_service.specs.Replies.{AnswersBy, Closes, Edits, Moves, MovesIn, MovesLast, Opens, Refuses, Replies, RepliesByText, RepliesTo, RepliesToLine, RepliesToView, Views, ViewsId, ViewsSeries, cache_of, line_text, refused}
 use Rattle.chart_service.specs.State.{State}
+use Rattle.chart_service.specs.Viewing.{range_spec}
 use Rattle.chart_service.specs.declared.failure.ServiceError.{ServiceError}
 use Rattle.chart_service.proofs.Sending.{text_is}
 
@@ -56,7 +58,7 @@ shows_refused : (n : ℕ) (r : Refusal) (f : Frame) (old new : State) → Refuse
 shows_refused n r f old new is = may_refuse n f r is.reply
 
 view_may : (filter : Option (List Step)) (series : Series) (spec : ViewSpec) (n : ℕ) (f : Frame) (old new : State) → AnswersBy filter series spec n f old new → MayShow n f
-view_may None series spec n f old new (inl many) = may_refuse n f _ many.refuses.reply
+view_may None series spec n f old new (inl many) = let M : Frame → Type 0 = λ x. MayShow n x in subst M (sym many.refuses.reply) tt
 view_may None series spec n f old new (inr is) = let M : Frame → Type 0 = λ x. MayShow n x in subst M (sym is.frame_is) refl
 view_may (Some steps) series spec n f old new is = let M : Frame → Type 0 = λ x. MayShow n x in subst M (sym is.frame_is) refl
 
@@ -68,7 +70,7 @@ series_may None id n w h t0 t1 word filter f old new is = shows_refused n Unknow
 series_may (Some series) id n w h t0 t1 word filter f old new (inl bad) = shows_refused n BadWindow f old new bad.1
 series_may (Some series) id n w h t0 t1 word filter f old new (inr (inl bad)) = shows_refused n BadCanvas f old new bad.2
 series_may (Some series) id n w h t0 t1 word filter f old new (inr (inr (inl bad))) = shows_refused n BadRange f old new bad.4
-series_may (Some series) id n w h t0 t1 word filter f old new (inr (inr (inr is))) = views_may series id n w h t0 t1 _ filter f old new is.4
+series_may (Some series) id n w h t0 t1 word filter f old new (inr (inr (inr is))) = views_may series id n w h t0 t1 (range_spec word) filter f old new is.4
 
 id_may : (o : Option ℕ) (n w h : ℕ) (t0 t1 : ℤ) (word : RangeWord) (filter : Option (List Step)) (f : Frame) (old new : State) → ViewsId o n w h t0 t1 word filter f old new → MayShow n f
 id_may None n w h t0 t1 word filter f old new is = shows_refused n UnknownSeries f old new is
@@ -82,7 +84,7 @@ text_may : (text : Option (List ℕ)) (there : Bool) (n : ℕ) (name : List ℕ)
     → RepliesByText text (λ filter. RepliesToView there n name w h t0 t1 word filter f old new) f old new → MayShow n f
 text_may None there n name w h t0 t1 word f old new is = named_may there n name w h t0 t1 word None f old new is
 text_may (Some text) there n name w h t0 t1 word f old new (inl bad) = shows_refused n (BadFilter bad.0) f old new bad.2
-text_may (Some text) there n name w h t0 t1 word f old new (inr is) = named_may there n name w h t0 t1 word _ f old new is.2
+text_may (Some text) there n name w h t0 t1 word f old new (inr is) = named_may there n name w h t0 t1 word (Some (postfix is.0)) f old new is.2
 
 moves_may : (last : ViewSpec) (n : ℕ) (t0 t1 : ℤ) (f : Frame) (old new : State) → Moves last n t0 t1 f old new → MayShow n f
 moves_may last n t0 t1 f old new is = elim is.reply [

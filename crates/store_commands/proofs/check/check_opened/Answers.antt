@@ -38,9 +38,9 @@ returns-in-Ok-clause-checks g c =
     let rests = rests_new pages.count (view old) (shown.numbers c.args.store) (pages.at_rest c.requires) (c.args.store.space.spelled c.requires) in
     let s = shown.numbers c.args.store in
     let few : OfBook pages.count (view old) (λ total book. (view mid).reads ≤ (view old).reads + total) = λ total book holds.
-        let stands = stands_held pages.count total book (view old) rests holds in
-        let numbers = own_store pages.count total (pages_of pages.count (view old).image) book s c.args.store.space.rules c.args.store.small (c.args.store.space.spelled c.requires holds.honest) stands in
-        omega (arith, e.reads total book holds.honest stands, c.args.store.space.rules.fresh_high, numbers.1) in
+    let stands = stands_held pages.count total book (view old) rests holds in
+    let numbers = own_store pages.count total (pages_of pages.count (view old).image) book s c.args.store.space.rules c.args.store.small (c.args.store.space.spelled c.requires holds.honest) stands in
+    omega (arith, e.reads total book holds.honest stands, c.args.store.space.rules.fresh_high, numbers.1) in
     let P : g.row.W.Denot → Type 0 = λ d. SendsText (counts_text counts) (view d) (view new) (sent d) (sent new) (sends d) (sends new) c.send_text.result.0 in
     checks_sent pages.count read.count pages.sound read.sound (view old) (view mid) e.looks.kept e.looks.over.goes_on rests closed few (view new) counts (sent old) (sent mid) (sent new) (sends old) (sends mid) (sends new) c.send_text.result.0
     (sym (w.beside_sent mid) ∙ ap (λ (b : Beside). b.sent) beside ∙ w.beside_sent old)
@@ -73,9 +73,9 @@ returns-in-Err-clause-checks g c =
     let rests = rests_new pages.count (view old) (shown.numbers c.args.store) (pages.at_rest c.requires) (c.args.store.space.spelled c.requires) in
     let s = shown.numbers c.args.store in
     let few : OfBook pages.count (view old) (λ total book. (view mid).reads ≤ (view old).reads + total) = λ total book holds.
-        let stands = stands_held pages.count total book (view old) rests holds in
-        let numbers = own_store pages.count total (pages_of pages.count (view old).image) book s c.args.store.space.rules c.args.store.small (c.args.store.space.spelled c.requires holds.honest) stands in
-        omega (arith, e.reads total book holds.honest stands, c.args.store.space.rules.fresh_high, numbers.1) in
+    let stands = stands_held pages.count total book (view old) rests holds in
+    let numbers = own_store pages.count total (pages_of pages.count (view old).image) book s c.args.store.space.rules c.args.store.small (c.args.store.space.spelled c.requires holds.honest) stands in
+    omega (arith, e.reads total book holds.honest stands, c.args.store.space.rules.fresh_high, numbers.1) in
     let P : g.row.W.Denot → Type 0 = λ d. ChecksStore pages.count (view old) (view d) (sent old) (sent d) (sends old) (sends d) c.check_end.result in
     subst P (sym c.disk_of-world.ensures.disk)
     (checks_not pages.count read.count pages.sound read.sound (view old) (view mid) e.looks.kept e.looks.over.goes_on rests closed few (shown.numbers c.args.store) (sent old) (sent mid) (sends old) (sends mid) c.in-Err.error c.check_end.result c.check_end.ensures
