@@ -9,6 +9,7 @@ use Rattle.chart_service.specs.ReadingBlocks.{ReadsInTurn, ReadsLines}
 use Rattle.chart_service.specs.State.{State}
 use Rattle.chart_service.specs.Stepping.{state_of}
 use Rattle.chart_service.specs.Syncing.{SyncsLines, edits_of}
+use Rattle.disk_store.proofs.Opened.{syncs_few}
 use Rattle.disk_store.specs.Openings.{Opens}
 use Rattle.gate_pages.specs.Journal.{page_count, pages_of}
 use Rattle.series_book.specs.declared.one_series.Series.{Series}
@@ -53,7 +54,7 @@ syncs_opened left old mid new opens =
     told_so (λ input. SyncsFrom (page_count old.size) mid new input mid.syncs) (λ input. SyncsServing old new input) left
     (λ input syncs. (
       mid.syncs,
-      opens.syncs.high,
+      syncs_few (page_count old.size) old mid opens.few,
       λ total book holds small.
           let P : Beside → Type 0 = λ b. SyncsLines input total book (new.beside.pieces - b.pieces) mid.syncs new.syncs in
           subst P opens.beside_is (syncs total book (held old mid opens total book holds) small),
@@ -66,7 +67,7 @@ reads_unopened (Some input) old new opens = (new.reads, opens.reads.high, λ tot
 
 pub syncs_unopened : (left : Option (List ℕ)) (old new : View) → Opens (page_count old.size) old new → IfSome left (λ input. SyncsServing old new input)
 syncs_unopened None old new opens = tt
-syncs_unopened (Some input) old new opens = (new.syncs, opens.syncs.high, λ total book holds small. none_synced input total book (new.beside.pieces - old.beside.pieces) new.syncs)
+syncs_unopened (Some input) old new opens = (new.syncs, syncs_few (page_count old.size) old new opens.few, λ total book holds small. none_synced input total book (new.beside.pieces - old.beside.pieces) new.syncs)
 
 -- by a service with no session open, over the pages of a disk
 pub reads_served : (left : Option (List ℕ)) (count : ℕ) (old new : View) (own : List Session) → RestsNew count old → own ≡ [] → ((total : ℕ) (book : List Series) → Honest old → StandsForBook (pages_of count old.image) total book → IfSome left (λ input. ReadsLines input (state_of book total own) old.reads new.reads)) → IfSome left (λ input. ReadsFrom count old new input old.reads)

@@ -3,14 +3,16 @@ use Rattle.std.proofs.Common.{ℕ, ◌<◌, List, Option, Some, None, IfSome, re
 use Rattle.std.specs.Prelude.{Contains}
 use Rattle.block_disk.specs.View.{View}
 use Rattle.gate_pages.specs.Journal.{page_count}
-use Rattle.run_ends.specs.Statuses.{code_of, place_of, refused_at}
+use Rattle.run_ends.specs.Statuses.{block_of, code_of, place_of, refused_at}
 use Rattle.run_ends.specs.declared.ending.End.{End}
 use Rattle.run_ends.specs.declared.ending.End.TheVariants.{Done, NoMemory, ReadFault, SendFault, DiskFault, DamagedBlock, DamagedPage}
 use Rattle.run_ends.specs.declared.ending.End.TheVariants.{BadInput, InputTooLong, TooSmall, RefusedLine}
 use Rattle.store_commands.specs.Away.{IsTurnedAway}
 use Rattle.store_commands.specs.Books.{OfBook}
 use Rattle.store_commands.specs.Traffic.{Traffic}
-use Rattle.derive_command.specs.Derived.{DeriveEnds, DerivesTaken, DerivesToRefused, IsDeriveCause}
+use Rattle.stored_book.specs.Damage.{IsBadForRequest}
+use Rattle.store_commands.specs.Damaged.{IsDamagedLater}
+use Rattle.derive_command.specs.Derived.{IsBadForChart, DeriveEnds, DerivesTaken, DerivesToRefused, IsDeriveCause}
 use Rattle.derive_command.specs.Lines.{DrawsToNumber, EndsSo}
 use Rattle.program_words.specs.declared.words.Command.TheVariants.{Derive}
 use Rattle.chart_program.specs.CommandStatuses.{codes_of}
@@ -26,6 +28,15 @@ taken : (old : View) (left left' before now : Option (List ℕ)) → IfSome left
 taken old None left' before now all = tt
 taken old (Some input) None before now all = tt
 taken old (Some input) (Some bytes) before now all = all
+
+-- what is bad for a chart is so for a request
+by_request : (old new : View) (place : ℕ) → IsDamagedLater IsBadForChart (page_count old.size) new place → IsDamagedLater IsBadForRequest (page_count old.size) new place
+by_request old new place is = record {
+  page = is.page;
+  place_is = is.place_is;
+  within = is.within;
+  bad = λ honest. let bad = is.bad honest in record { numbers = bad.numbers; keeps = bad.keeps; so = (bad.so.0, inl bad.so.1) };
+}
 
 -- a line that is refused, by its place
 refused : (old : View) (left before now : Option (List ℕ)) (at number : ℕ) → IfSome left (λ input. OfBook (page_count old.size) old (λ total book. DrawsToNumber book input before now at number))
@@ -46,7 +57,7 @@ module _ (old new : View) (left left' before now : Option (List ℕ)) (faults : 
   derive_came SendFault cause sent = (cause, sent)
   derive_came DiskFault cause sent = (cause, sent)
   derive_came (DamagedBlock block) cause sent = (inl cause.0, sent, inl (cause.0.0, cause.1))
-  derive_came (DamagedPage page) cause sent = (inr cause, sent, inr cause)
+  derive_came (DamagedPage page) cause sent = (inr cause, sent, inr (by_request old new (block_of page) cause))
   derive_came (BadInput at) cause sent = sent
   derive_came InputTooLong cause sent = told_long left _ cause sent
   derive_came (TooSmall blocks) cause sent = cause

@@ -64,5 +64,6 @@ module _ (old new : View) (t : Traffic) where
     does = derive_does end e.cause e.sent;
     store = record { goes_on = e.goes_on; away = away };
     kept = record { holds = e.holds; crash = e.crash };
+    few = e.few;
     good = told_so (Sends end) (λ input. AreDerived old new input → IsDoneOrCut end) t.left (derive_good end e.cause) e.sent;
   }

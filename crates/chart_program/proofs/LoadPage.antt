@@ -66,6 +66,7 @@ module _ (name : List ℕ) (old new : View) (t : Traffic) where
     does = load_does end e.is;
     store = record { goes_on = e.goes_on; away = away };
     unnamed = e.unnamed;
+    lacks = e.lacks;
     crash = both_told t.left t.sent _ _ e.crash e.kept;
     good = good_of t.left refl end e.is;
   }

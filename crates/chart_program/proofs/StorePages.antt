@@ -61,6 +61,8 @@ module _ (c : Course) (sends sends_now : ℕ) where
     store = record { goes_on = e.goes_on; away = away };
     untaken = took;
     kept = record { holds = e.holds; crash = e.crash };
+    few = e.few;
+    records = e.records;
     reads = e.reads;
     good = λ r. list_good r end e.is;
   }
@@ -89,6 +91,8 @@ module _ (c : Course) (sends sends_now : ℕ) where
     store = record { goes_on = e.goes_on; away = away };
     untaken = took;
     kept = record { holds = e.holds; crash = e.crash };
+    reads = e.reads;
+    few = e.few;
     good = λ r. check_good r end e.is;
   }
 
@@ -154,7 +158,9 @@ module _ (c : Course) (sends sends_now : ℕ) where
       store = record { goes_on = e.goes_on; away = away };
       untaken = took;
       unnamed = e.unnamed;
+      lacks = e.lacks;
       kept = record { holds = e.holds; crash = e.crash };
+      few = e.few;
       reads = e.reads;
       good = λ r. export_good r end e.is;
     }

@@ -109,7 +109,7 @@ module _ (old new : View) (left left' before now : Option (List ℕ)) (faults : 
     own = check_own end e.is;
     away = λ over. away;
     untaken = λ none. untaken;
-    reads = tt;
+    reads = e.reads;
     reads_lines = told_any left;
     syncs = told_any left;
     unnamed = tt;

@@ -1,8 +1,8 @@
 -- The page of `check`: every page of the store is read, and what its book holds is counted.
 use Rattle.run_ends.specs.declared.ending.End.{End}
 use Rattle.run_ends.specs.declared.ending.End.TheVariants.{Done, NoMemory, SendFault, DiskFault, DamagedBlock, DamagedPage, TooSmall}
-use Rattle.store_commands.specs.Checked.{IsBadForCheck, SendsCounts, SendsCountsPart}
-use Rattle.chart_program.specs.Course.{Course, FoundDamaged, FoundPage, HasFewBlocks, HeldNoBook, IsDoneOrCut, KeptBook, OverStore}
+use Rattle.store_commands.specs.Checked.{IsBadForCheck, ReadsStore, SendsCounts, SendsCountsPart}
+use Rattle.chart_program.specs.Course.{Course, FoundDamaged, FoundPage, HasFewBlocks, HeldNoBook, IsDoneOrCut, KeptBook, OverStore, WritesLittle}
 use Rattle.chart_program.specs.Course.{SentNothing, StandsOn, TookNothing, count}
 
 -- what it sent, by how it ended
@@ -22,4 +22,6 @@ pub record OfCheck (c : Course) (end : End) : Type 0 where
   pub store : OverStore c end
   pub untaken : TookNothing c
   pub kept : KeptBook c
+  pub reads : ReadsStore (count c) c.old c.new
+  pub few : WritesLittle c
   pub good : StandsOn c.old c.new → IsDoneOrCut end

@@ -82,7 +82,7 @@ IsBarredBy old new t end = end.code ≡ 7 → IsBarred (page_count old.size) new
 abbrev pub Bars : Command → View → View → Option (List ℕ) → Option (List ℕ) → Option (List ℕ) → Option (List ℕ) → ℕ → Type 0
 Bars Run old new left left' before now place = IsBarred (page_count old.size) new left left' before now place
 Bars Serve old new left left' before now place = IsBarred (page_count old.size) new left left' before now place
-Bars (Export name window) old new left left' before now place = IsDamagedForExport old before now place
+Bars (Export name window) old new left left' before now place = IsDamagedForExport name old before now place
 Bars Retain old new left left' before now place = IsBarred (page_count old.size) new left left' before now place
 Bars Live old new left left' before now place = IsBarred (page_count old.size) new left left' before now place
 Bars Derive old new left left' before now place = IsBarred (page_count old.size) new left left' before now place

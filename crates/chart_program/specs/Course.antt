@@ -3,6 +3,7 @@ use Rattle.std.specs.Prelude.{ℕ, ◌≡◌, ◌<◌, List, Option, IfSome, ⊤
 use Rattle.block_disk.specs.Counts.{HasRisen}
 use Rattle.block_disk.specs.View.{Image, View}
 use Rattle.disk_store.specs.Held.{HoldsBook}
+use Rattle.disk_store.specs.Openings.{WritesFew}
 use Rattle.gate_pages.specs.Journal.{page_count}
 use Rattle.gate_pages.specs.Pages.{GoesOn}
 use Rattle.run_ends.specs.Statuses.{block_of, code_of}
@@ -95,6 +96,10 @@ HasFewBlocks c blocks = (blocks ≡ c.old.size) × (c.old.size < 128)
 pub record KeptBook (c : Course) : Type 0 where
   pub holds : OfBook (count c) c.old (λ total book. HoldsBook (count c) total book c.new)
   pub crash : LeavesSame (count c) c.old c.new
+
+-- it syncs and writes no more than an opening: nothing is written behind a closed gate, unless the store is of version 1
+abbrev pub WritesLittle : Course → Type 0
+WritesLittle c = WritesFew (count c) c.old c.new
 
 -- what a crash leaves at each moment, where the input and the bytes sent before are told
 abbrev pub AtEachMoment : Course → (ℕ → List ℕ → View → View → Type 0) → Type 0

@@ -3,7 +3,7 @@ use Rattle.std.specs.Prelude.{ℕ, ◌≤◌, ◌^◌, List, length}
 use Rattle.block_disk.specs.Counts.{HasRisen}
 use Rattle.block_disk.specs.View.{View}
 use Rattle.chart_service.specs.Serving.{told}
-use Rattle.derive_command.specs.Derived.{DerivesAll, DerivesFirst, DerivesPart, DerivesTaken, DerivesToBad, DerivesToRefused, DerivesWithin}
+use Rattle.derive_command.specs.Derived.{IsBadForChart, DerivesAll, DerivesFirst, DerivesPart, DerivesTaken, DerivesToBad, DerivesToRefused, DerivesWithin}
 use Rattle.derive_command.specs.Lines.{AreAnswers}
 use Rattle.disk_store.specs.Held.{HoldsBook}
 use Rattle.gate_pages.specs.Journal.{page_count}
@@ -12,8 +12,7 @@ use Rattle.run_ends.specs.declared.ending.End.{End}
 use Rattle.run_ends.specs.declared.ending.End.TheVariants.{Done, NoMemory, ReadFault, SendFault, DiskFault, DamagedBlock, DamagedPage}
 use Rattle.run_ends.specs.declared.ending.End.TheVariants.{BadInput, InputTooLong, TooSmall, RefusedLine}
 use Rattle.series_book.specs.declared.one_series.Series.{Series}
-use Rattle.stored_book.specs.Damage.{IsBadForRequest}
-use Rattle.chart_program.specs.Course.{Course, FoundDamaged, FoundPage, HasFewBlocks, HeldNoBook, IsDoneOrCut, IsLonger, IsShort, KeptBook, OfInput}
+use Rattle.chart_program.specs.Course.{Course, FoundDamaged, FoundPage, HasFewBlocks, HeldNoBook, IsDoneOrCut, IsLonger, IsShort, KeptBook, OfInput, WritesLittle}
 use Rattle.chart_program.specs.Course.{OverStore, Told}
 
 -- what it sent, by how it ended
@@ -24,7 +23,7 @@ DeriveDoes c ReadFault = Told c (λ count old new input. DerivesTaken count old 
 DeriveDoes c SendFault = Told c (λ count old new. DerivesPart count old)
 DeriveDoes c DiskFault = Told c (λ count old new. DerivesFirst count old)
 DeriveDoes c (DamagedBlock block) = FoundDamaged c block × OfInput c (λ input. HeldNoBook c)
-DeriveDoes c (DamagedPage page) = FoundPage IsBadForRequest c c.new page × OfInput c (λ input. HeldNoBook c)
+DeriveDoes c (DamagedPage page) = FoundPage IsBadForChart c c.new page × OfInput c (λ input. HeldNoBook c)
 DeriveDoes c (BadInput at) = Told c (λ count old new input. DerivesToBad count old input at)
 DeriveDoes c InputTooLong = IsLonger c × Told c (λ count old new. DerivesWithin count old)
 DeriveDoes c (TooSmall blocks) = HasFewBlocks c blocks
@@ -47,4 +46,5 @@ pub record OfDerive (c : Course) (end : End) : Type 0 where
   pub does : DeriveDoes c end
   pub store : OverStore c end
   pub kept : KeptBook c
+  pub few : WritesLittle c
   pub good : OfInput c (λ input. AreDerived c.old c.new input → IsDoneOrCut end)

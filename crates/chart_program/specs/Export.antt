@@ -1,5 +1,5 @@
 -- The page of `export NAME` and `export NAME T0 T1`: the stored values of the series of this name of the store's book are sent.
-use Rattle.std.specs.Prelude.{ℕ, List, Option, Contains}
+use Rattle.std.specs.Prelude.{◌≡◌, ℕ, List, Option, Contains}
 use Rattle.block_disk.specs.Counts.{HasRisen}
 use Rattle.block_disk.specs.View.{View}
 use Rattle.disk_store.specs.Held.{HoldsBook}
@@ -11,8 +11,9 @@ use Rattle.series_book.specs.declared.one_series.Series.{Series}
 use Rattle.series_export.specs.declared.window.Window.{Window}
 use Rattle.series_load.specs.Sets.{IsNamed}
 use Rattle.store_commands.specs.Exported.{ExportsAll, ExportsPart, HasNone, IsBadForExport, ReadsSeries, unnamed_ends}
+use Rattle.store_commands.specs.Lacking.{LacksRecord}
 use Rattle.store_commands.specs.Loaded.{Unnamed}
-use Rattle.chart_program.specs.Course.{Course, FoundDamaged, FoundPage, HasFewBlocks, HeldNoBook, IsDoneOrCut, KeptBook, OverStore}
+use Rattle.chart_program.specs.Course.{Course, FoundDamaged, FoundPage, HasFewBlocks, HeldNoBook, IsDoneOrCut, KeptBook, OverStore, WritesLittle}
 use Rattle.chart_program.specs.Course.{SentNothing, TookNothing, count}
 
 -- what it sent, by how it ended
@@ -22,7 +23,7 @@ ExportDoes name window c NoMemory = ExportsPart name window (count c) c.old c.se
 ExportDoes name window c SendFault = ExportsPart name window (count c) c.old c.sent c.sent_now
 ExportDoes name window c DiskFault = ExportsPart name window (count c) c.old c.sent c.sent_now
 ExportDoes name window c (DamagedBlock block) = FoundDamaged c block × HeldNoBook c
-ExportDoes name window c (DamagedPage page) = FoundPage IsBadForExport c c.old page × HeldNoBook c
+ExportDoes name window c (DamagedPage page) = FoundPage (IsBadForExport name) c c.old page × HeldNoBook c
 ExportDoes name window c (TooSmall blocks) = HasFewBlocks c blocks
 ExportDoes name window c UnknownSeries = HasNone (count c) c.old name × SentNothing c
 ExportDoes name window c end = ⊥
@@ -43,6 +44,8 @@ pub record OfExport (name : List ℕ) (window : Option Window) (c : Course) (end
   pub store : OverStore c end
   pub untaken : TookNothing c
   pub unnamed : Unnamed (count c) c.old name (λ total book. Contains unnamed_ends end)
+  pub lacks : end ≡ UnknownSeries → LacksRecord (count c) c.old name
   pub kept : KeptBook c
+  pub few : WritesLittle c
   pub reads : ReadsSeries name (count c) c.old c.new
   pub good : HoldsNamed name c.old c.new → IsDoneOrCut end

@@ -1,8 +1,9 @@
 -- The page of `list`: a line is sent for each series of the store's book.
+use Rattle.std.specs.Prelude.{◌≡◌}
 use Rattle.run_ends.specs.declared.ending.End.{End}
 use Rattle.run_ends.specs.declared.ending.End.TheVariants.{Done, NoMemory, SendFault, DiskFault, DamagedBlock, TooSmall}
-use Rattle.store_commands.specs.Listed.{ReadsOpening, SendsList, SendsListPart}
-use Rattle.chart_program.specs.Course.{Course, FoundDamaged, HasFewBlocks, HeldNoBook, IsDoneOrCut, KeptBook, OverStore, SentNothing}
+use Rattle.store_commands.specs.Listed.{ListsRecords, ReadsOpening, SendsList, SendsListPart}
+use Rattle.chart_program.specs.Course.{Course, FoundDamaged, HasFewBlocks, HeldNoBook, IsDoneOrCut, KeptBook, OverStore, SentNothing, WritesLittle}
 use Rattle.chart_program.specs.Course.{StandsOn, TookNothing, count}
 
 -- what it sent, by how it ended
@@ -21,5 +22,7 @@ pub record OfList (c : Course) (end : End) : Type 0 where
   pub store : OverStore c end
   pub untaken : TookNothing c
   pub kept : KeptBook c
+  pub few : WritesLittle c
+  pub records : end ≡ Done → ListsRecords (count c) c.old c.sent c.sent_now
   pub reads : ReadsOpening c.old c.new
   pub good : StandsOn c.old c.new → IsDoneOrCut end

@@ -1,5 +1,5 @@
 -- The page of `load NAME`: the rows of the input are stored in the series of this name of the store's book, and counted.
-use Rattle.std.specs.Prelude.{ℕ, ◌≤◌, ◌^◌, List, length, Contains}
+use Rattle.std.specs.Prelude.{◌≡◌, ℕ, ◌≤◌, ◌^◌, List, length, Contains}
 use Rattle.block_disk.specs.Counts.{HasRisen}
 use Rattle.block_disk.specs.View.{Image, View}
 use Rattle.disk_store.specs.Held.{HoldsBook}
@@ -12,6 +12,7 @@ use Rattle.series_book.specs.declared.refusals.Refusal.{Refusal}
 use Rattle.series_load.specs.Ends.{IsAtBad, IsAtRefusal}
 use Rattle.series_load.specs.Sets.{IsNamed}
 use Rattle.stored_book.specs.Damage.{IsBadForEdit}
+use Rattle.store_commands.specs.Lacking.{LacksRecord}
 use Rattle.store_commands.specs.Loaded.{HasNone, LeavesLoads, LeavesUnnamed, LoadsAll, LoadsAndSendsPart, LoadsSome, LoadsTaken, LoadsToBad}
 use Rattle.store_commands.specs.Loaded.{LoadsWithin, RefusesRun, Unnamed, unnamed_ends}
 use Rattle.chart_program.specs.Course.{AtEachMoment, Course, FoundDamaged, FoundPage, HasFewBlocks, HeldNoBook, IsDoneOrCut, IsLonger, IsShort}
@@ -52,5 +53,6 @@ pub record OfLoad (name : List ℕ) (c : Course) (end : End) : Type 0 where
   pub does : LoadDoes name c end
   pub store : OverStore c end
   pub unnamed : Unnamed (count c) c.old name (λ total book. Contains unnamed_ends end)
+  pub lacks : end ≡ UnknownSeries → LacksRecord (count c) c.old name
   pub crash : AtEachMoment c (λ count input old new. LeavesLoads name count input old new × LeavesUnnamed name count old new)
   pub good : OfInput c (λ input. AreReadings name c.old c.new input → IsDoneOrCut end)

@@ -26,7 +26,7 @@ use Rattle.chart_program.specs.Plotted.{SendsPlot, SendsFront}
 use Rattle.chart_program.specs.Served.{Faults, faults_of, AreTexts, Spelled, AnswersAll, AnswersFront, AnswersTaken, AnswersWithin, AnswersSome, AnswersLines, LeavesBooks, ReadsServing, SyncsServing, RejectsNext}
 use Rattle.store_commands.specs.Books.{FromBook, HoldsAgain, Never, LeavesSame}
 use Rattle.store_commands.specs.Loaded.{Unnamed, LoadsAll, LoadsAndSendsPart, LoadsSome, LoadsToBad, LoadsTaken, LoadsWithin, RefusesSet, LeavesLoads, LeavesUnnamed}
-use Rattle.store_commands.specs.Checked.{SendsCounts, SendsCountsPart, IsBadForCheck}
+use Rattle.store_commands.specs.Checked.{SendsCounts, SendsCountsPart, IsBadForCheck, ReadsStore}
 use Rattle.store_commands.specs.Listed.{SendsList, SendsListPart, ReadsOpening}
 use Rattle.store_commands.specs.Exported.{ExportsAll, ExportsPart, HasNone, IsBadForExport, ReadsSeries}
 use Rattle.store_commands.specs.Demonstrated.{SendsSummary, SendsSummaryPart, AnswersFirst, LeavesDemo}
@@ -35,7 +35,7 @@ use Rattle.demo_workload.specs.Workload.{workload}
 use Rattle.stored_book.specs.Damage.{IsBadForEdit, IsBadForRequest}
 use Rattle.retain_command.specs.Retained.{LeavesSwept, RetainsAll, RetainsLines, RetainsPart, RetainsSome, RetainsTaken, RetainsToBad, RetainsToUnknown, RetainsWithin}
 use Rattle.live_command.specs.Ended.{LeavesLived, LivesAll, LivesLines, LivesPart, LivesSome, LivesTaken, LivesWithin, ReadsLiving, SyncsLiving}
-use Rattle.derive_command.specs.Derived.{DerivesAll, DerivesFirst, DerivesPart, DerivesTaken, DerivesToBad, DerivesToRefused, DerivesWithin}
+use Rattle.derive_command.specs.Derived.{IsBadForChart, DerivesAll, DerivesFirst, DerivesPart, DerivesTaken, DerivesToBad, DerivesToRefused, DerivesWithin}
 use Rattle.store_commands.specs.Damaged.{IsDamagedAtFirst, IsDamagedPlace}
 use Rattle.chart_program.specs.CommandStatuses.{codes_of, IsOverStore, TakesNone, Bars}
 use Rattle.draw_command.specs.Draws.{DrawsAll, DrawsTaken, DrawsWithin, IsCut, StopsAtFrame}
@@ -260,10 +260,10 @@ IsDamaged (Load name) old new place = IsDamagedPlace IsBadForEdit old new place
 IsDamaged (Demo seed rounds) old new place = IsDamagedPlace IsBadForRequest old new place
 IsDamaged Check old new place = IsDamagedPlace IsBadForCheck old old place
 IsDamaged ListSeries old new place = IsDamagedAtFirst old place
-IsDamaged (Export name window) old new place = IsDamagedPlace IsBadForExport old old place
+IsDamaged (Export name window) old new place = IsDamagedPlace (IsBadForExport name) old old place
 IsDamaged Retain old new place = IsDamagedPlace IsBadForRequest old new place
 IsDamaged Live old new place = IsDamagedPlace IsBadForRequest old new place
-IsDamaged Derive old new place = IsDamagedPlace IsBadForRequest old new place
+IsDamaged Derive old new place = IsDamagedPlace IsBadForChart old new place
 IsDamaged command old new place = ⊥
 
 -- which never comes where the disk of a serving command holds a book
@@ -370,9 +370,11 @@ TellsUnnamed (Load name) old code = Unnamed (page_count old.size) old name (λ t
 TellsUnnamed (Export name window) old code = Unnamed (page_count old.size) old name (λ total book. Contains (3 ∷ 6 ∷ 14 ∷ []) code)
 TellsUnnamed command old code = ⊤
 
--- A list reads at most the blocks that an opening reads, and an export beside these each page of its series' tree once.
+-- A list reads at most the blocks that an opening reads, an export beside these each page of its series' tree once, and a check
+-- each page of the store.
 abbrev pub ReadsFew : Command → View → View → Type 0
 ReadsFew ListSeries old new = ReadsOpening old new
+ReadsFew Check old new = ReadsStore (page_count old.size) old new
 ReadsFew (Export name window) old new = ReadsSeries name (page_count old.size) old new
 ReadsFew command old new = ⊤
 

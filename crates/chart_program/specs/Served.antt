@@ -13,7 +13,7 @@ use Rattle.gate_pages.specs.GatePages.{IsReadable}
 use Rattle.gate_pages.specs.Journal.{page_count}
 use Rattle.gate_pages.specs.Pages.{GoesOn}
 use Rattle.line_raster.specs.Canvas.{Canvas}
-use Rattle.disk_store.specs.Openings.{Prevents}
+use Rattle.disk_store.specs.Openings.{Prevents, SyncsOpening}
 use Rattle.disk_store.specs.declared.causes.OpeningCause.{OpeningCause}
 use Rattle.disk_store.specs.declared.causes.OpeningCause.TheVariants as opening
 use Rattle.chart_service.specs.State.{State}
@@ -113,9 +113,9 @@ SyncsFrom count old new input from = OfBook count old (λ total book. new.beside
 abbrev pub ReadsServing : View → View → List ℕ → Type 0
 ReadsServing old new input = (opened : ℕ) × (opened ≤ old.reads + 200) × ReadsFrom (page_count old.size) old new input opened
 
--- an opening syncs seven times at most, and then the lines sync
+-- an opening syncs as often as it may, and then the lines sync
 abbrev pub SyncsServing : View → View → List ℕ → Type 0
-SyncsServing old new input = (opened : ℕ) × (opened ≤ old.syncs + 7) × SyncsFrom (page_count old.size) old new input opened
+SyncsServing old new input = (opened : ℕ) × SyncsOpening (page_count old.size) old opened × SyncsFrom (page_count old.size) old new input opened
 
 -- ---- frames that can't be used
 

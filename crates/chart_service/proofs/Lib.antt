@@ -1,11 +1,13 @@
 pub mod ReadLemmas
 pub mod LookLemmas
+pub mod KindLemmas
 pub mod SelectLemmas
 pub mod EditLemmas
 pub mod Ranged
 pub mod PlanLemmas
 pub mod ViewLemmas
 pub mod StepLemmas
+pub mod BlameLemmas
 pub mod LineLemmas
 pub mod Progress
 pub mod DiskKept

@@ -96,6 +96,7 @@ looked_refused number frame refusal sessions told at under s catalog is fits = r
   fits = fits;
   opens = let O : Frame → Type 0 = λ f. OpensBy f sessions sessions in subst O (sym is) (record { named = tt; after = λ n. refl });
   lost = tt;
+  kept = λ refuses. refl;
   looks = looks_none told at under s catalog;
   cause = tt;
 }

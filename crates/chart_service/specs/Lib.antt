@@ -3,6 +3,7 @@ pub mod Viewing
 pub mod ViewingLaws
 pub mod Replies
 pub mod Opening
+pub mod Kinds
 pub mod Planning
 pub mod Alone
 pub mod Stepping
@@ -15,6 +16,7 @@ pub mod ReadingBlocks
 pub mod Making
 pub mod Spelled
 pub mod EditGroups
+pub mod EditDamage
 pub mod Knowing
 pub mod Naming
 pub mod Answering

@@ -20,6 +20,7 @@ use Rattle.filter_scan.specs.declared.scan_error.ScanError.TheVariants as scan
 use Rattle.zoom_session.specs.declared.session.Session.{Session}
 use Rattle.zoom_session.specs.Planned.{IsInBounds}
 use Rattle.zoom_session.specs.Plans.{HasEntries}
+use Rattle.chart_service.specs.Kinds.{KeepsSessions}
 use Rattle.chart_service.specs.Opening.{OpensBy, LosesAtMost}
 use Rattle.chart_service.specs.Planning.{AreInFrame}
 use Rattle.chart_service.specs.State.{State}
@@ -96,6 +97,7 @@ pub record Looked (number : Option ℕ) (result : Result Frame ServiceError) (se
   pub fits : IfOk result Fits
   pub opens : IfOk result (λ frame. OpensBy frame sessions sessions')
   pub lost : OnErr result (LosesAtMost number sessions sessions')
+  pub kept : KeepsSessions result sessions sessions'
   pub looks : Looks told told' old new under under' s s' catalog catalog'
   pub cause : IfErr result (λ error. IsViewCause error told catalog s.total old new)
 

@@ -3,6 +3,7 @@ ghost use Rattle.std.specs.Prelude.{◌≡◌, ◌≢◌, ◌≤◌, ◌<◌, No
 ghost use Rattle.block_disk.specs.View.{View};
 ghost use Rattle.zoom_session.specs.Sessions.{is_open, session_of};
 ghost use Rattle.chart_service.specs.Holding.{IsViewIn};
+ghost use Rattle.chart_service.specs.Kinds.{MayShow};
 ghost use Rattle.chart_service.specs.Looking.{IsPlanCause, IsScanCause, IsOfPages, IsGoodPlan, error_of};
 ghost use Rattle.chart_service.specs.Opening.{StaysIn};
 ghost use Rattle.chart_service.specs.Planning.{PlansOrStops, ShowsOrStops, FitInFrame};
@@ -44,6 +45,7 @@ impl<P: Pages> Service<P> {
         requires view { IsViewIn (length (shown.catalog self.old)) spec }
         ensures replying { RepliesOver (HasRows spec number) ReadsAny result self.old self.new }
         ensures looked { LooksIn (Some number) result self.old self.new }
+        ensures may { IfOk result (λ frame. MayShow number frame) }
         ensures quiet { OnOk result ((shown.view self.new).faults ≡ (shown.view self.old).faults) }
         ensures quiet_err { IfErr result (λ e. e ≢ ServiceError.DiskFault → (shown.view self.new).faults ≡ (shown.view self.old).faults) }
         ensures stays { StaysIn number result self.old.sessions self.new.sessions }
@@ -89,6 +91,7 @@ impl<P: Pages> Service<P> {
         requires unfiltered { spec.filter ≡ None }
         ensures replying { RepliesOver (HasCoefs spec number) (ReadsForSpec spec) result self.old self.new }
         ensures looked { LooksIn (Some number) result self.old self.new }
+        ensures may { IfOk result (λ frame. MayShow number frame) }
         ensures quiet { OnOk result ((shown.view self.new).faults ≡ (shown.view self.old).faults) }
         ensures quiet_err { IfErr result (λ e. e ≢ ServiceError.DiskFault → (shown.view self.new).faults ≡ (shown.view self.old).faults) }
         ensures stays { StaysIn number result self.old.sessions self.new.sessions }

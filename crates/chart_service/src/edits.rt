@@ -5,6 +5,7 @@ ghost use Rattle.gate_pages.specs.Pages.{GoesOn};
 ghost use Rattle.series_book.specs.Edits.{IsEdit, apply};
 ghost use Rattle.series_store.specs.Results.{KeepsBook, CommitsNone};
 ghost use Rattle.request_lines.specs.declared.requests.Request.TheVariants.{Edit as EditRequest};
+ghost use Rattle.chart_service.specs.EditGroups.{IsEditReply};
 ghost use Rattle.chart_service.specs.Opening.{OpensBy};
 ghost use Rattle.chart_service.specs.Stepping.{RepliedTo, IsOutside, Steps};
 ghost use Rattle.chart_service.specs.Called.{AnswersSo, CommitsOnly, IsCause};
@@ -29,6 +30,7 @@ impl<P: Pages> Service<P> {
         ensures reads { (shown.view self.new).reads ≤ (shown.view self.old).reads + 96 }
         ensures fits { IfOk result Fits }
         ensures opens { IfOk result (λ frame. OpensBy frame self.old.sessions self.new.sessions) }
+        ensures may { IfOk result (λ frame. IsEditReply frame) }
         ensures sessions { self.new.sessions ≡ self.old.sessions }
         ensures unchanged { CommitsOnly result self.old self.new }
         ensures same_book { shown.ForBook self.old (λ total book. KeepsBook book (apply book total edit.now) → CommitsNone (shown.view self.old) (shown.view self.new)) }

@@ -7,7 +7,9 @@ ghost use Rattle.gate_pages.specs.Pages.{GoesOn};
 ghost use Rattle.series_book.specs.declared.limits.TheConstants.{MOST_SLOTS};
 ghost use Rattle.series_book.specs.Books.{IsNamed};
 ghost use Rattle.series_book.specs.Edits.{IsEdit};
-ghost use Rattle.series_store.specs.Groups.{HaveFewSlots, answer_of};
+ghost use Rattle.series_store.specs.Groups.{ChangeNone, HaveFewSlots, answer_of};
+ghost use Rattle.series_store.specs.Results.{CommitsNone};
+ghost use Rattle.chart_service.specs.EditDamage.{NamesBadForEdit};
 ghost use Rattle.chart_service.specs.EditGroups.{AnswersSome, DoesSome, IsAfterSome, IsEditReply, IsOfGroup, ReadsByFrames, RepliesToEdits, frame_of, frames_of, group_end};
 ghost use Rattle.chart_service.specs.Faulting.{step_fault};
 ghost use Rattle.chart_service.specs.Serving.{most_ahead};
@@ -41,6 +43,8 @@ impl<P: Pages> Service<P> {
         // and a crash at any moment leaves it
         ensures moments { shown.ForBook self.old (λ total book. shown.PassesTo (AnswersSome edits.now (shown.state self.old total book)) self.old self.new) }
         ensures reads { shown.ForBook self.old (λ total book. (shown.view self.new).reads ≤ (shown.view self.old).reads + 96 * length edits.now) }
+        // edits that are refused, or leave the book as it is, write and sync nothing
+        ensures idle { shown.ForBook self.old (λ total book. OnOk result (ChangeNone total book edits.now → CommitsNone (shown.view self.old) (shown.view self.new))) }
         // they are committed together, and what their pages fill by themselves
         ensures syncs { shown.ForBook self.old (λ total book. (shown.view self.new).syncs ≤ (shown.view self.old).syncs + group_syncs total book edits.now) }
         // whatever the pages are
@@ -51,6 +55,7 @@ impl<P: Pages> Service<P> {
         ensures disk { result ≡ Err ServiceError.DiskFault → HasRisen (shown.view self.old).faults (shown.view self.new).faults }
         ensures faults { CountsFault (fault_in step_fault result) (shown.view self.old) (shown.view self.new) }
         ensures bad { IfErr result (NamesBad (shown.IsTold self.new) (shown.view self.new).size (shown.image self.new)) }
+        ensures blames { IfErr result (NamesBadForEdit (shown.IsTold self.new) (shown.view self.new).size (shown.image self.new)) }
         ensures moves { shown.MovesSo self.old self.new }
         ensures goes_on { GoesOn (shown.under self.old) (shown.under self.new) }
         ensures sound { result ≢ Err ServiceError.DiskFault → (shown.view self.new).fit }
@@ -77,6 +82,7 @@ impl<P: Pages> Service<P> {
         ensures moments { shown.ForBook self.old (λ total book. shown.PassesTo (IsAfterSome total book edits.now) self.old self.new) }
         ensures reads { shown.ForBook self.old (λ total book. (shown.view self.new).reads ≤ (shown.view self.old).reads + 96 * length edits.now) }
         ensures few_reads { shown.ForBook self.old (λ total book. OnOk result (ReadsByFrames frames.old.items frames.new.items (shown.view self.old).reads (shown.view self.new).reads)) }
+        ensures idle { shown.ForBook self.old (λ total book. OnOk result (ChangeNone total book edits.now → CommitsNone (shown.view self.old) (shown.view self.new))) }
         ensures syncs { (shown.view self.new).syncs ≤ (shown.view self.old).syncs + 4 }
         ensures more { OnOk result (length frames.old.items < length frames.new.items) }
         ensures most { OnOk result (length frames.new.items ≤ length frames.old.items + length edits.now) }
@@ -87,6 +93,7 @@ impl<P: Pages> Service<P> {
         ensures quiet { OnOk result ((shown.view self.new).faults ≡ (shown.view self.old).faults) }
         ensures quiet_err { IfErr result (λ e. e ≢ ServiceError.DiskFault → (shown.view self.new).faults ≡ (shown.view self.old).faults) }
         ensures bad { IfErr result (NamesBad (shown.IsTold self.new) (shown.view self.new).size (shown.image self.new)) }
+        ensures blames { IfErr result (NamesBadForEdit (shown.IsTold self.new) (shown.view self.new).size (shown.image self.new)) }
         ensures moves { shown.MovesSo self.old self.new }
         ensures goes_on { GoesOn (shown.under self.old) (shown.under self.new) }
         ensures sound { result ≢ Err ServiceError.DiskFault → (shown.view self.new).fit }

@@ -5,6 +5,7 @@ ghost use Rattle.chart_frames.specs.declared.frame.Frame.{Frame};
 ghost use Rattle.request_lines.specs.declared.requests.Request.{Request};
 ghost use Rattle.chart_service.specs.State.{State};
 ghost use Rattle.chart_service.specs.Alone.{alone};
+ghost use Rattle.chart_service.specs.Kinds.{MayAnswerLine};
 ghost use Rattle.chart_service.specs.Naming.{NameOpen, NameOpened};
 ghost use Rattle.chart_service.specs.Replies.{Replies, RepliesToLine};
 ghost use Rattle.chart_service.specs.Syncing.{FirstLinesSyncLess};
@@ -49,4 +50,9 @@ pub fn first_lines_sync_less()
 /// names one that a frame before it opened, and that none in between closed.
 pub fn frames_name_opened_sessions()
     ensures { (frames : List Frame) → NameOpen (λ n. false) frames → NameOpened frames }
+{}
+
+/// The reply to a line by a book is one that may answer the line whatever the book is.
+pub fn replies_may_answer()
+    ensures { (line : Option (List ℕ)) (frame : Frame) (old new : State) → RepliesToLine line frame old new → MayAnswerLine line frame }
 {}

@@ -6,6 +6,7 @@ ghost use Rattle.request_lines.specs.Requests.{IsInRange};
 ghost use Rattle.series_book.specs.declared.one_series.Series.{Series};
 ghost use Rattle.zoom_session.specs.Sessions.{is_open};
 ghost use Rattle.chart_service.specs.Alone.{session_in};
+ghost use Rattle.chart_service.specs.Kinds.{IsRefusal, KeepsSessions, MayAnswer, MayClose, MayOpen};
 ghost use Rattle.chart_service.specs.Looking.{IsNoEdit};
 ghost use Rattle.chart_service.specs.Opening.{OpensBy};
 ghost use Rattle.chart_service.specs.Replies.{Closes, Replies, cache_of};
@@ -31,6 +32,7 @@ impl<P: Pages> Service<P> {
         ensures replying { RepliesOver (Replies request.now) (λ book. ReadsFew request.now book self.old.sessions) result self.old self.new }
         ensures cause { IfErr result (IsCause request.now self.old self.new) }
         ensures looked { LooksIn (session_in request.now) result self.old self.new }
+        ensures may { IfOk result (λ frame. MayAnswer request.now frame) }
         ensures quiet { OnOk result ((shown.view self.new).faults ≡ (shown.view self.old).faults) }
         ensures quiet_err { IfErr result (λ e. e ≢ ServiceError.DiskFault → (shown.view self.new).faults ≡ (shown.view self.old).faults) }
     {
@@ -68,6 +70,8 @@ impl<P: Pages> Service<P> {
         ensures fits { IfOk result Fits }
         ensures opens { IfOk result (λ frame. OpensBy frame self.old.sessions self.new.sessions) }
         ensures kept { OnErr result (self.new.sessions ≡ self.old.sessions) }
+        ensures stays { KeepsSessions result self.old.sessions self.new.sessions }
+        ensures may { IfOk result (λ frame. MayOpen number frame) }
         ensures error { IfErr result (λ error. error ≡ ServiceError.NoMemory) }
         ensures store { self.new.store ≡ self.old.store }
     {
@@ -88,6 +92,8 @@ impl<P: Pages> Service<P> {
         ensures reply { (total : ℕ) (book : List Series) → Closes (is_open number self.old.sessions) number result (shown.state self.old total book) (shown.state self.new total book) }
         ensures fits { Fits result }
         ensures opens { OpensBy result self.old.sessions self.new.sessions }
+        ensures stays { IsRefusal result → self.new.sessions ≡ self.old.sessions }
+        ensures may { MayClose number result }
         ensures store { self.new.store ≡ self.old.store }
     {
         // It brings in what holds of the open sessions.

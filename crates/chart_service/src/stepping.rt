@@ -10,6 +10,7 @@ ghost use Rattle.series_book.specs.Edits.{apply};
 ghost use Rattle.series_store.specs.Results.{IsUnchanged, KeepsBook, CommitsNone};
 ghost use Rattle.chart_service.specs.Alone.{session_in, session_named};
 ghost use Rattle.chart_service.specs.Faulting.{step_fault};
+ghost use Rattle.chart_service.specs.Kinds.{KeepsSessions, MayAnswer, MayAnswerLine, MayShow};
 ghost use Rattle.chart_service.specs.Opening.{OpensBy, LosesAtMost, StaysIn};
 ghost use Rattle.zoom_session.specs.Sessions.{session_of, last_of};
 ghost use Rattle.chart_service.specs.Replies.{Replied, line_text, own_zoom};
@@ -48,6 +49,9 @@ impl<P: Pages> Service<P> {
         ensures fits { IfOk result Fits }
         ensures opens { IfOk result (λ frame. OpensBy frame self.old.sessions self.new.sessions) }
         ensures sessions { OnErr result (LosesAtMost (session_in request.now) self.old.sessions self.new.sessions) }
+        ensures kept { KeepsSessions result self.old.sessions self.new.sessions }
+        // a reply is of the kind, and in the session, that its request asks for
+        ensures may { IfOk result (λ frame. MayAnswer request.now frame) }
         ensures unchanged { CommitsOnly result self.old self.new }
         // a request that is no edit commits nothing
         ensures idle { edit_asked request.now ≡ [] → IsUnchanged (shown.IsTold self.old) (shown.view self.old) (shown.view self.new) }
@@ -84,6 +88,8 @@ impl<P: Pages> Service<P> {
         ensures fits { IfOk result Fits }
         ensures opens { IfOk result (λ frame. OpensBy frame self.old.sessions self.new.sessions) }
         ensures sessions { OnErr result (LosesAtMost (session_named (line_text line.now)) self.old.sessions self.new.sessions) }
+        ensures kept { KeepsSessions result self.old.sessions self.new.sessions }
+        ensures may { IfOk result (λ frame. MayAnswerLine (line_text line.now) frame) }
         ensures unchanged { CommitsOnly result self.old self.new }
         ensures idle { edit_of (line_text line.now) ≡ [] → IsUnchanged (shown.IsTold self.old) (shown.view self.old) (shown.view self.new) }
         ensures cause { IfErr result (IsCauseOfLine (line_text line.now) self.old self.new) }
@@ -119,6 +125,8 @@ impl<P: Pages> Service<P> {
         ensures fits { IfOk result Fits }
         ensures opens { IfOk result (λ frame. OpensBy frame self.old.sessions self.new.sessions) }
         ensures sessions { OnErr result (LosesAtMost (Some session) self.old.sessions self.new.sessions) }
+        ensures kept { KeepsSessions result self.old.sessions self.new.sessions }
+        ensures may { IfOk result (λ frame. MayShow session frame) }
         ensures stays { StaysIn session result self.old.sessions self.new.sessions }
         // a crash leaves what it might have left before
         ensures moments { shown.PassesTo (Now (shown.view self.old)) self.old self.new }

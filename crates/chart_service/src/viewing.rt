@@ -5,6 +5,7 @@ ghost use Rattle.stored_book.specs.Standing.{StandsForBook};
 ghost use Rattle.zoom_session.specs.Sessions.{is_open, session_of};
 ghost use Rattle.zoom_session.specs.Views.{IsRangeSpec};
 ghost use Rattle.chart_service.specs.Holding.{IsViewIn};
+ghost use Rattle.chart_service.specs.Kinds.{MayShow};
 ghost use Rattle.chart_service.specs.Looking.{Replying};
 ghost use Rattle.chart_service.specs.Opening.{StaysIn};
 ghost use Rattle.chart_service.specs.Planning.{IsSpecFor, IsLastOf, IsMoved, IsGridFor};
@@ -43,6 +44,7 @@ impl<P: Pages> Service<P> {
         requires short { IfSome text.now (λ text. length text ≤ 8192) }
         ensures replying { RepliesOver (ShowsByText text.now number name.now viewport word) (ReadsByName text.now name.now viewport) result self.old self.new }
         ensures looked { LooksIn (Some number) result self.old self.new }
+        ensures may { IfOk result (λ frame. MayShow number frame) }
         ensures quiet { OnOk result ((shown.view self.new).faults ≡ (shown.view self.old).faults) }
         ensures quiet_err { IfErr result (λ e. e ≢ ServiceError.DiskFault → (shown.view self.new).faults ≡ (shown.view self.old).faults) }
     {
@@ -66,6 +68,7 @@ impl<P: Pages> Service<P> {
         requires number { 1 ≤ number }
         ensures replying { RepliesOver (ShowsBy filter number name.now viewport word) (ReadsNamed filter name.now viewport) result self.old self.new }
         ensures looked { LooksIn (Some number) result self.old self.new }
+        ensures may { IfOk result (λ frame. MayShow number frame) }
         ensures quiet { OnOk result ((shown.view self.new).faults ≡ (shown.view self.old).faults) }
         ensures quiet_err { IfErr result (λ e. e ≢ ServiceError.DiskFault → (shown.view self.new).faults ≡ (shown.view self.old).faults) }
     {
@@ -89,6 +92,7 @@ impl<P: Pages> Service<P> {
         requires number { 1 ≤ number }
         ensures replying { RepliesOver (MovesTo number (λ last. (t0, t1))) (ReadsLastOf number self.old.sessions) result self.old self.new }
         ensures looked { LooksIn (Some number) result self.old self.new }
+        ensures may { IfOk result (λ frame. MayShow number frame) }
         ensures quiet { OnOk result ((shown.view self.new).faults ≡ (shown.view self.old).faults) }
         ensures quiet_err { IfErr result (λ e. e ≢ ServiceError.DiskFault → (shown.view self.new).faults ≡ (shown.view self.old).faults) }
         ensures stays { StaysIn number result self.old.sessions self.new.sessions }
@@ -107,6 +111,7 @@ impl<P: Pages> Service<P> {
         requires number { 1 ≤ number }
         ensures replying { RepliesOver (MovesTo number (λ last. (last.grid.t0 +ℤ by, last.grid.t1 +ℤ by))) (ReadsLastOf number self.old.sessions) result self.old self.new }
         ensures looked { LooksIn (Some number) result self.old self.new }
+        ensures may { IfOk result (λ frame. MayShow number frame) }
         ensures quiet { OnOk result ((shown.view self.new).faults ≡ (shown.view self.old).faults) }
         ensures quiet_err { IfErr result (λ e. e ≢ ServiceError.DiskFault → (shown.view self.new).faults ≡ (shown.view self.old).faults) }
     {
@@ -132,6 +137,7 @@ impl<P: Pages> Service<P> {
         ensures replying { (total : ℕ) (book : List Series) (t0 t1 : ℤ) → shown.IsTold self.old → StandsForBook (shown.image self.old) total book → IsMoved last.grid t0 t1 grid
             → Replying (λ frame old new. Moves last number t0 t1 frame old new) (ReadsLast book (Some last)) result total book self.old.sessions self.new.sessions (shown.view self.old) (shown.view self.new) }
         ensures looked { LooksIn (Some number) result self.old self.new }
+        ensures may { IfOk result (λ frame. MayShow number frame) }
         ensures quiet { OnOk result ((shown.view self.new).faults ≡ (shown.view self.old).faults) }
         ensures quiet_err { IfErr result (λ e. e ≢ ServiceError.DiskFault → (shown.view self.new).faults ≡ (shown.view self.old).faults) }
         ensures stays { StaysIn number result self.old.sessions self.new.sessions }
@@ -176,6 +182,7 @@ impl<P: Pages> Service<P> {
         requires view { IsViewIn (length (shown.catalog self.old)) spec }
         ensures replying { RepliesOver (Shows spec number) (ReadsFiltered spec) result self.old self.new }
         ensures looked { LooksIn (Some number) result self.old self.new }
+        ensures may { IfOk result (λ frame. MayShow number frame) }
         ensures quiet { OnOk result ((shown.view self.new).faults ≡ (shown.view self.old).faults) }
         ensures quiet_err { IfErr result (λ e. e ≢ ServiceError.DiskFault → (shown.view self.new).faults ≡ (shown.view self.old).faults) }
         ensures stays { StaysIn number result self.old.sessions self.new.sessions }

@@ -1,5 +1,5 @@
 -- How lines end over the store of a disk, in the words of the disk.
-use Rattle.std.proofs.Common.{◌≡◌, ◌≢◌, ◌∙◌, ℕ, ◌≤◌, Bool, List, Option, Some, None, IfSome, refl, sym, subst, arith}
+use Rattle.std.proofs.Common.{◌≡◌, ◌≢◌, ◌∙◌, ℕ, ◌<◌, ◌≤◌, Bool, List, Option, Some, None, IfSome, refl, sym, subst, arith}
 use Rattle.block_disk.proofs.Passing.{passes_weaker}
 use Rattle.block_disk.specs.SentLaws.{sent_none}
 use Rattle.block_disk.specs.View.{Image, View, Honest, Now, Passes, sent_now}
@@ -7,6 +7,7 @@ use Rattle.chart_service.specs.MomentLaws.{since_both, since_none}
 use Rattle.chart_service.specs.Moments.{Since}
 use Rattle.chart_service.proofs.DiskKept.{risen_since}
 use Rattle.disk_store.specs.Held.{HoldsBook}
+use Rattle.disk_store.proofs.Opened.{few_then}
 use Rattle.disk_store.specs.Openings.{Opens}
 use Rattle.disk_store.specs.declared.causes.OpeningCause.{OpeningCause}
 use Rattle.disk_store.specs.declared.causes.OpeningCause.TheVariants as opening
@@ -18,11 +19,10 @@ use Rattle.run_ends.specs.declared.ending.End.{End}
 use Rattle.run_ends.specs.declared.ending.End.TheVariants.{Done, NoMemory, ReadFault, SendFault, DiskFault, DamagedPage}
 use Rattle.run_ends.specs.declared.ending.End.TheVariants.{BadInput, InputTooLong, RefusedLine}
 use Rattle.series_book.specs.declared.one_series.Series.{Series}
-use Rattle.stored_book.proofs.CurrentLemmas.{recovers_new}
-use Rattle.stored_book.specs.Damage.{IsBadForRequest}
+use Rattle.stored_book.proofs.CurrentLemmas.{recovers_new, spelled_current}
+use Rattle.series_pair.specs.Damage.{IsBadForChart}
 use Rattle.stored_book.specs.Standing.{StandsForBook, RecoversTo}
 use Rattle.store_commands.proofs.CheckLooks.{left_stands}
-use Rattle.store_commands.proofs.Damages.{later_bad}
 use Rattle.store_commands.proofs.Held.{RestsNew, held, holds_same, stands_held, within_held}
 use Rattle.store_commands.proofs.InputLemmas.{any_told}
 use Rattle.store_commands.proofs.Moments.{on_at, opened_goes, opened_since, since_on}
@@ -37,6 +37,18 @@ use Rattle.derive_command.specs.Derived.{DeriveEnds, IsDeriveCause}
 use Rattle.derive_command.specs.Doing.{Goes, IsCause}
 use Rattle.derive_command.specs.Lines.{EndsSo}
 use Rattle.derive_command.proofs.LineLemmas.{no_lines}
+
+-- a page that was called damaged is so of the disk, whose pages are of version 2
+later_way : (count count' : ℕ) (new : View) (page : ℕ) → count' ≡ count → page < count' → (Honest new → IsBadForChart count' (pages_of count' new.image) page) → IsDamagedLater IsBadForChart count new (block_of page)
+later_way count count' new page same within bad =
+    let P : ℕ → Type 0 = λ n. IsBadForChart n (pages_of n new.image) page in
+    let Q : Image → Type 0 = λ pages. IsBadForChart count pages page in
+    record {
+      page = page;
+      place_is = refl;
+      within = omega (arith, within, same);
+      bad = λ honest. let here = subst P same (bad honest) in subst Q (sym (spelled_current (pages_of count new.image) here.numbers here.keeps.spelled)) here;
+    }
 
 abbrev pub disk_side : ℕ → Bool → View → ℕ → ℕ → ℕ → Side
 disk_side count sound disk total reads sends = record { told = Honest disk; view = pages_view count sound disk; under = disk; total = total; read_faults = reads; send_faults = sends }
@@ -67,8 +79,8 @@ module _ (count count' : ℕ) (sound sound' : Bool) (first old new : View) (tota
   cause_on DiskFault whole long cause = risen_since first.faults old.faults new.faults quiet (cause (λ is. cc))
   cause_on (DamagedPage page) whole long cause =
       let is = cause (λ is. cc) in
-      let C : ℕ → Type 0 = λ n. IsDamagedLater IsBadForRequest n new (block_of page) in
-      subst C counted (later_bad count count' new page goes.size (omega (arith, is.0, few, goes.size)) is.1)
+      let C : ℕ → Type 0 = λ n. IsDamagedLater IsBadForChart n new (block_of page) in
+      subst C counted (later_way count count' new page goes.size (omega (arith, is.0, few, goes.size)) is.1)
   cause_on (BadInput at) whole long cause = tt
   cause_on InputTooLong whole long cause = long refl
   cause_on (RefusedLine at refusal) whole long cause = tt
@@ -92,6 +104,7 @@ module _ (count count' : ℕ) (sound sound' : Bool) (first old new : View) (tota
     holds = λ total book holds.
         let C : ℕ → Type 0 = λ n. HoldsBook n total book new in
         subst C counted (holds_same count count' total book old new rests goes.size goes.is_told goes.image closed (held_open total book holds));
+    few = few_then (page_count first.size) first old new opens.few goes.syncs goes.writes;
     honest = λ h. goes.is_told (opens.honest h);
     goes_on = goes_then first old new (opened_goes first old opens) goes.goes_on;
   }
@@ -119,6 +132,7 @@ module _ (old new : View) (t : Traffic) where
         sent = any_told t.left _ (λ input. unopened_sent input cause u);
         crash = opened_since old new u.opens;
         holds = held old new u.opens;
+        few = u.opens.few;
         honest = u.opens.honest;
         goes_on = opened_goes old new u.opens;
       })

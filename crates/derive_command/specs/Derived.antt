@@ -3,6 +3,7 @@ use Rattle.std.specs.Prelude.{◌≡◌, ℕ, ◌<◌, List, Option, IfSome, ⊤
 use Rattle.block_disk.specs.Counts.{HasRisen}
 use Rattle.block_disk.specs.View.{Honest, View}
 use Rattle.disk_store.specs.Held.{HoldsBook}
+use Rattle.disk_store.specs.Openings.{WritesFew}
 use Rattle.gate_pages.specs.Journal.{page_count}
 use Rattle.gate_pages.specs.Pages.{GoesOn}
 use Rattle.run_ends.specs.Statuses.{block_of, refused_at}
@@ -10,7 +11,7 @@ use Rattle.run_ends.specs.declared.ending.End.{End}
 use Rattle.run_ends.specs.declared.ending.End.TheVariants.{Done, NoMemory, ReadFault, SendFault, DiskFault, DamagedBlock, DamagedPage}
 use Rattle.run_ends.specs.declared.ending.End.TheVariants.{BadInput, InputTooLong, TooSmall, RefusedLine}
 use Rattle.series_book.specs.declared.one_series.Series.{Series}
-use Rattle.stored_book.specs.Damage.{IsBadForRequest}
+pub use Rattle.series_pair.specs.Damage.{IsBadForChart}
 use Rattle.store_commands.specs.Books.{LeavesSame, OfBook}
 use Rattle.store_commands.specs.Damaged.{IsDamagedAtFirst, IsDamagedLater}
 use Rattle.store_commands.specs.Traffic.{IsLong, Traffic, WasRead}
@@ -61,7 +62,7 @@ IsDeriveCause ReadFault old new t = HasRisen t.reads t.reads_now
 IsDeriveCause SendFault old new t = HasRisen t.sends t.sends_now
 IsDeriveCause DiskFault old new t = HasRisen old.faults new.faults
 IsDeriveCause (DamagedBlock block) old new t = IsDamagedAtFirst old block × ((t.left_now ≡ t.left) × (t.sent_now ≡ t.sent))
-IsDeriveCause (DamagedPage page) old new t = IsDamagedLater IsBadForRequest (page_count old.size) new (block_of page)
+IsDeriveCause (DamagedPage page) old new t = IsDamagedLater IsBadForChart (page_count old.size) new (block_of page)
 IsDeriveCause (BadInput at) old new t = ⊤
 IsDeriveCause InputTooLong old new t = IsLong t.left
 IsDeriveCause (TooSmall blocks) old new t = (blocks ≡ old.size) × (old.size < 128)
@@ -74,6 +75,8 @@ pub record DeriveEnds (old new : View) (t : Traffic) (end : End) : Type 0 where
   pub sent : IfSome t.left (λ input. OfBook (page_count old.size) old (λ total book. EndsSo book input t.left_now t.sent t.sent_now end))
   pub crash : LeavesSame (page_count old.size) old new
   pub holds : OfBook (page_count old.size) old (λ total book. HoldsBook (page_count old.size) total book new)
+  -- it syncs and writes no more than an opening
+  pub few : WritesFew (page_count old.size) old new
   -- reads give what a crash may leave, where they did
   pub honest : Honest old → Honest new
   pub goes_on : GoesOn old new

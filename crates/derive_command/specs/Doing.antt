@@ -12,11 +12,11 @@ use Rattle.plain_chart.specs.declared.value_range.ValueRange.{ValueRange}
 use Rattle.run_ends.specs.declared.ending.End.{End}
 use Rattle.run_ends.specs.declared.ending.End.TheVariants.{NoMemory, ReadFault, SendFault, DiskFault, DamagedPage, BadInput, InputTooLong, RefusedLine}
 use Rattle.series_book.specs.declared.one_series.Series.{Series}
+use Rattle.series_pair.specs.Damage.{IsBadForChart}
 use Rattle.series_pair.specs.Derived.{AreShifted}
 use Rattle.series_pair.specs.declared.sum_error.SumError.{SumError}
 use Rattle.series_pair.specs.declared.sum_error.SumError.TheVariants as sum
 use Rattle.store_commands.specs.Sides.{Side}
-use Rattle.stored_book.specs.Damage.{IsBadForRequest}
 use Rattle.derive_command.specs.Answers.{AnswersLine, AreNamed, IsAnswer, IsGridOf, IsRefused, RefusesLine, asked_range, number_of}
 use Rattle.derive_command.specs.Requests.{SaysNone}
 use Rattle.derive_command.specs.declared.asked.Asked.{Asked}
@@ -152,6 +152,8 @@ pub record Goes (old new : Side) : Type 0 where
   pub size : new.view.size ≡ old.view.size
   pub fit : old.view.fit → new.view.fit
   pub faults : old.view.faults ≤ new.view.faults
+  pub syncs : new.view.syncs ≡ old.view.syncs
+  pub writes : new.view.writes ≡ old.view.writes
   pub goes_on : GoesOn old.under new.under
   pub total_is : new.total ≡ old.total
   pub reads : old.read_faults ≤ new.read_faults
@@ -163,7 +165,7 @@ IsCause NoMemory old new = ⊤
 IsCause ReadFault old new = HasRisen old.read_faults new.read_faults
 IsCause SendFault old new = HasRisen old.send_faults new.send_faults
 IsCause DiskFault old new = HasRisen old.view.faults new.view.faults
-IsCause (DamagedPage page) old new = (page < old.total) × (new.told → IsBadForRequest new.view.size new.view.image page)
+IsCause (DamagedPage page) old new = (page < old.total) × (new.told → IsBadForChart new.view.size new.view.image page)
 IsCause (BadInput at) old new = ⊤
 IsCause InputTooLong old new = ⊤
 IsCause (RefusedLine at refusal) old new = ⊤

@@ -2,12 +2,12 @@
 use Rattle.std.proofs.Common.{◌≡◌, ℕ, ◌+◌, ◌≤◌, ◌<◌, ◌⊎◌, Bool, List, ◌∷◌, ◌++◌, length, length-append, refl, sym, ap, subst, arith, inl, inr, ◌∙◌}
 use Rattle.std.proofs.lemmas.Bool.{cases_Bool, cases_lt}
 use Rattle.block_disk.specs.Counts.{HasRisen}
-use Rattle.block_disk.specs.View.{Image, View, Now, Honest, Passes, Moves, sent_now}
+use Rattle.block_disk.specs.View.{Image, View, Now, Honest, Passes, Moves, Nowhere, sent_now}
 use Rattle.block_disk.proofs.Passing.{passes_weaker}
 use Rattle.gate_pages.specs.GateLaws.{gate_rests, goes_by}
-use Rattle.gate_pages.specs.GatePages.{PagesOf, IsReadable, IsClosed, StandsAsBefore, pages_view}
+use Rattle.gate_pages.specs.GatePages.{HasClosedGate, PagesOf, IsReadable, IsClosed, StandsAsBefore, pages_view}
 use Rattle.gate_pages.specs.Journal.{page_count, pages_of}
-use Rattle.gate_pages.specs.Pages.{Quiet, GoesOn}
+use Rattle.gate_pages.specs.Pages.{Quiet, GoesOn, Reads}
 use Rattle.gate_pages.specs.Steps.{Anywhere}
 use Rattle.gate_pages.specs.declared.errors.OpenCause.{OpenCause}
 use Rattle.gate_pages.specs.declared.errors.OpenCause.TheVariants as of_pages
@@ -30,7 +30,7 @@ use Rattle.stored_book.specs.Standing.{StandsForBook, book_pages, RecoversTo}
 use Rattle.stored_book.proofs.CurrentLemmas.{recovers_new}
 use Rattle.empty_store.proofs.DisksMade.{sent_so}
 use Rattle.disk_store.specs.Held.{HoldsBook}
-use Rattle.disk_store.specs.Openings.{Opens, Prevents, IsLeftOpening, StandsOrUpgraded, IsDamagedBlock, IsOpeningPlace, IsOutside, cause_of, upgrade_cause_of, store_cause_of}
+use Rattle.disk_store.specs.Openings.{IsCurrent, Opens, Prevents, SyncsOpening, WritesFew, IsLeftOpening, StandsOrUpgraded, IsDamagedBlock, IsOpeningPlace, IsOutside, cause_of, upgrade_cause_of, store_cause_of}
 
 -- Calls so far leave pages from before, or those in version 2.
 abbrev LeavesOpening : ℕ → View → View → Type 0
@@ -62,16 +62,43 @@ opened_time count old new passes =
     passes_weaker old new (StandsAsBefore count old) (IsLeftOpening count old) (Quiet old) (Quiet old)
     (λ image stands honest. record { from = stands.from; was = stands.was; pages = inl stands.same; readable = stands.readable }) (λ sent quiet. quiet) passes
 
+-- what only looks behind an opening syncs and writes no more
+pub few_then : (count : ℕ) (old mid new : View) → WritesFew count old mid → new.syncs ≡ mid.syncs → new.writes ≡ mid.writes → WritesFew count old new
+few_then count old mid new few syncs writes = record {
+  syncs = record { low = omega (arith, few.syncs.low, syncs); high = omega (arith, few.syncs.high, syncs) };
+  writes = record { low = omega (arith, few.writes.low, writes); high = omega (arith, few.writes.high, writes) };
+  current = λ honest current. omega (arith, few.current honest current, syncs);
+  unwritten = λ shut current. writes ∙ few.unwritten shut current;
+}
+
+pub syncs_few : (count : ℕ) (old new : View) → WritesFew count old new → SyncsOpening count old new.syncs
+syncs_few count old new few = (few.syncs.high, few.current)
+
+-- the pages of a disk were opened, which writes nothing where the gate is closed
+abbrev pub KeepsShut : View → View → Type 0
+KeepsShut old new = HasClosedGate old → Moves Nowhere 1 1 0 old new
+
+none_written : (old new : View) → Moves Nowhere 1 1 0 old new → new.writes ≡ old.writes
+none_written old new moves = omega (arith, moves.writes.low, moves.writes.high)
+
+few_pages : (count : ℕ) (old new : View) → Moves Anywhere 66 3 65 old new → KeepsShut old new → WritesFew count old new
+few_pages count old new moves shut = record {
+  syncs = record { low = moves.syncs.low; high = omega (arith, moves.syncs.high) };
+  writes = record { low = moves.writes.low; high = omega (arith, moves.writes.high) };
+  current = λ honest current. moves.syncs.high;
+  unwritten = λ closed current. none_written old new (shut closed);
+}
+
 -- and no more
-pub opens_pages : (count : ℕ) (old new : View) → Passes old new (StandsAsBefore count old) (Quiet old) → Moves Anywhere 66 3 65 old new → Opens count old new
-opens_pages count old new passes moves = record {
+pub opens_pages : (count : ℕ) (old new : View) → Passes old new (StandsAsBefore count old) (Quiet old) → Moves Anywhere 66 3 65 old new → KeepsShut old new → Opens count old new
+opens_pages count old new passes moves shut = record {
   time = opened_time count old new passes;
   honest = moves.honest;
   was_honest = moves.was_honest;
   beside_is = moves.beside;
   faults = moves.faults;
   reads = record { low = moves.reads.low; high = omega (arith, moves.reads.high) };
-  syncs = record { low = moves.syncs.low; high = omega (arith, moves.syncs.high) };
+  few = few_pages count old new moves shut;
 }
 
 -- more calls
@@ -159,7 +186,8 @@ module _ (count : ℕ) (sound sound' : Bool) (old near new : View) (so_far : Lea
 
 -- An opening, and the pages brought to version 2, where the pages know how many they are.
 module _ (n count count' : ℕ) (sound sound' : Bool) (old mid near : View) (counted : count ≡ n) (passes : Passes old mid (StandsAsBefore n old) (Quiet old)) (moves : Moves Anywhere 66 3 65 old mid)
-    (same : Honest old → pages_of count mid.image ≡ pages_of count old.image) (upgrades : Upgrades (Honest mid) (Honest near) (pages_view count sound mid) (pages_view count' sound' near)) (goes : GoesOn mid near) where
+    (same : Honest old → pages_of count mid.image ≡ pages_of count old.image) (upgrades : Upgrades (Honest mid) (Honest near) (pages_view count sound mid) (pages_view count' sound' near)) (goes : GoesOn mid near)
+    (shut : KeepsShut old mid) (left_alone : Honest mid → IsCurrent count mid → Reads (Honest mid) (Honest near) (pages_view count sound mid) (pages_view count' sound' near)) where
   counted_near : count' ≡ n
   counted_near = upgrades.size ∙ counted
 
@@ -172,6 +200,21 @@ module _ (n count count' : ℕ) (sound sound' : Bool) (old mid near : View) (cou
       let Q : ℕ → Type 0 = λ m. Passes (pages_view m sound mid) (pages_view m sound' near) (λ pages. Honest mid → BeforeOrUpgraded (pages_of m mid.image) pages) (Quiet (pages_view m sound mid)) in
       upgraded_time n sound sound' old mid near (opened_time n old mid passes) moves.honest same_mid (subst Q counted (subst P upgrades.size upgrades.time)) goes
 
+  -- pages that aren't of version 1 are only read
+  read_alone : Honest old → IsCurrent n old → Reads (Honest mid) (Honest near) (pages_view count sound mid) (pages_view count' sound' near)
+  read_alone honest current =
+      let M : Image → Type 0 = λ pages. HasOldMagic (pages 0) in
+      let N : ℕ → Type 0 = λ m. M (pages_of m old.image) in
+      left_alone (moves.honest honest) (λ magic. current (subst N counted (subst M (same honest) magic)))
+
+  few_upgraded : WritesFew n old near
+  few_upgraded = record {
+    syncs = record { low = omega (arith, moves.syncs.low, upgrades.syncs.low); high = omega (arith, moves.syncs.high, upgrades.syncs.high) };
+    writes = record { low = omega (arith, moves.writes.low, upgrades.writes.low); high = omega (arith, moves.writes.high, upgrades.writes.high) };
+    current = λ honest current. omega (arith, moves.syncs.high, (read_alone honest current).syncs);
+    unwritten = λ closed current. (read_alone closed.honest current).writes ∙ none_written old mid (shut closed);
+  }
+
   pub opens_upgraded : Opens n old near
   opens_upgraded = record {
     time = time_near;
@@ -180,7 +223,7 @@ module _ (n count count' : ℕ) (sound sound' : Bool) (old mid near : View) (cou
     beside_is = upgrades.beside ∙ moves.beside;
     faults = omega (arith, moves.faults, upgrades.faults);
     reads = record { low = omega (arith, moves.reads.low, upgrades.reads.low); high = omega (arith, moves.reads.high, upgrades.reads.high) };
-    syncs = record { low = omega (arith, moves.syncs.low, upgrades.syncs.low); high = omega (arith, moves.syncs.high, upgrades.syncs.high) };
+    few = few_upgraded;
   }
 
   module _ (done : Honest mid → pages_of count' near.image ≡ current (pages_of count mid.image)) where
@@ -209,7 +252,7 @@ module _ (n count count' : ℕ) (sound sound' : Bool) (old mid near : View) (cou
             beside_is = reads.beside ∙ upgrades.beside ∙ moves.beside;
             faults = omega (arith, moves.faults, upgrades.faults, reads.faults);
             reads = record { low = omega (arith, moves.reads.low, upgrades.reads.low, reads.reads.low); high = omega (arith, moves.reads.high, upgrades.reads.high, reads.reads.high) };
-            syncs = record { low = omega (arith, moves.syncs.low, upgrades.syncs.low, reads.syncs); high = omega (arith, moves.syncs.high, upgrades.syncs.high, reads.syncs) };
+            few = few_then n old near new few_upgraded reads.syncs reads.writes;
           }
 
 -- an image that stands for pages from before, or for those in version 2, recovers to their book

@@ -8,7 +8,7 @@ use Rattle.gate_pages.specs.declared.pages.Pages as pages_trait
 use Rattle.gate_pages.specs.declared.errors.OpenCause.{OpenCause}
 use Rattle.gate_pages.specs.declared.errors.OpenCause.TheVariants as of_pages
 use Rattle.gate_pages.specs.declared.gate_pages.GatePages.{GatePages}
-use Rattle.gate_pages.specs.GatePages.{IsBroken, IsReadable}
+use Rattle.gate_pages.specs.GatePages.{HasClosedGate, IsBroken, IsReadable}
 use Rattle.gate_pages.specs.Journal.{page_count, pages_of}
 use Rattle.gate_pages.specs.Pages.{Quiet}
 use Rattle.page_space.specs.Layout.{HasMagic}
@@ -16,6 +16,7 @@ use Rattle.series_store.specs.Opening.{IsBrokenPage}
 use Rattle.series_store.specs.declared.errors.StoreError.{StoreError}
 use Rattle.series_store.specs.declared.errors.StoreError.TheVariants as of_store
 use Rattle.series_store.specs.declared.store.Store.{Store}
+use Rattle.store_upgrade.specs.OldStores.{HasOldMagic}
 use Rattle.store_upgrade.specs.Upgrading.{IsFirstBroken, BeforeOrUpgraded}
 use Rattle.store_upgrade.specs.declared.errors.UpgradeError.{UpgradeError}
 use Rattle.store_upgrade.specs.declared.errors.UpgradeError.TheVariants as of_upgrade
@@ -74,6 +75,22 @@ pub record StandsOrUpgraded (count : ℕ) (before : View) (image : Image) : Type
 abbrev pub IsLeftOpening : ℕ → View → Image → Type 0
 IsLeftOpening count before image = Honest before → StandsOrUpgraded count before image
 
+-- the pages for which the disk stands aren't those of a store of version 1
+abbrev pub IsCurrent : ℕ → View → Type 0
+IsCurrent count disk = HasOldMagic (pages_of count disk.image 0) → ⊥
+
+-- How often an opening syncs and writes. Where the pages aren't of version 1 it syncs three times at most, and writes nothing
+-- where the gate is closed besides.
+pub record WritesFew (count : ℕ) (old new : View) : Type 0 where
+  pub syncs : Rises 7 old.syncs new.syncs
+  pub writes : Rises 102 old.writes new.writes
+  pub current : Honest old → IsCurrent count old → new.syncs ≤ old.syncs + 3
+  pub unwritten : HasClosedGate old → IsCurrent count old → new.writes ≡ old.writes
+
+-- as many syncs as an opening may make
+abbrev pub SyncsOpening : ℕ → View → ℕ → Type 0
+SyncsOpening count old opened = (opened ≤ old.syncs + 7) × (Honest old → IsCurrent count old → opened ≤ old.syncs + 3)
+
 -- What an opening leaves: at each moment a crash leaves pages that it might have left before, or those that they become
 -- in version 2, and no byte is sent.
 pub record Opens (count : ℕ) (old new : View) : Type 0 where
@@ -83,7 +100,7 @@ pub record Opens (count : ℕ) (old new : View) : Type 0 where
   pub beside_is : new.beside ≡ old.beside
   pub faults : old.faults ≤ new.faults
   pub reads : Rises 200 old.reads new.reads
-  pub syncs : Rises 7 old.syncs new.syncs
+  pub few : WritesFew count old new
 
 -- the cause, by that of the pages
 abbrev pub cause_of : OpenCause → OpeningCause

@@ -8,6 +8,7 @@ use Rattle.chart_service.specs.Stepping.{state_of}
 use Rattle.chart_service.proofs.DiskKept.{risen_since}
 use Rattle.disk_store.proofs.Lowered.{lowered_is, lowered_readable}
 use Rattle.disk_store.specs.Held.{HoldsBook}
+use Rattle.disk_store.proofs.Opened.{syncs_few}
 use Rattle.disk_store.specs.Openings.{Opens}
 use Rattle.disk_store.specs.declared.causes.OpeningCause.{OpeningCause}
 use Rattle.disk_store.specs.declared.causes.OpeningCause.TheVariants as opening
@@ -299,7 +300,7 @@ syncs_on old mid new left_mid left opens same syncs =
   where
     opened : (o : Option (List ℕ)) → IfSome o (λ input. SyncsLines input mid.syncs new.syncs) → IfSome o (λ input. SyncsLiving old new input)
     opened None syncs = tt
-    opened (Some input) syncs = (mid.syncs, opens.syncs.high, syncs)
+    opened (Some input) syncs = (mid.syncs, syncs_few (page_count old.size) old mid opens.few, syncs)
 
 pub syncs_unopened : (old new : View) (left : Option (List ℕ)) → Opens (page_count old.size) old new → IfSome left (λ input. SyncsLiving old new input)
-syncs_unopened old new left opens = told_each left (λ input. SyncsLiving old new input) (λ input. (new.syncs, opens.syncs.high, nothing_synced input new.syncs))
+syncs_unopened old new left opens = told_each left (λ input. SyncsLiving old new input) (λ input. (new.syncs, syncs_few (page_count old.size) old new opens.few, nothing_synced input new.syncs))

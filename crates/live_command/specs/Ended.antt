@@ -3,6 +3,7 @@ use Rattle.std.specs.Prelude.{◌≡◌, ◌≢◌, ℕ, ◌+◌, ◌<◌, ◌�
 use Rattle.block_disk.specs.Counts.{HasRisen}
 use Rattle.block_disk.specs.View.{Honest, View, sent_now}
 use Rattle.chart_service.specs.Moments.{Since}
+use Rattle.disk_store.specs.Openings.{SyncsOpening}
 use Rattle.gate_pages.specs.Journal.{page_count}
 use Rattle.gate_pages.specs.Pages.{GoesOn}
 use Rattle.live_service.specs.LiveReplies.{LiveState}
@@ -63,9 +64,9 @@ ReadsFrom count old new input from = OfBook count old (λ total book. ReadsLines
 abbrev pub ReadsLiving : View → View → List ℕ → Type 0
 ReadsLiving old new input = (opened : ℕ) × (opened ≤ old.reads + 200) × ReadsFrom (page_count old.size) old new input opened
 
--- an opening syncs seven times at most, and then the lines sync
+-- an opening syncs as often as it may, and then the lines sync
 abbrev pub SyncsLiving : View → View → List ℕ → Type 0
-SyncsLiving old new input = (opened : ℕ) × (opened ≤ old.syncs + 7) × SyncsLines input opened new.syncs
+SyncsLiving old new input = (opened : ℕ) × SyncsOpening (page_count old.size) old opened × SyncsLines input opened new.syncs
 
 -- Why `live` ended, whatever the disk holds. Where its store wasn't opened no input was taken and nothing was sent.
 abbrev pub IsLiveCause : End → View → View → Traffic → Type 0

@@ -6,6 +6,7 @@ ghost use Rattle.series_book.specs.Edits.{id_of};
 ghost use Rattle.run_ends.specs.Faults.{end_fault};
 ghost use Rattle.series_load.specs.Sides.{Goes};
 ghost use Rattle.series_load.specs.Shown as loads;
+ghost use Rattle.series_store.specs.Asking.{LacksName};
 ghost use Rattle.series_store.specs.Shown as shown;
 ghost use Rattle.series_load.specs.Steps.{IsSoundFor};
 ghost use Rattle.run_ends.specs.declared.ending.End.TheVariants.{InputTooLong, UnknownSeries, NoMemory};
@@ -43,6 +44,8 @@ pub fn load<P: PageWorld>(alloc: Global, store: &mut Store<P>, name: &Name) -> R
     // the name is looked up first, and nothing is taken where no series has it
     ensures unknown { shown.ForBook store.old (λ total book. (result ≡ Err UnknownSeries) ↔ (id_of name.now book ≡ None)) }
     ensures untouched { result ≡ Err UnknownSeries → store.new ≡ store.old }
+    // whatever the pages are: the catalog that was read lacks the name then
+    ensures lacks { result ≡ Err UnknownSeries → LacksName (shown.catalog store.old) name.now }
     // what was read and stored, at the end and at each moment
     ensures outcome { loads.ForNamed store.old name.now (λ total book series. loads.LoadsSo P.Streams name.now total book series result store.old store.new) }
     ensures within { OnOk result (IfSome (P.left (shown.pages store.old)) (λ input. length input ≤ 2 ^ 32)) }

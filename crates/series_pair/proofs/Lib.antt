@@ -1,2 +1,3 @@
+pub mod DamageLemmas
 pub mod ChartLemmas
 pub mod OneLemmas

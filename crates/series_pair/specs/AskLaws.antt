@@ -11,19 +11,21 @@ use Rattle.page_space.specs.Shown as spaces
 use Rattle.page_space.specs.declared.space.Space.{Space}
 use Rattle.page_space.specs.declared.superblock.Superblock.{Superblock}
 use Rattle.derived_chart.specs.Sums.{one_of}
-use Rattle.retention.proofs.LookLemmas.{bad_later, looks_asked, looks_none, looks_then}
+use Rattle.retention.proofs.LookLemmas.{looks_asked, looks_none, looks_then}
 use Rattle.retention.specs.Moving.{Looks, LooksOnly}
 use Rattle.series_book.specs.declared.one_series.Series.{Series}
 use Rattle.series_catalog.specs.Shown.{series_in}
 use Rattle.series_catalog.specs.declared.catalog.Catalog.{Catalog}
 use Rattle.series_catalog.specs.declared.stored_series.StoredSeries.{StoredSeries}
 use Rattle.series_store.proofs.AskLemmas.{there}
-use Rattle.series_store.proofs.SelectedLemmas.{agrees_at, bad_at, whole_at}
-use Rattle.series_store.specs.Asking.{IsBadPage, IsTreeAt}
+use Rattle.series_store.proofs.SelectedLemmas.{agrees_at, whole_at}
+use Rattle.series_store.specs.Asking.{IsTreeAt}
 use Rattle.series_store.specs.Shown as shown
 use Rattle.series_store.specs.declared.store.Store.{Store}
 use Rattle.stored_book.specs.Standing.{StandsForBook}
 use Rattle.tree_walk.specs.declared.tree.Tree.{Tree}
+use Rattle.series_pair.specs.Damage.{IsBadOnWay}
+use Rattle.series_pair.proofs.DamageLemmas.{way_at, way_later}
 use Rattle.series_pair.specs.Asking.{ArePair, Causes, GoesPair, IsPair, IsReady, KeepsPair, count, pair_view}
 use Rattle.series_pair.specs.Pairs.{counted, side_of, slots_at, slots_of}
 use Rattle.series_pair.specs.declared.store_pair.StorePair.{StorePair}
@@ -216,8 +218,8 @@ module _ {P : Type 0} {g : Ghosts P} where
       let n = new.store.now in
       let id = side_of old.is_second old.x old.y in
       let low = low_side old.is_second old.x old.y (length (shown.catalog o)) ready.1.first ready.1.second in (
-        bad_later (shown.IsTold o) (shown.IsTold n) (shown.view o) (shown.view n) (shown.under o) (shown.under n) (shown.numbers o) (shown.numbers n)
-            (shown.kept_catalog o) (shown.kept_catalog n) (shown.total o) page (asks_look kept) (bad_at o id page ready.0 low ready.1.selected bad),
+        way_later (shown.IsTold o) (shown.IsTold n) (shown.view o) (shown.view n) (shown.under o) (shown.under n) (shown.numbers o) (shown.numbers n)
+            (shown.kept_catalog o) (shown.kept_catalog n) (shown.total o) page (asks_look kept) (way_at o id page ready.0 low ready.1.selected bad),
         whole_at o id page ready.0 low ready.1.selected bad,
       )
   asks_have_cause (Missing key) kept never = λ ready. never
@@ -229,7 +231,7 @@ module _ {P : Type 0} {g : Ghosts P} where
       subst R quiet (cause (still_ready going ready))
   causes_later (Damaged page) old mid new going quiet cause = λ ready.
       let is = cause (still_ready going ready) in
-      let N : Superblock → Type 0 = λ s. IsBadPage (shown.IsTold new.store.now) s.total (shown.view new.store.now) page in (
+      let N : Superblock → Type 0 = λ s. IsBadOnWay (shown.IsTold new.store.now) s.total (shown.view new.store.now) page in (
         subst N going.looks.superblock is.0,
         λ total book told stands. is.1 total book (going.looks.told told) (stands_later old.store.now mid.store.now total book going.looks told stands),
       )

@@ -7,9 +7,9 @@ use Rattle.om3_coeff.specs.declared.errors.NodeError.{NodeError}
 use Rattle.om3_coeff.specs.declared.errors.NodeError.TheVariants.{DiskFault, Damaged, Missing, BadCoefficient}
 use Rattle.retention.specs.Moving.{LooksOnly}
 use Rattle.series_book.specs.declared.one_series.Series.{Series}
-use Rattle.series_store.specs.Asking.{IsBadPage}
 use Rattle.series_store.specs.Shown as shown
 use Rattle.stored_book.specs.Standing.{StandsForBook}
+use Rattle.series_pair.specs.Damage.{IsBadOnWay}
 use Rattle.series_pair.specs.Pairs.{counted, side_of, slots_at}
 use Rattle.series_pair.specs.declared.store_pair.StorePair.{StorePair}
 
@@ -68,7 +68,7 @@ module _ {P : Type 0} {g : Ghosts P} where
   abbrev pub IsAskCause : StorePair P g → StorePair P g → NodeError → Type 0
   IsAskCause old new DiskFault = HasRisen (shown.view old.store.now).faults (shown.view new.store.now).faults
   IsAskCause old new (Damaged page) =
-      IsBadPage (shown.IsTold new.store.now) (shown.total old.store.now) (shown.view new.store.now) page × shown.ForBook old.store.now (λ total book. ⊥)
+      IsBadOnWay (shown.IsTold new.store.now) (shown.total old.store.now) (shown.view new.store.now) page × shown.ForBook old.store.now (λ total book. ⊥)
   IsAskCause old new (Missing key) = ⊥
   IsAskCause old new (BadCoefficient key) = ⊥
 

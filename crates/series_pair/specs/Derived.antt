@@ -15,10 +15,10 @@ use Rattle.plain_chart.specs.Samples.{kept, sample_points, values_of, IsRange}
 use Rattle.plain_chart.specs.declared.sample.Sample.{Sample}
 use Rattle.plain_chart.specs.declared.value_range.ValueRange.{ValueRange}
 use Rattle.series_book.specs.declared.one_series.Series.{Series}
-use Rattle.series_store.specs.Asking.{IsBadPage}
 use Rattle.whole_number.specs.Range.{IsValue}
 use Rattle.series_pair.specs.declared.sum_error.SumError.{SumError}
 use Rattle.series_pair.specs.declared.sum_error.SumError.TheVariants.{TooLarge, DiskFault, Damaged, NoMemory}
+use Rattle.series_pair.specs.Damage.{IsBadOnWay}
 
 -- the times of a series' slots
 abbrev pub axis_of : Series → Axis
@@ -104,7 +104,7 @@ IsChartAnswer book x y a b g asked (Err error) = IsSumError book x y a b g error
 abbrev pub IsChartCause : SumError → Type 0 → ℕ → View → View → Type 0
 IsChartCause (TooLarge time) told total old new = ⊤
 IsChartCause DiskFault told total old new = HasRisen old.faults new.faults
-IsChartCause (Damaged page) told total old new = IsBadPage told total new page
+IsChartCause (Damaged page) told total old new = IsBadOnWay told total new page
 IsChartCause NoMemory told total old new = ⊤
 
 -- the failed call of which an error of a chart tells

@@ -1,3 +1,4 @@
+pub mod Damage
 pub mod Derived
 pub mod Pairs
 pub mod Asking

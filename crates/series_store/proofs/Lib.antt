@@ -29,3 +29,4 @@ pub mod DoneLemmas
 pub mod GroupLemmas
 pub mod CoverLemmas
 pub mod KeptLemmas
+pub mod NameLemmas

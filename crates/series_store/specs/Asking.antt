@@ -26,6 +26,21 @@ pub record IsInfo (series : Series) (id : ℕ) (info : SeriesInfo) : Type 0 wher
 abbrev pub IsFound : List ℕ → List Series → SeriesInfo → Type 0
 IsFound name book info = (id_of name book ≡ Some info.id) × ((series : Series) → slice_get book info.id ≡ Some series → IsInfo series info.id info)
 
+-- what is told of a series of a catalog is so
+pub record IsStoredInfo (one : StoredSeries) (info : SeriesInfo) : Type 0 where
+  pub start : info.start ≡ one.start
+  pub step : info.step ≡ one.step
+  pub scale : info.scale ≡ one.scale
+  pub slots : info.slots ≡ one.tree.slots
+
+-- the series of this id in a catalog has the name
+abbrev pub IsNamedAt : List StoredSeries → List ℕ → ℕ → Type 0
+IsNamedAt catalog name id = (one : StoredSeries) → slice_get catalog id ≡ Some one → one.name ≡ name
+
+-- none of them has it
+abbrev pub LacksName : List StoredSeries → List ℕ → Type 0
+LacksName catalog name = (id : ℕ) (one : StoredSeries) → slice_get catalog id ≡ Some one → one.name ≡ name → ⊥
+
 -- the tree is that of the series of this id
 abbrev pub IsTreeAt : List StoredSeries → ℕ → Tree → Type 0
 IsTreeAt catalog id tree = (one : StoredSeries) → slice_get catalog id ≡ Some one → tree ≡ one.tree

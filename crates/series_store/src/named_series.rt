@@ -1,6 +1,7 @@
 //! What is told of a series by its id.
-ghost use Rattle.std.specs.Prelude.{◌≡◌, ◌<◌, ◌↔◌, None, length, slice_get, IsTrue, is_some, MatchOption};
-ghost use Rattle.series_store.specs.Naming.{IsNamedSeries};
+ghost use Rattle.std.specs.Prelude.{◌≡◌, ◌<◌, ◌↔◌, None, Some, length, slice_get, IsTrue, is_some, IfSome, MatchOption};
+ghost use Rattle.series_catalog.specs.declared.stored_series.StoredSeries.{StoredSeries};
+ghost use Rattle.series_store.specs.Naming.{IsNamedSeries, IsStoredSeries};
 ghost use Rattle.series_store.specs.Shown as shown;
 
 use crate::store::Store;
@@ -21,6 +22,8 @@ impl<P: Pages> Store<P> {
     pub fn series_at(&self, id: u16) -> Option<NamedSeries<'_>>
         ensures there { IsTrue (is_some result) ↔ (id < length (shown.catalog self.now)) }
         ensures books { shown.ForSoundBook self.now (λ total book. MatchOption result (slice_get book id ≡ None) (IsNamedSeries book id)) }
+        // so it is by the catalog that was read
+        ensures stored { IfSome result (λ told. (one : StoredSeries) → slice_get (shown.catalog self.now) id ≡ Some one → IsStoredSeries one told) }
     {
         if u32::from(id) >= self.len() {
             return None;

@@ -8,7 +8,7 @@ ghost use Rattle.series_book.specs.declared.limits.TheConstants.{MOST_SLOTS};
 ghost use Rattle.series_book.specs.Edits.{id_of};
 ghost use Rattle.series_book.specs.Pages.{pages_of};
 ghost use Rattle.page_space.specs.Layout.{in_use};
-ghost use Rattle.series_store.specs.Asking.{IsFound, IsInfo};
+ghost use Rattle.series_store.specs.Asking.{IsFound, IsInfo, IsNamedAt, IsStoredInfo, LacksName};
 ghost use Rattle.series_catalog.specs.declared.stored_series.StoredSeries.{StoredSeries};
 ghost use Rattle.series_store.specs.Shown as shown;
 
@@ -70,6 +70,7 @@ impl<P: Pages> Store<P> {
         ensures slots { result.slots ≤ MOST_SLOTS }
         ensures last { EndsInTime result.start result.step result.slots }
         ensures tree { (series : StoredSeries) → slice_get (shown.catalog self.now) id ≡ Some series → result.slots ≡ series.tree.slots }
+        ensures stored { (series : StoredSeries) → slice_get (shown.catalog self.now) id ≡ Some series → IsStoredInfo series result }
         ensures proper { IsProperIfAny result.span }
         ensures none { result.slots ≡ 0 → result.span ≡ None }
         ensures info { shown.ForSoundSeries self.now id (λ total book series. IsInfo series id result) }
@@ -97,6 +98,8 @@ impl<P: Pages> Store<P> {
         ensures proper { IfSome result (λ info. IsProperIfAny info.span) }
         ensures none { IfSome result (λ info. info.slots ≡ 0 → info.span ≡ None) }
         ensures info { shown.ForSoundBook self.now (λ total book. MatchOption result (id_of name.now book ≡ None) (IsFound name.now book)) }
+        // so it is by the catalog that was read
+        ensures named { MatchOption result (LacksName (shown.catalog self.now) name.now) (λ info. IsNamedAt (shown.catalog self.now) name.now info.id) }
     {
         let id = self.catalog.find(name)?;
         Some(self.info(id))

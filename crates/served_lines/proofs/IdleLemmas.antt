@@ -1,5 +1,6 @@
 -- What is given does nothing.
-use Rattle.std.proofs.Common.{◌≡◌, ℕ, List, [], ◌∷◌, length, Option, Some, refl, sym, subst, arith}
+use Rattle.std.proofs.Common.{◌≡◌, ◌∙◌, ℕ, List, [], ◌∷◌, ◌++◌, length, Option, Some, refl, ap, sym, subst, arith}
+use Rattle.std.proofs.lemmas.List.{append-nil}
 use Rattle.std.specs.Borrow.{GName}
 use Rattle.block_disk.specs.SentLaws.{sent_none}
 use Rattle.block_disk.specs.View.{View}
@@ -26,7 +27,8 @@ module _ {S F : Type 0} (makes : Makes S F) (name : GName) (kept : S) (edits : L
   pub empty_does : (stand : Stand S) (position : ℕ) (bytes : List ℕ) → length bytes ≡ 0 → StandsSo stand name kept edits told at own before
       → DoesOne (Does makes) (λ s. StandsSo s name kept edits told at own before) stand (Line position (Some bytes)) before before
   empty_does (Any named) position bytes none is =
-      gives_does makes named name name kept kept own own before before is refl (Line position (Some bytes)) edits told at
+      gives_does makes named name name kept kept own own before before edits is refl (Line position (Some bytes)) edits told at [] named.ahead
+      (ap (λ (l : List (Option (List ℕ))). named.ahead ++ l) (none_said bytes none) ∙ append-nil named.ahead) is.spells tt
       (gives_none makes kept (λ n. is_open n own) before)
   empty_does (Over held) position bytes none is =
       let T : List (Option (List ℕ)) → Type 0 = λ l. Turn makes held held l 0 [] in
@@ -42,7 +44,7 @@ module _ {S F : Type 0} (makes : Makes S F) (name : GName) (kept : S) (edits : L
   pub end_does : (stand : Stand S) → StandsSo stand name kept edits told at own before
       → DoesOne (Does makes) (λ s. StandsSo s name kept edits told at own before) stand End before before
   end_does (Any named) is =
-      gives_does makes named name name kept kept own own before before is refl End edits told at (gives_none makes kept (λ n. is_open n
-      own) before)
+      gives_does makes named name name kept kept own own before before edits is refl End edits told at [] named.ahead (append-nil named.ahead) is.spells tt
+      (gives_none makes kept (λ n. is_open n own) before)
   end_does (Over held) is =
       record { text = []; behind = Over held; done = (turn_none makes held, tt); stands = is; sent = sent_none before }

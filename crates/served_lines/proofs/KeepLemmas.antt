@@ -1,5 +1,5 @@
 -- A line is kept back, or there is no memory for it.
-use Rattle.std.proofs.Common.{◌≡◌, ◌∙◌, ℕ, ◌+◌, ◌-◌, ◌≤◌, List, [], ◌∷◌, ◌++◌, length, Option, None, Some, Result, Ok, Err, IfErr, refl, ap, sym, subst, inl, inr, arith, length-append}
+use Rattle.std.proofs.Common.{◌≡◌, ◌∙◌, ℕ, Bool, ◌+◌, ◌-◌, ◌≤◌, List, [], ◌∷◌, ◌++◌, length, Option, None, Some, Result, Ok, Err, IfErr, refl, ap, sym, subst, inl, inr, arith, length-append}
 use Rattle.std.specs.Prelude.{OnOk}
 use Rattle.std.specs.Borrow.{GName}
 use Rattle.std.proofs.lemmas.List.{append-nil}
@@ -15,7 +15,7 @@ use Rattle.request_lines.specs.declared.requests.Request.TheVariants.{Edit as Ed
 use Rattle.series_book.specs.declared.edits.Edit.{Edit}
 use Rattle.zoom_session.specs.declared.session.Session.{Session}
 use Rattle.zoom_session.specs.Sessions.{is_open}
-use Rattle.chart_service.specs.EditGroups.{SpellEdits, SpellsEdit}
+use Rattle.chart_service.specs.EditGroups.{SpelledBy, SpellEdits, SpellsEdit}
 use Rattle.chart_service.specs.Making.{Makes, LinesMoments}
 use Rattle.chart_service.specs.Moments.{Through}
 use Rattle.chart_service.specs.Naming.{Gives, GivesBy, GivesFirst}
@@ -54,18 +54,30 @@ edit_few (Some text) = read_few (read_line text)
 edits_few : (line : Option (List ℕ)) → IsSaid line → length (edits_of (unless_empty line)) ≤ length (unless_empty line)
 edits_few line said = omega (arith, edit_few line, ap length said, ap (λ l. length (edits_of l)) said, length-append (edit_of line) [])
 
-pub gives_ok : {T S F : Type 0} (makes : Makes S F) (kept kept' : S) (own sessions : List Session) (before now : Option (List ℕ)) (r :
-    Result T (AnswerEnd F))
-    → GivesBy makes kept kept' own sessions before now r
-    → OnOk r (Gives makes kept kept' (λ n. is_open n own) (λ n. is_open n sessions) before now)
-gives_ok makes kept kept' own sessions before now (Ok done) gives = gives
-gives_ok makes kept kept' own sessions before now (Err end) gives = tt
+-- no line spells no edits
+pub none_spelled : (edits : List Edit) → edits ≡ [] → SpellEdits [] edits
+none_spelled edits none = subst (λ (e : List Edit). SpellEdits [] e) (sym none) tt
 
-pub gives_err : {T S F : Type 0} (makes : Makes S F) (kept kept' : S) (own sessions : List Session) (before now : Option (List ℕ)) (r :
+-- so are none given
+pub none_given : {S F : Type 0} (makes : Makes S F) (lines : List (Option (List ℕ))) (edits : List Edit) → length edits ≡ 0 → SpellEdits lines edits → (v : S) (a : ℕ → Bool) (before : Option (List ℕ))
+    → Gives makes lines v v a a before before
+none_given makes [] [] none spells v a before = gives_none makes v a before
+none_given makes [] (edit ∷ edits) none spells v a before = absurd spells
+none_given makes (line ∷ lines) [] none spells v a before = absurd spells
+none_given makes (line ∷ lines) (edit ∷ edits) none spells v a before = absurd (omega (arith, none))
+
+pub gives_ok : {T S F : Type 0} (makes : Makes S F) (lines : List (Option (List ℕ))) (kept kept' : S) (own sessions : List Session) (before now : Option (List ℕ)) (r :
     Result T (AnswerEnd F))
-    → GivesBy makes kept kept' own sessions before now r → IfErr r (GivesFirst makes kept kept' (λ n. is_open n own) before now)
-gives_err makes kept kept' own sessions before now (Ok done) gives = tt
-gives_err makes kept kept' own sessions before now (Err end) gives = gives
+    → GivesBy makes lines kept kept' own sessions before now r
+    → OnOk r (Gives makes lines kept kept' (λ n. is_open n own) (λ n. is_open n sessions) before now)
+gives_ok makes lines kept kept' own sessions before now (Ok done) gives = gives
+gives_ok makes lines kept kept' own sessions before now (Err end) gives = tt
+
+pub gives_err : {T S F : Type 0} (makes : Makes S F) (lines : List (Option (List ℕ))) (kept kept' : S) (own sessions : List Session) (before now : Option (List ℕ)) (r :
+    Result T (AnswerEnd F))
+    → GivesBy makes lines kept kept' own sessions before now r → IfErr r (GivesFirst makes kept kept' (λ n. is_open n own) before now)
+gives_err makes lines kept kept' own sessions before now (Ok done) gives = tt
+gives_err makes lines kept kept' own sessions before now (Err end) gives = gives
 
 -- the same moments, by the names of runs
 pub run_through : (old new : View) (IsSo : Image → ℕ → Type 0) → Through old new IsSo → moments.Through old new IsSo
@@ -78,8 +90,8 @@ module _ {S F : Type 0} (makes : Makes S F) (name : GName) (kept : S) (edits : L
       → StandsSo stand name kept edits told at own before
       → StopsBy makes stand (Line position line) name kept at.image own before before at.reads at.syncs (Serve NoMemory)
   memory_stops (Any named) position line said is =
-      gives_stops makes named name name kept kept own own before before is refl (Serve NoMemory)
-      (first_memory makes kept kept (λ n. is_open n own) (λ n. is_open n own) before before (gives_none makes kept (λ n. is_open n own)
+      gives_stops makes named name name kept kept own own before before edits is refl (Serve NoMemory)
+      (first_memory makes [] kept kept (λ n. is_open n own) (λ n. is_open n own) before before (gives_none makes kept (λ n. is_open n own)
       before))
   memory_stops (Over held) position line said is =
       let lines = unless_empty line in
@@ -135,7 +147,9 @@ module _ {S F : Type 0} (makes : Makes S F) (name : GName) (kept : S) (edits : L
     pub kept_does : (stand : Stand S) (position : ℕ) → StandsSo stand name kept edits told at own before
         → DoesOne (Does makes) (λ s. StandsSo s name kept edits' told at own before) stand (Line position line) before before
     kept_does (Any named) position is =
-        gives_does makes named name name kept kept own own before before is refl (Line position line) edits' told at
+        let P : List Edit → Type 0 = λ e. SpellEdits (named.ahead ++ line ∷ []) e in
+        gives_does makes named name name kept kept own own before before edits is refl (Line position line) edits' told at [] (named.ahead ++ line ∷ [])
+        (ap (λ (l : List (Option (List ℕ))). named.ahead ++ l) (spelled_line line edit spells)) (subst P (sym pushed) (spells_more named.ahead edits line edit is.spells spells)) tt
         (gives_none makes kept (λ n. is_open n own) before)
     kept_does (Over held) position is = record {
       text = [];
@@ -150,18 +164,21 @@ module _ {S F : Type 0} (makes : Makes S F) (name : GName) (kept : S) (edits : L
     module _ (name' : GName) (same_name : name' ≡ name) (kept' : S) (told' : Type 0) (new : View) (sessions : List Session) (now : Option
         (List ℕ)) (none : List Edit) where
       pub full_does : {T : Type 0} (r : Result T (AnswerEnd F)) (stand : Stand S) (position : ℕ) → 64 ≤ length edits'
-          → StandsSo stand name kept edits told at own before
-          → GivesBy makes kept kept' own sessions before now r
+          → StandsSo stand name kept edits told at own before → SpellEdits [] none
+          → SpelledBy edits' (λ lines. GivesBy makes lines kept kept' own sessions before now r)
           → ((held : Held S) → IsHeld held kept edits' told at own before
           → OnOk r (SettlesTo makes held (λ h. IsHeld h kept' none told' new sessions now) before now))
           → OnOk r (DoesOne (Does makes) (λ s. StandsSo s name' kept' none told' new sessions now) stand (Line position line) before now)
-      full_does r (Any named) position full is gives settles =
-          ok_so r (Gives makes kept kept' (λ n. is_open n own) (λ n. is_open n sessions) before now)
+      full_does r (Any named) position full is none_left gives settles =
+          let P : List Edit → Type 0 = λ e. SpellEdits (named.ahead ++ line ∷ []) e in
+          let ahead = named.ahead ++ line ∷ [] in
+          let spelt = subst P (sym pushed) (spells_more named.ahead edits line edit is.spells spells) in
+          ok_so r (Gives makes ahead kept kept' (λ n. is_open n own) (λ n. is_open n sessions) before now)
           (DoesOne (Does makes) (λ s. StandsSo s name' kept' none told' new sessions now) (Any named) (Line position line) before now)
-          (λ given. gives_does makes named name name' kept kept' own sessions before now is same_name (Line position line) none told' new
-          given)
-          (gives_ok makes kept kept' own sessions before now r gives)
-      full_does r (Over held) position full is gives settles =
+          (λ given. gives_does makes named name name' kept kept' own sessions before now edits is same_name (Line position line) none told' new
+          ahead [] (ap (λ (l : List (Option (List ℕ))). named.ahead ++ l) (spelled_line line edit spells) ∙ sym (append-nil ahead)) none_left tt given)
+          (gives_ok makes ahead kept kept' own sessions before now r (gives ahead spelt))
+      full_does r (Over held) position full is none_left gives settles =
           let mid = behind makes held (line ∷ []) in
           let here = pushed_held held is in
           ok_so r (SettlesTo makes mid (λ h. IsHeld h kept' none told' new sessions now) before now)
@@ -185,15 +202,18 @@ module _ {S F : Type 0} (makes : Makes S F) (name : GName) (kept : S) (edits : L
 
       pub full_stops : {T : Type 0} (r : Result T (AnswerEnd F)) (stand : Stand S) (position : ℕ) → 64 ≤ length edits'
           → length edits' ≤ most_ahead → StandsSo stand name kept edits told at own before
-          → GivesBy makes kept kept' own sessions before now r
+          → SpelledBy edits' (λ lines. GivesBy makes lines kept kept' own sessions before now r)
           → ((held : Held S) → IsHeld held kept edits' told at own before
           → IfErr r (Unsettled makes held kept' edits' new.image sessions now new.reads new.syncs))
           → IfErr r (λ end. StopsBy makes stand (Line position line) name' kept' new.image sessions before now new.reads new.syncs end)
       full_stops r (Any named) position full few is gives unsettled =
+          let P : List Edit → Type 0 = λ e. SpellEdits (named.ahead ++ line ∷ []) e in
+          let ahead = named.ahead ++ line ∷ [] in
+          let spelt = subst P (sym pushed) (spells_more named.ahead edits line edit is.spells spells) in
           error_so r (GivesFirst makes kept kept' (λ n. is_open n own) before now)
           (λ end. StopsBy makes (Any named) (Line position line) name' kept' new.image sessions before now new.reads new.syncs end)
-          (λ end given. gives_stops makes named name name' kept kept' own sessions before now is same_name end given)
-          (gives_err makes kept kept' own sessions before now r gives)
+          (λ end given. gives_stops makes named name name' kept kept' own sessions before now edits is same_name end given)
+          (gives_err makes ahead kept kept' own sessions before now r (gives ahead spelt))
       full_stops r (Over held) position full few is gives unsettled =
           let mid = behind makes held (line ∷ []) in
           let here = pushed_held held is in

@@ -1,7 +1,8 @@
 -- What a run of the loop over lines gave, whatever the pages are.
-use Rattle.std.proofs.Common.{◌≡◌, ◌∙◌, ℕ, Bool, true, false, List, [], ◌∷◌, All, IsTrue, Option, Result, Ok, Err, IfErr, refl, ap, sym, subst}
+use Rattle.std.proofs.Common.{◌≡◌, ◌∙◌, ℕ, Bool, true, false, List, [], ◌∷◌, ◌++◌, All, IsTrue, Option, None, Some, Result, Ok, Err, IfErr, IfSome, refl, ap, sym, subst}
 use Rattle.std.specs.Prelude.{OnOk, ◌==◌, ◌&&◌, ◌||◌, not}
 use Rattle.std.specs.Borrow.{GName}
+use Rattle.std.proofs.lemmas.List.{append_assoc, append-nil}
 use Rattle.std.proofs.lemmas.List.Elements.{All-head, All-tail}
 use Rattle.block_disk.specs.SentLaws.{sent_more, sent_none}
 use Rattle.block_disk.specs.Streams.{sent_after}
@@ -12,7 +13,8 @@ use Rattle.chart_frames.specs.declared.frame.Frame.{Frame}
 use Rattle.chart_frames.specs.declared.frame.Frame.TheVariants.{Done, Refused, Opened, Closed, View as ViewFrame, Rows, Live}
 use Rattle.chart_world.specs.declared.line_answer.LineFault.TheVariants as fault
 use Rattle.line_runs.specs.Carried.{Carries}
-use Rattle.line_runs.specs.Given.{Given}
+use Rattle.line_runs.specs.CarriedLaws.{carries_both}
+use Rattle.line_runs.specs.Given.{End, EndsPaused, Given, Pause}
 use Rattle.line_runs.specs.Runs as runs
 use Rattle.line_runs.specs.declared.lines_stop.LinesStop.{LinesStop}
 use Rattle.line_runs.specs.declared.lines_stop.LinesStop.TheVariants as stop
@@ -21,63 +23,126 @@ use Rattle.zoom_session.specs.declared.session.Session.{Session}
 use Rattle.zoom_session.specs.Sessions.{is_open}
 use Rattle.chart_service.specs.Knowing.{EndsKnown, Follows, KnowsOpen, NamesKnown}
 use Rattle.chart_service.specs.Making.{Makes, AreMade}
-use Rattle.chart_service.specs.Naming.{Gives, GivesBy, GivesFirst, StopsBehind, opens_all}
+use Rattle.chart_service.specs.Naming.{Gives, GivesBy, GivesFirst, GivesTold, StopsBehind, opens_all}
+use Rattle.chart_service.specs.Serving.{told}
 use Rattle.chart_service.specs.declared.failure.AnswerEnd.{AnswerEnd}
 use Rattle.chart_service.specs.declared.failure.AnswerEnd.TheVariants.{Serve, Reply}
 use Rattle.chart_service.proofs.Naming.{first_behind, first_fault, gives_joined, gives_none}
 use Rattle.served_lines.specs.Ending.{answer_of}
 use Rattle.served_lines.specs.Shown.{StopsBy}
 use Rattle.served_lines.specs.Standing.{IsNamed, StandsSo}
-use Rattle.served_lines.specs.Turning.{Any, Does, GivesText, Named, Over, Stand, StopsAt}
+use Rattle.served_lines.specs.Turning.{Any, Does, GivesSome, Named, Over, Stand, StopsAt, lines_of}
+use Rattle.served_lines.proofs.Carried.{all_ended, lines_all, told_are}
 
 module _ {S F : Type 0} (makes : Makes S F) where
-  -- what was given by all that was done
-  pub record GivesTo (old : Named S) (text : List ℕ) (stand : Stand S) : Type 0 where
+  -- what was given by all that was done, and to which lines
+  pub record GivesTo (old : Named S) (all : List Given) (text : List ℕ) (stand : Stand S) : Type 0 where
     pub new : Named S
     pub is : stand ≡ Any new
-    pub same_reference : new.name ≡ old.name
-    pub gives : GivesText makes old new text
+    pub gives : GivesSome makes old new (lines_all all) text
+
+  more_split : (ahead one other front behind kept last : List (Option (List ℕ))) → ahead ++ one ≡ front ++ kept → kept ++ other ≡ behind ++ last
+      → ahead ++ (one ++ other) ≡ (front ++ behind) ++ last
+  more_split ahead one other front behind kept last first second =
+      sym (append_assoc ahead one other) ∙ ap (λ (l : List (Option (List ℕ))). l ++ other) first ∙ append_assoc front kept other
+      ∙ ap (λ (l : List (Option (List ℕ))). front ++ l) second ∙ sym (append_assoc front behind last)
 
   pub given : (all : List Given) (old : Named S) (text : List ℕ) (stand : Stand S) → Carries (Does makes) (Any old) all text stand
-      → GivesTo old text stand
+      → GivesTo old all text stand
   given [] old text stand all = record {
     new = old;
     is = all.1;
-    same_reference = refl;
-    gives = λ before now sent.
-        let G : Option (List ℕ) → Type 0 = λ n. Gives makes old.kept old.kept (λ n. is_open n old.sessions) (λ n. is_open n old.sessions)
-        before n in
-        subst G (sent_none before ∙ sym (sent ∙ ap (λ t. sent_after t before) all.0)) (gives_none makes old.kept (λ n. is_open n
-        old.sessions) before);
+    gives = record {
+      same_reference = refl;
+      front = [];
+      split = append-nil old.ahead;
+      gives = λ before now sent.
+          let G : Option (List ℕ) → Type 0 = λ n. Gives makes [] old.kept old.kept (λ n. is_open n old.sessions) (λ n. is_open n old.sessions)
+          before n in
+          subst G (sent_none before ∙ sym (sent ∙ ap (λ t. sent_after t before) all.0)) (gives_none makes old.kept (λ n. is_open n
+          old.sessions) before);
+    };
   }
   given (it ∷ later) old text stand all =
       by all.between all.does (λ mid same. given later mid all.more stand
       (let C : Stand S → Type 0 = λ b. Carries (Does makes) b later all.more stand in subst C same all.others)) refl
     where
       by : (between : Stand S) → Does makes (Any old) it all.first between → ((mid : Named S) → all.between ≡ Any mid
-          → GivesTo mid all.more stand)
-          → all.between ≡ between → GivesTo old text stand
+          → GivesTo mid later all.more stand)
+          → all.between ≡ between → GivesTo old (it ∷ later) text stand
       by (Over held) does others same = absurd does
       by (Any mid) does others same =
           let rest = others mid same in
           record {
             new = rest.new;
             is = rest.is;
-            same_reference = rest.same_reference ∙ does.0;
-            gives = λ before now sent.
-                let mid_sent = sent_after all.first before in
-                let both : now ≡ sent_after all.more mid_sent =
-                sent ∙ ap (λ t. sent_after t before) all.texts
-                ∙ sym (sent_more all.first all.more before mid_sent (sent_after all.more mid_sent) refl refl) in
-                gives_joined makes old.kept mid.kept rest.new.kept (λ n. is_open n old.sessions) (λ n. is_open n mid.sessions)
-                (λ n. is_open n rest.new.sessions) before mid_sent now (does.1 before mid_sent refl) (rest.gives mid_sent now both);
+            gives = record {
+              same_reference = rest.gives.same_reference ∙ does.0.same_reference;
+              front = does.0.front ++ rest.gives.front;
+              split = more_split old.ahead (lines_of it) (lines_all later) does.0.front rest.gives.front mid.ahead rest.new.ahead does.0.split rest.gives.split;
+              gives = λ before now sent.
+                  let mid_sent = sent_after all.first before in
+                  let both : now ≡ sent_after all.more mid_sent =
+                  sent ∙ ap (λ t. sent_after t before) all.texts
+                  ∙ sym (sent_more all.first all.more before mid_sent (sent_after all.more mid_sent) refl refl) in
+                  gives_joined makes does.0.front rest.gives.front old.kept mid.kept rest.new.kept (λ n. is_open n old.sessions) (λ n. is_open n mid.sessions)
+                  (λ n. is_open n rest.new.sessions) before mid_sent now (does.0.gives before mid_sent refl) (rest.gives.gives mid_sent now both);
+            };
           }
+
+  any_one : (old new : Named S) → ◌≡◌ {A = Stand S} (Any old) (Any new) → old ≡ new
+  any_one old new same = cc
+
+  pause_none : (new mid : Named S) (text : List ℕ) (between : Stand S) → Does makes (Any mid) Pause text between → between ≡ Any new
+      → new.ahead ≡ []
+  pause_none new mid text (Over held) does same = absurd does
+  pause_none new mid text (Any next) does same = sym (ap (λ n. n.ahead) (any_one next new same)) ∙ does.1
+
+  -- behind a pause nothing is kept back
+  paused : (given_all : List Given) (old : Named S) (text : List ℕ) (stand : Stand S) → EndsPaused given_all
+      → Carries (Does makes) (Any old) given_all text stand → (t : GivesTo old given_all text stand) × (t.new.ahead ≡ [])
+  paused given_all old text stand p all =
+      let C : List Given → Type 0 = λ l. Carries (Does makes) (Any old) l text stand in
+      let both = carries_both (Does makes) p.earlier (Pause ∷ []) (Any old) text stand (subst C p.given_are all) in
+      let t = given given_all old text stand all in
+      let first = given p.earlier old both.begin both.between both.begins in
+      let D : Stand S → Type 0 = λ b. Does makes b Pause both.others.first both.others.between in (
+        t,
+        pause_none t.new first.new both.others.first both.others.between (subst D first.is both.others.does) (sym both.others.others.1
+            ∙ t.is),
+      )
+
+  none_both : (front rest : List (Option (List ℕ))) → front ++ rest ≡ [] → rest ≡ []
+  none_both [] rest none = none
+  none_both (line ∷ front) rest none = absurd (cc (none))
+
+  end_none : (new mid : Named S) (text : List ℕ) → mid.ahead ≡ [] → (between : Stand S) → Does makes (Any mid) End text between
+      → between ≡ Any new → new.ahead ≡ []
+  end_none new mid text none (Over held) does same = absurd does
+  end_none new mid text none (Any next) does same =
+      sym (ap (λ n. n.ahead) (any_one next new same))
+      ∙ none_both does.0.front next.ahead (sym does.0.split ∙ append-nil mid.ahead ∙ none)
+
+  -- nor behind the end that comes then
+  ended : (earlier given_all : List Given) (old : Named S) (text : List ℕ) (stand : Stand S) → EndsPaused earlier
+      → given_all ≡ earlier ++ End ∷ []
+      → Carries (Does makes) (Any old) given_all text stand → (t : GivesTo old given_all text stand) × (t.new.ahead ≡ [])
+  ended earlier given_all old text stand p is all =
+      let C : List Given → Type 0 = λ l. Carries (Does makes) (Any old) l text stand in
+      let both = carries_both (Does makes) earlier (End ∷ []) (Any old) text stand (subst C is all) in
+      let t = given given_all old text stand all in
+      let first = paused earlier old both.begin both.between p both.begins in
+      let D : Stand S → Type 0 = λ b. Does makes b End both.others.first both.others.between in (
+        t,
+        end_none t.new first.0.new both.others.first first.1 both.others.between (subst D first.0.is both.others.does) (sym
+            both.others.others.1 ∙ t.is),
+      )
 
 module _ {S F : Type 0} (makes : Makes S F) (v w : S) (own sessions : List Session) (before now : Option (List ℕ)) (name name' : GName)
     (edits : List Edit)
     (told_now : Type 0) (new : View) where
   abbrev start : Named S
-  start = record { name = name; kept = v; sessions = own }
+  start = record { name = name; kept = v; ahead = []; sessions = own }
 
   abbrev StandsNow : Stand S → Type 0
   StandsNow stand = StandsSo stand name' w edits told_now new sessions now
@@ -88,39 +153,60 @@ module _ {S F : Type 0} (makes : Makes S F) (v w : S) (own sessions : List Sessi
   abbrev RunStops : Option (List ℕ) → Option (List ℕ) → ℕ → ℕ → LinesStop (AnswerEnd F) → Type 0
   RunStops o left pieces pieces' why = runs.StopsSo (Does makes) Stops StandsNow (Any start) o left before now pieces pieces' why
 
-  -- and its name stays
-  abbrev GivesAll : Type 0
-  GivesAll = Gives makes v w (λ n. is_open n own) (λ n. is_open n sessions) before now × (name' ≡ name)
+  -- to these lines
+  abbrev GivesLines : List (Option (List ℕ)) → Type 0
+  GivesLines lines = Gives makes lines v w (λ n. is_open n own) (λ n. is_open n sessions) before now
 
-  ran : (all : List Given) (text : List ℕ) (stand : Stand S) → Carries (Does makes) (Any start) all text stand → StandsNow stand
-      → now ≡ sent_after text before → GivesAll
-  ran all text stand carries stands sent =
-      let t = given makes all start text stand carries in
-      let h : IsNamed t.new name' w sessions = subst StandsNow t.is stands in
-      let K : S → Type 0 = λ k. Gives makes v k (λ n. is_open n own) (λ n. is_open n sessions) before now in
-      let O : List Session → Type 0 = λ o. Gives makes v t.new.kept (λ n. is_open n own) (λ n. is_open n o) before now in
-      (subst K h.kept_is (subst O h.sessions_are (t.gives before now sent)), sym h.name_is ∙ t.same_reference)
+  gives_to : (all : List Given) (text : List ℕ) (stand : Stand S) (t : GivesTo makes start all text stand) → StandsNow stand
+      → now ≡ sent_after text before → GivesLines t.gives.front × (name' ≡ name)
+  gives_to all text stand t stands sent =
+      let h : IsNamed t.new name' w edits sessions = subst StandsNow t.is stands in
+      let K : S → Type 0 = λ k. Gives makes t.gives.front v k (λ n. is_open n own) (λ n. is_open n sessions) before now in
+      let O : List Session → Type 0 = λ o. Gives makes t.gives.front v t.new.kept (λ n. is_open n own) (λ n. is_open n o) before now in
+      (subst K h.kept_is (subst O h.sessions_are (t.gives.gives before now sent)), sym h.name_is ∙ t.gives.same_reference)
+
+  -- those of the input, where all was done
+  lines_told : (pieces pieces' : ℕ) (o : Option (List ℕ)) (all : runs.Runs (Does makes) (Any start) (runs.AreAll pieces pieces') StandsNow o before now)
+      → (lines : List (Option (List ℕ))) × GivesLines lines × (name' ≡ name) × IfSome o (λ input. lines ≡ told input)
+  lines_told pieces pieces' None all =
+      let t = given makes all.done.given start all.done.text all.done.behind all.done.carries in
+      let g = gives_to all.done.given all.done.text all.done.behind t all.stands all.sent in
+      (t.gives.front, g.0, g.1, tt)
+  lines_told pieces pieces' (Some input) all =
+      let t = ended makes all.are.earlier all.done.given start all.done.text all.done.behind all.are.paused all.are.given_are all.done.carries in
+      let g = gives_to all.done.given all.done.text all.done.behind t.0 all.stands all.sent in
+      let are : lines_all all.done.given ≡ told input =
+      ap lines_all all.are.given_are ∙ all_ended all.are.earlier ∙ told_are all.are.earlier input all.are.lines_are in
+      (t.0.gives.front, g.0, g.1, sym (append-nil t.0.gives.front) ∙ ap (λ (l : List (Option (List ℕ))). t.0.gives.front ++ l) (sym t.1) ∙ sym t.0.gives.split ∙ are)
 
   pub gives_so : {T : Type 0} (o left : Option (List ℕ)) (pieces pieces' : ℕ) (r : Result T (LinesStop (AnswerEnd F)))
       → OnOk r (runs.Runs (Does makes) (Any start) (runs.AreAll pieces pieces') StandsNow o before now)
       → IfErr r (RunStops o left pieces pieces')
-      → GivesBy makes v w own sessions before now (answer_of r) × (name' ≡ name)
-  gives_so o left pieces pieces' (Ok done) all why = ran all.done.given all.done.text all.done.behind all.done.carries all.stands all.sent
+      → GivesTold makes o v w own sessions before now (answer_of r) × (name' ≡ name)
+  gives_so o left pieces pieces' (Ok done) all why =
+      let is = lines_told pieces pieces' o all in
+      (record { lines = is.0; gives = is.1; are_told = is.3 }, is.2)
   gives_so o left pieces pieces' (Err (stop.Fault fault.ReadFault)) all why =
-      let g = ran why.done.given why.done.text why.done.behind why.done.carries why.stands why.sent in
-      (first_fault makes v w (λ n. is_open n own) (λ n. is_open n sessions) before now fault.ReadFault g.0, g.1)
+      let t = given makes why.done.given start why.done.text why.done.behind why.done.carries in
+      let g = gives_to why.done.given why.done.text why.done.behind t why.stands why.sent in
+      (record { lines = []; gives = first_fault makes t.gives.front v w (λ n. is_open n own) (λ n. is_open n sessions) before now fault.ReadFault g.0; are_told = tt }, g.1)
   gives_so o left pieces pieces' (Err (stop.Fault fault.InputTooLong)) all why =
-      let g = ran why.done.given why.done.text why.done.behind why.done.carries why.stands why.sent in
-      (first_fault makes v w (λ n. is_open n own) (λ n. is_open n sessions) before now fault.InputTooLong g.0, g.1)
+      let t = given makes why.done.given start why.done.text why.done.behind why.done.carries in
+      let g = gives_to why.done.given why.done.text why.done.behind t why.stands why.sent in
+      (record { lines = []; gives = first_fault makes t.gives.front v w (λ n. is_open n own) (λ n. is_open n sessions) before now fault.InputTooLong g.0; are_told = tt }, g.1)
   gives_so o left pieces pieces' (Err (stop.Work end)) all why =
       let d = why.done in
       let t = given makes d.given start d.text d.behind d.carries in
       let mid = sent_after d.text before in
       let P : Stand S → Type 0 = λ s. Stops s why.next end mid in
       let s : StopsAt makes t.new name' w mid now end = subst P t.is why.why in (
-        first_behind makes v t.new.kept w (λ n. is_open n own) (λ n. is_open n t.new.sessions) before mid now end (t.gives before mid
-            refl) s.gives,
-        s.same_reference ∙ t.same_reference,
+        record {
+          lines = [];
+          gives = first_behind makes t.gives.front v t.new.kept w (λ n. is_open n own) (λ n. is_open n t.new.sessions) before mid now end (t.gives.gives before mid
+              refl) s.gives;
+          are_told = tt;
+        },
+        s.same_reference ∙ t.gives.same_reference,
       )
 
 -- ---- what is known of open sessions
@@ -174,8 +260,8 @@ module _ {S F : Type 0} (makes : Makes S F) (knows : S → ℕ → Bool) (follow
       (subst IsTrue (g.given.open_now n) is)) g.stops
 
   -- a frame whose bytes weren't made names known sessions
-  pub known_by : {T : Type 0} (v w : S) (own sessions : List Session) (before now : Option (List ℕ)) (r : Result T (AnswerEnd F))
+  pub known_by : {T : Type 0} (lines : List (Option (List ℕ))) (v w : S) (own sessions : List Session) (before now : Option (List ℕ)) (r : Result T (AnswerEnd F))
       → KnowsOpen knows v own
-      → GivesBy makes v w own sessions before now r → IfErr r (EndsKnown makes knows)
-  known_by v w own sessions before now (Ok done) known gives = tt
-  known_by v w own sessions before now (Err end) known gives = first_known v w own before now end known gives
+      → GivesBy makes lines v w own sessions before now r → IfErr r (EndsKnown makes knows)
+  known_by lines v w own sessions before now (Ok done) known gives = tt
+  known_by lines v w own sessions before now (Err end) known gives = first_known v w own before now end known gives

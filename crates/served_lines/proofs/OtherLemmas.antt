@@ -1,6 +1,7 @@
 -- A group is done, and then a line that is no edit.
-use Rattle.std.proofs.Common.{◌≡◌, ◌∙◌, ℕ, ◌+◌, ◌≤◌, List, [], ◌++◌, length, Option, None, Some, Result, IfErr, IfSome, refl, ap, sym, subst, arith}
+use Rattle.std.proofs.Common.{◌≡◌, ◌∙◌, ℕ, ◌+◌, ◌≤◌, List, [], ◌∷◌, ◌++◌, length, Option, None, Some, Result, IfErr, IfSome, refl, ap, sym, subst, arith}
 use Rattle.std.specs.Prelude.{OnOk}
+use Rattle.std.proofs.lemmas.List.{append-nil}
 use Rattle.std.specs.Borrow.{GName}
 use Rattle.block_disk.specs.SentLaws.{sent_is, sent_more}
 use Rattle.block_disk.specs.Streams.{sent_after}
@@ -14,6 +15,7 @@ use Rattle.series_book.specs.declared.one_series.Series.{Series}
 use Rattle.stored_book.specs.Standing.{StandsForBook}
 use Rattle.zoom_session.specs.declared.session.Session.{Session}
 use Rattle.zoom_session.specs.Sessions.{is_open}
+use Rattle.chart_service.specs.EditGroups.{SpelledBy, SpellEdits}
 use Rattle.chart_service.specs.Making.{Makes, LinesDone, LinesMoments, LinesStop}
 use Rattle.chart_service.specs.Moments.{Through}
 use Rattle.chart_service.specs.Naming.{Gives, GivesBy, GivesFirst}
@@ -55,16 +57,16 @@ module _ {S F : Type 0} (makes : Makes S F) (name : GName) (kept : S) (edits : L
 
     -- at a pause all are done
     pub pause_does : {T : Type 0} (r : Result T (AnswerEnd F)) (stand : Stand S) → StandsSo stand name kept edits told at own before
-        → GivesBy makes kept kept' own sessions before now r
+        → SpellEdits [] none → SpelledBy edits (λ lines. GivesBy makes lines kept kept' own sessions before now r)
         → ((held : Held S) → IsHeld held kept edits told at own before
         → OnOk r (SettlesTo makes held (λ h. IsHeld h kept' none told' mid sessions now) before now))
         → OnOk r (DoesOne (Does makes) (λ s. StandsSo s name' kept' none told' mid sessions now) stand Pause before now)
-    pause_does r (Any named) is gives settles =
-        ok_so r (Gives makes kept kept' (λ n. is_open n own) (λ n. is_open n sessions) before now)
+    pause_does r (Any named) is none_left gives settles =
+        ok_so r (Gives makes named.ahead kept kept' (λ n. is_open n own) (λ n. is_open n sessions) before now)
         (DoesOne (Does makes) (λ s. StandsSo s name' kept' none told' mid sessions now) (Any named) Pause before now)
-        (λ given. gives_does makes named name name' kept kept' own sessions before now is same_name Pause none told' mid given)
-        (gives_ok makes kept kept' own sessions before now r gives)
-    pause_does r (Over held) is gives settles =
+        (λ given. gives_does makes named name name' kept kept' own sessions before now edits is same_name Pause none told' mid named.ahead [] refl none_left refl given)
+        (gives_ok makes named.ahead kept kept' own sessions before now r (gives named.ahead is.spells))
+    pause_does r (Over held) is none_left gives settles =
         ok_so r (SettlesTo makes held (λ h. IsHeld h kept' none told' mid sessions now) before now)
         (DoesOne (Does makes) (λ s. StandsSo s name' kept' none told' mid sessions now) (Over held) Pause before now)
         (λ s. record {
@@ -79,15 +81,15 @@ module _ {S F : Type 0} (makes : Makes S F) (name : GName) (kept : S) (edits : L
     -- they weren't all answered
     pub group_stops : {T : Type 0} (r : Result T (AnswerEnd F)) (stand : Stand S) (it : Given) (others : ℕ)
         → length (lines_of it) ≡ others + length (edits_of (lines_of it)) → 1 ≤ others + pauses_of it → length edits ≤ most_ahead
-        → StandsSo stand name kept edits told at own before → GivesBy makes kept kept' own sessions before now r
+        → StandsSo stand name kept edits told at own before → SpelledBy edits (λ lines. GivesBy makes lines kept kept' own sessions before now r)
         → ((held : Held S) → IsHeld held kept edits told at own before
         → IfErr r (Unsettled makes held kept' edits mid.image sessions now mid.reads mid.syncs))
         → IfErr r (λ end. StopsBy makes stand it name' kept' mid.image sessions before now mid.reads mid.syncs end)
     group_stops r (Any named) it others counted paid few is gives unsettled =
         error_so r (GivesFirst makes kept kept' (λ n. is_open n own) before now)
         (λ end. StopsBy makes (Any named) it name' kept' mid.image sessions before now mid.reads mid.syncs end)
-        (λ end given. gives_stops makes named name name' kept kept' own sessions before now is same_name end given)
-        (gives_err makes kept kept' own sessions before now r gives)
+        (λ end given. gives_stops makes named name name' kept kept' own sessions before now edits is same_name end given)
+        (gives_err makes named.ahead kept kept' own sessions before now r (gives named.ahead is.spells))
     group_stops r (Over held) it others counted paid few is gives unsettled =
         error_so r (Unsettled makes held kept' edits mid.image sessions now mid.reads mid.syncs)
         (λ end. StopsBy makes (Over held) it name' kept' mid.image sessions before now mid.reads mid.syncs end)
@@ -116,7 +118,7 @@ module _ {S F : Type 0} (makes : Makes S F) (name : GName) (kept : S) (edits : L
 
     -- ---- and a line behind it
 
-    module _ (gives_mid : Gives makes kept kept' (λ n. is_open n own) (λ n. is_open n sessions) before now)
+    module _ (none_left : SpellEdits [] none) (gives_mid : SpelledBy edits (λ lines. Gives makes lines kept kept' (λ n. is_open n own) (λ n. is_open n sessions) before now))
         (settles : (held : Held S) → IsHeld held kept edits told at own before
         → SettlesTo makes held (λ h. IsHeld h kept' none told' mid sessions now) before now)
         (line : Option (List ℕ)) (said : IsSaid line) (idle : edit_of line ≡ [])
@@ -128,7 +130,7 @@ module _ {S F : Type 0} (makes : Makes S F) (name : GName) (kept : S) (edits : L
 
       pub line_does : {T : Type 0} (r : Result T (AnswerEnd F)) (stand : Stand S) (position : ℕ)
           → StandsSo stand name kept edits told at own before
-          → GivesBy makes kept' kept'' sessions sessions' now later r
+          → GivesBy makes (unless_empty line) kept' kept'' sessions sessions' now later r
           → ((total : ℕ) (book : List Series) → told' → StandsForBook mid.image total book
           → OnOk r (StandsAfter total new.image sessions' (λ s. LinesDone makes (unless_empty line) kept' kept'' (state_of book total
           sessions) s now later)))
@@ -136,14 +138,14 @@ module _ {S F : Type 0} (makes : Makes S F) (name : GName) (kept : S) (edits : L
           → OnOk r (DoesOne (Does makes) (λ s. StandsSo s name'' kept'' none told'' new sessions' later) stand (Line position line) before
           later)
       line_does r (Any named) position is gives done more same reads synced =
-          ok_so r (Gives makes kept' kept'' (λ n. is_open n sessions) (λ n. is_open n sessions') now later)
+          ok_so r (Gives makes (unless_empty line) kept' kept'' (λ n. is_open n sessions) (λ n. is_open n sessions') now later)
           (DoesOne (Does makes) (λ s. StandsSo s name'' kept'' none told'' new sessions' later) (Any named) (Line position line) before
           later)
-          (λ given. gives_does makes named name name'' kept kept'' own sessions' before later is (same_later
-          ∙ same_name) (Line position line) none told'' new
-          (gives_joined makes kept kept' kept'' (λ n. is_open n own) (λ n. is_open n sessions) (λ n. is_open n sessions') before now later
-          gives_mid given))
-          (gives_ok makes kept' kept'' sessions sessions' now later r gives)
+          (λ given. gives_does makes named name name'' kept kept'' own sessions' before later edits is (same_later
+          ∙ same_name) (Line position line) none told'' new (named.ahead ++ unless_empty line) [] (sym (append-nil (named.ahead ++ unless_empty line))) none_left tt
+          (gives_joined makes named.ahead (unless_empty line) kept kept' kept'' (λ n. is_open n own) (λ n. is_open n sessions) (λ n. is_open n sessions') before now later
+          (gives_mid named.ahead is.spells) given))
+          (gives_ok makes (unless_empty line) kept' kept'' sessions sessions' now later r gives)
       line_does r (Over held) position is gives done more same reads synced =
           let s = settles held is in
           let state = s.new.state in
@@ -167,7 +169,7 @@ module _ {S F : Type 0} (makes : Makes S F) (name : GName) (kept : S) (edits : L
 
       pub line_stops : {T : Type 0} (r : Result T (AnswerEnd F)) (stand : Stand S) (position : ℕ)
           → StandsSo stand name kept edits told at own before
-          → GivesBy makes kept' kept'' sessions sessions' now later r
+          → GivesBy makes (unless_empty line) kept' kept'' sessions sessions' now later r
           → ((total : ℕ) (book : List Series) → told' → StandsForBook mid.image total book
           → IfErr r (LinesStop makes (unless_empty line) kept' kept'' (state_of book total sessions) new.image sessions' now later))
           → ReadsSo → new.syncs ≡ mid.syncs
@@ -175,9 +177,9 @@ module _ {S F : Type 0} (makes : Makes S F) (name : GName) (kept : S) (edits : L
       line_stops r (Any named) position is gives stops reads synced =
           error_so r (GivesFirst makes kept' kept'' (λ n. is_open n sessions) now later)
           (λ end. StopsBy makes (Any named) (Line position line) name'' kept'' new.image sessions' before later new.reads new.syncs end)
-          (λ end given. gives_stops makes named name name'' kept kept'' own sessions' before later is (same_later ∙ same_name) end
-          (first_behind makes kept kept' kept'' (λ n. is_open n own) (λ n. is_open n sessions) before now later end gives_mid given))
-          (gives_err makes kept' kept'' sessions sessions' now later r gives)
+          (λ end given. gives_stops makes named name name'' kept kept'' own sessions' before later edits is (same_later ∙ same_name) end
+          (first_behind makes named.ahead kept kept' kept'' (λ n. is_open n own) (λ n. is_open n sessions) before now later end (gives_mid named.ahead is.spells) given))
+          (gives_err makes (unless_empty line) kept' kept'' sessions sessions' now later r gives)
       line_stops r (Over held) position is gives stops reads synced =
           let s = settles held is in
           let state = s.new.state in

@@ -28,11 +28,13 @@ pub record IsHeld {S : Type 0} (held : Held S) (kept : S) (edits : List Edit) (t
   pub reads_are : held.reads ≡ at.reads
   pub syncs_are : held.syncs ≡ at.syncs
 
-pub record IsNamed {S : Type 0} (named : Named S) (name : GName) (kept : S) (sessions : List Session) : Type 0 where
+-- and the lines kept back spell the edits that are, whatever the pages are
+pub record IsNamed {S : Type 0} (named : Named S) (name : GName) (kept : S) (edits : List Edit) (sessions : List Session) : Type 0 where
   pub name_is : named.name ≡ name
   pub kept_is : named.kept ≡ kept
+  pub spells : SpellEdits named.ahead edits
   pub sessions_are : named.sessions ≡ sessions
 
 abbrev pub StandsSo : {S : Type 0} → Stand S → GName → S → List Edit → Type 0 → View → List Session → Option (List ℕ) → Type 0
-StandsSo (Any named) name kept edits told at sessions sent = IsNamed named name kept sessions
+StandsSo (Any named) name kept edits told at sessions sent = IsNamed named name kept edits sessions
 StandsSo (Over held) name kept edits told at sessions sent = IsHeld held kept edits told at sessions sent

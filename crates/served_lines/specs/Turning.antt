@@ -30,10 +30,12 @@ pub record Held (S : Type 0) : Type 0 where
   pub reads : ℕ
   pub syncs : ℕ
 
--- what is known whatever the pages are: what replies keep behind the reference of this name, and the open sessions
+-- what is known whatever the pages are: what replies keep behind the reference of this name, the lines that are kept back, and
+-- the open sessions
 pub record Named (S : Type 0) : Type 0 where
   pub name : GName
   pub kept : S
+  pub ahead : List (Option (List ℕ))
   pub sessions : List Session
 
 pub data Stand (S : Type 0) : Type 0 where
@@ -88,14 +90,21 @@ KeepsNone (Line at line) ahead = ⊤
 KeepsNone Pause ahead = ahead ≡ []
 KeepsNone End ahead = ⊤
 
--- frames were given one after the other, in this text
-abbrev pub GivesText : {S F : Type 0} → Makes S F → Named S → Named S → List ℕ → Type 0
-GivesText makes old new text =
+-- frames were given to these lines one after the other, in this text
+abbrev pub GivesText : {S F : Type 0} → Makes S F → Named S → Named S → List (Option (List ℕ)) → List ℕ → Type 0
+GivesText makes old new front text =
     (before now : Option (List ℕ)) → now ≡ sent_after text before
-    → Gives makes old.kept new.kept (λ n. is_open n old.sessions) (λ n. is_open n new.sessions) before now
+    → Gives makes front old.kept new.kept (λ n. is_open n old.sessions) (λ n. is_open n new.sessions) before now
+
+-- of the lines kept back and these behind them some first were given frames, and the others are kept back
+pub record GivesSome {S F : Type 0} (makes : Makes S F) (old new : Named S) (lines : List (Option (List ℕ))) (text : List ℕ) : Type 0 where
+  pub same_reference : new.name ≡ old.name
+  pub front : List (Option (List ℕ))
+  pub split : old.ahead ++ lines ≡ front ++ new.ahead
+  pub gives : GivesText makes old new front text
 
 abbrev pub Does : {S F : Type 0} → Makes S F → Stand S → Given → List ℕ → Stand S → Type 0
-Does makes (Any old) it text (Any new) = (new.name ≡ old.name) × GivesText makes old new text
+Does makes (Any old) it text (Any new) = GivesSome makes old new (lines_of it) text × KeepsNone it new.ahead
 Does makes (Any old) it text (Over new) = ⊥
 Does makes (Over old) it text (Any new) = ⊥
 Does makes (Over old) it text (Over new) = Turn makes old new (lines_of it) (pauses_of it) text × KeepsNone it new.ahead

@@ -28,7 +28,7 @@ pub stands_kept : {S : Type 0} (stand : Stand S) (name : GName) (kept : S) (edit
     (own sessions : List Session) (before now : Option (List ℕ)) → (told → told') → DiskKept old new → sessions ≡ own → now ≡ before
     → StandsSo stand name kept edits told old own before → StandsSo stand name kept edits told' new sessions now
 stands_kept (Any named) name kept edits told told' old new own sessions before now more disk same unsent is =
-    record { name_is = is.name_is; kept_is = is.kept_is; sessions_are = is.sessions_are ∙ sym same }
+    record { name_is = is.name_is; kept_is = is.kept_is; spells = is.spells; sessions_are = is.sessions_are ∙ sym same }
 stands_kept (Over held) name kept edits told told' old new own sessions before now more disk same unsent is =
     let P : Image → Type 0 = λ i. StandsForBook i held.state.total held.state.book in
     record {

@@ -8,7 +8,7 @@ ghost use Rattle.chart_world.specs.Reading.{IsReadUp};
 ghost use Rattle.gate_pages.specs.Pages.{GoesOn};
 ghost use Rattle.chart_service.specs.Answering.{SendsWhole, ServeEndsBy, LastsBy, ReadsByLines, SyncsByLines};
 ghost use Rattle.chart_service.specs.Faulting.{serve_fault};
-ghost use Rattle.chart_service.specs.Naming.{SendsNamed};
+ghost use Rattle.chart_service.specs.Naming.{SendsAnswers, SendsNamed};
 ghost use Rattle.chart_service.specs.Serving.{AreSpelled, EndsAtBad, Serves};
 ghost use Rattle.chart_service.specs.Shown as shown;
 ghost use Rattle.chart_service.specs.Spelled.{serve_end};
@@ -51,6 +51,8 @@ pub fn serve<P: PageWorld>(alloc: Global, service: &mut Service<P>) -> Result<()
     ensures syncs { shown.ForBook service.old (λ total book. SyncsByLines P.left P.pieces total book service.old service.new) }
     // whatever the pages are
     // each frame that closes a session or answers in it names one that is open by those before it
+    // and after `Ok` each may answer its line, one a line
+    ensures answers { OnOk result (IfSome (P.left (shown.pages service.old)) (λ input. SendsAnswers service.old.sessions input (P.sent (shown.pages service.old)) (P.sent (shown.pages service.new)))) }
     ensures named { SendsNamed service.old.sessions (P.sent (shown.pages service.old)) (P.sent (shown.pages service.new)) }
     ensures whole { OnOk result (IsReadUp (P.left (shown.pages service.old)) (P.left (shown.pages service.new))) }
     ensures long { result ≡ Err ServeEnd.InputTooLong → IfSome (P.left (shown.pages service.old)) (λ input. 2 ^ 32 < length input) }

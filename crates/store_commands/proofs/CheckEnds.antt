@@ -7,6 +7,7 @@ use Rattle.gate_pages.specs.Pages.{GoesOn}
 use Rattle.series_store.specs.Counting.{AreSound}
 use Rattle.chart_service.proofs.DiskKept.{risen_since}
 use Rattle.store_commands.specs.Damaged.{IsDamagedLater}
+use Rattle.disk_store.proofs.Opened.{few_then}
 use Rattle.disk_store.specs.Openings.{Opens}
 use Rattle.disk_store.specs.declared.causes.OpeningCause.{OpeningCause}
 use Rattle.disk_store.specs.declared.causes.OpeningCause.TheVariants as opening
@@ -35,6 +36,8 @@ unchecked old new left left' before now sends sends_now cause end u same = recor
       subst P (sym same) (by cause (unopened_end old new left left' before now cause u));
   crash = opened_since old new u.opens;
   holds = held old new u.opens;
+  reads = λ total book holds. omega (arith, u.opens.reads.high);
+  few = u.opens.few;
   honest = u.opens.honest;
   goes_on = opened_goes old new u.opens;
 }
@@ -101,6 +104,8 @@ ends_opened count old mid new before mid_before now sends mid_sends sends_now en
       is = checked old mid new mid_before now mid_sends sends_now opens pages_are quiet end e.is;
       crash = since_both old mid new mid_before now mid_sends sends_now opens pages_are e.crash e.goes_on;
       holds = λ total book is. e.holds total book (held old mid opens total book is);
+      reads = λ total book is. omega (arith, opens.reads.high, e.reads total book (held old mid opens total book is));
+      few = few_then (page_count old.size) old mid new opens.few e.unwritten.0 e.unwritten.1;
       honest = λ h. e.honest (opens.honest h);
       goes_on = goes_then old mid new (opened_goes old mid opens) e.goes_on;
     } in

@@ -1,5 +1,5 @@
 -- A store is read, and what a check found is sent: the disk holds its book on.
-use Rattle.std.proofs.Common.{arith, ◌≡◌, ℕ, ◌≤◌, Bool, List, Option, refl, sym, subst, inl, inr}
+use Rattle.std.proofs.Common.{arith, ◌≡◌, ◌∙◌, ℕ, ◌+◌, ◌≤◌, Bool, List, Option, refl, sym, subst, inl, inr}
 use Rattle.block_disk.specs.View.{Image, View, Now, Honest, Passes, sent_now}
 use Rattle.block_disk.proofs.Passing.{passes_weaker}
 use Rattle.gate_pages.specs.GateLaws.{gate_rests, goes_by, goes_then, kept_told}
@@ -82,15 +82,17 @@ not_counted count count' sound sound' old new s before now sends sends_now (of_s
 not_counted count count' sound sound' old new s before now sends sends_now of_store.NoMemory same keeps few low is outside = same
 
 -- A store was read, and then its disk is at rest.
-module _ (count count' : ℕ) (sound sound' : Bool) (old mid : View) (kept : KeptWalking (Honest old) (Honest mid) (pages_view count sound old) (pages_view count' sound' mid)) (goes : GoesOn old mid) (rests : RestsNew count old) (closed : IsClosed mid) where
+module _ (count count' : ℕ) (sound sound' : Bool) (old mid : View) (kept : KeptWalking (Honest old) (Honest mid) (pages_view count sound old) (pages_view count' sound' mid)) (goes : GoesOn old mid) (rests : RestsNew count old) (closed : IsClosed mid) (few : OfBook count old (λ total book. mid.reads ≤ old.reads + total)) where
   pub checks_not : (s : Superblock) (before now : Option (List ℕ)) (sends sends_now : ℕ) (error : StoreError) (end : End) → end ≡ check_end error → now ≡ before → (Honest old → Keeps count s (pages_of count old.image 0)) → s.total ≤ count → NamesWithin s.total error
       → IsCheckCause error (Honest old) s (pages_view count sound old) (pages_view count' sound' mid) → OfBook count old (λ total book. IsOutside error) → ChecksStore count old mid before now sends sends_now end
-  checks_not s before now sends sends_now error end end_is same keeps few low cause outside = record {
+  checks_not s before now sends sends_now error end end_is same keeps small low cause outside = record {
     is =
         let P : End → Type 0 = λ e. EndsCheck e count old mid before now sends sends_now in
-        subst P (sym end_is) (not_counted count count' sound sound' old mid s before now sends sends_now error same keeps few low cause outside);
+        subst P (sym end_is) (not_counted count count' sound sound' old mid s before now sends sends_now error same keeps small low cause outside);
     crash = looked_since count count' sound sound' old mid kept goes rests;
     holds = looked_holds count count' sound sound' old mid kept goes rests closed;
+    reads = few;
+    unwritten = (kept.syncs, kept.writes);
     honest = kept.told;
     goes_on = goes;
   }
@@ -108,6 +110,8 @@ module _ (count count' : ℕ) (sound sound' : Bool) (old mid : View) (kept : Kep
         (looked_since count count' sound sound' old mid kept goes rests total book holds);
     holds = λ total book holds.
         holds_sent count total book mid new (λ bytes. (sent_now mid ≤ bytes) × (bytes ≤ sent_now new)) sent.kept sent.time (looked_holds count count' sound sound' old mid kept goes rests closed total book holds);
+    reads = λ total book holds. omega (arith, few total book holds, sent.kept.reads);
+    unwritten = (sent.kept.syncs ∙ kept.syncs, sent.kept.writes ∙ kept.writes);
     honest = λ h. kept_told mid new sent.kept (kept.told h);
     goes_on = goes_then old mid new goes (goes_by mid new (Now mid) (λ bytes. (sent_now mid ≤ bytes) × (bytes ≤ sent_now new)) sent.time);
   }

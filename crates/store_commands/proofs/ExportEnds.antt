@@ -26,6 +26,7 @@ use Rattle.series_store.specs.Sending.{Sends, HasUnfitPage, IsSeriesCause, IsNoD
 use Rattle.series_store.specs.declared.send_errors.SendError.{SendError}
 use Rattle.series_store.specs.declared.send_errors.SendError.TheVariants.{SendFault, DiskFault, Damaged, NoMemory}
 use Rattle.disk_store.specs.Held.{HoldsBook}
+use Rattle.disk_store.proofs.Opened.{few_then}
 use Rattle.disk_store.specs.Openings.{Opens}
 use Rattle.disk_store.specs.declared.causes.OpeningCause.{OpeningCause}
 use Rattle.disk_store.specs.declared.causes.OpeningCause.TheVariants as opening
@@ -41,6 +42,7 @@ use Rattle.store_commands.specs.Books.{Never, LeavesSame, SendsPartOf}
 use Rattle.store_commands.specs.Damaged.{IsDamagedLater}
 use Rattle.store_commands.specs.Exported.{ExportEnds, ExportsPart, IsBadForExport, IsExportEnd}
 use Rattle.store_commands.specs.Exporting.{EndsExport, ExportsStore, export_end}
+use Rattle.store_commands.specs.Lacking.{HasNoRecord, LacksRecord}
 use Rattle.store_commands.specs.Loaded.{OfSeries}
 use Rattle.store_commands.specs.Status.{opening_end}
 use Rattle.store_commands.specs.Unopened.{IsUnopenedEnd}
@@ -49,7 +51,7 @@ use Rattle.store_commands.proofs.Moments.{opened_goes, opened_since, since_on, o
 use Rattle.store_commands.proofs.CheckEnds.{since_both}
 use Rattle.store_commands.proofs.CheckLooks.{left_stands}
 use Rattle.store_commands.proofs.LoadStored.{named_or}
-use Rattle.store_commands.proofs.Unopened.{outside_ends, unopened_end}
+use Rattle.store_commands.proofs.Unopened.{opening_known, outside_ends, unopened_end}
 use Rattle.store_commands.proofs.WorldLemmas.{IsUnopened}
 
 -- ---- no store was opened
@@ -67,9 +69,11 @@ unexported name window old new left left' before now sends sends_now cause end u
       is = by cause (unopened_end old new left left' before now cause u);
       part = λ total book holds series named. none_sent (export_text series window) before now u.sent_is;
       unnamed = λ total book holds none. outside_ends cause (u.outside total book holds);
+      lacks = λ is. absurd (opening_known cause is);
       crash = opened_since old new u.opens;
       holds = held old new u.opens;
       reads = λ total book holds series named. omega (arith, u.opens.reads.high);
+      few = u.opens.few;
       honest = u.opens.honest;
       goes_on = opened_goes old new u.opens;
     })
@@ -131,30 +135,39 @@ module _ (name : List ℕ) (window : Option Window) (count count' : ℕ) (sound 
       all total book series holds.honest stands (subst P (one_id (id_of name book) named.id id named.id_is (found total book holds.honest stands)) named.there)
 
   -- the rest is so however it ended
-  ended : (before now : Option (List ℕ)) (sends sends_now : ℕ) (end : End) → EndsExport end name window count old new before now sends sends_now → ExportsPart name window count old before now
+  ended : (before now : Option (List ℕ)) (sends sends_now : ℕ) (end : End) → (end ≡ ends.UnknownSeries → ⊥) → EndsExport end name window count old new before now sends sends_now → ExportsPart name window count old before now
       → OfId (λ book series. new.reads ≤ old.reads + series_pages series.slots) → ExportsStore name window count old new before now sends sends_now end
-  ended before now sends sends_now end is part reads = record {
+  ended before now sends sends_now end known is part reads = record {
     is = is;
     part = part;
     unnamed = λ total book holds none. absurd (both (id_of name book) id (found total book holds.honest (stands_held count total book old rests holds)) none);
+    lacks = λ is. absurd (known is);
     crash = sent_since;
     holds = λ total book holds. holds_same count count' total book old new rests kept.size kept.told kept.image closed holds;
     reads = of_id (λ book series. new.reads ≤ old.reads + series_pages series.slots) reads;
+    unwritten = (kept.syncs, kept.writes);
     honest = kept.told;
     goes_on = kept.goes_on;
   }
 
-  pub series_sent : (before now : Option (List ℕ)) (sends sends_now : ℕ) (answer : Result (Unit {0}) SendError) → old.beside.send_faults ≡ sends → new.beside.send_faults ≡ sends_now → id < s.series → s.total ≤ count → (Honest old → Keeps count s (pages_of count old.image 0))
+  -- a series that is sent is known
+  sent_known : (e : SendError) → export_end (Err e) ≡ ends.UnknownSeries → ⊥
+  sent_known SendFault is = cc
+  sent_known DiskFault is = cc
+  sent_known (Damaged page) is = cc
+  sent_known NoMemory is = cc
+
+  pub series_sent : (before now : Option (List ℕ)) (sends sends_now : ℕ) (answer : Result (Unit {0}) SendError) → old.beside.send_faults ≡ sends → new.beside.send_faults ≡ sends_now → id < s.series → s.total ≤ count → (Honest old → Keeps count s (pages_of count old.image 0)) → (Honest old → (entry (pages_of count old.image) id).name ≡ name)
       → OfId (λ book series. OnOk answer (now ≡ sent_after (export_text series window) before)) → OfId (λ book series. OnErr answer (PartSent (export_text series window) before now))
       → OfId (λ book series. IfErr answer IsNoDamage) → IfErr answer (λ e. IsSeriesCause e (Honest old) s id (pages_view count sound old) (pages_view count' sound' new))
       → OfId (λ book series. new.reads ≤ old.reads + series_pages series.slots) → ExportsStore name window count old new before now sends sends_now (export_end answer)
-  series_sent before now sends sends_now (Ok done) was is_now within few spelled sent part no_damage cause reads =
+  series_sent before now sends sends_now (Ok done) was is_now within few spelled named sent part no_damage cause reads =
       let all = of_id (λ book series. now ≡ sent_after (export_text series window) before) sent in
-      ended before now sends sends_now ends.Done all (λ total book holds series named. all_sent (export_text series window) before now (all total book holds series named)) reads
-  series_sent before now sends sends_now (Err e) was is_now within few spelled sent part no_damage cause reads =
+      ended before now sends sends_now ends.Done (λ is. cc) all (λ total book holds series named. all_sent (export_text series window) before now (all total book holds series named)) reads
+  series_sent before now sends sends_now (Err e) was is_now within few spelled named sent part no_damage cause reads =
       let front : ExportsPart name window count old before now = λ total book holds series named.
       part_sent (export_text series window) before now (of_id (λ book series. PartSent (export_text series window) before now) part total book holds series named) in
-      ended before now sends sends_now (export_end (Err e)) (by_error e no_damage cause) front reads
+      ended before now sends sends_now (export_end (Err e)) (sent_known e) (by_error e no_damage cause) front reads
     where
       by_error : (e : SendError) → OfId (λ book series. IsNoDamage e) → IsSeriesCause e (Honest old) s id (pages_view count sound old) (pages_view count' sound' new) → EndsExport (export_end (Err e)) name window count old new before now sends sends_now
       by_error SendFault no_damage cause =
@@ -164,14 +177,14 @@ module _ (name : List ℕ) (window : Option Window) (count count' : ℕ) (sound 
       by_error DiskFault no_damage cause = cause
       by_error (Damaged page) no_damage cause =
           let image = pages_of count old.image in
-          let bad : IsDamagedLater IsBadForExport count old (block_of page) = record {
+          let bad : IsDamagedLater (IsBadForExport name) count old (block_of page) = record {
             page = page;
             place_is = refl;
             within = omega (arith, cause.0, few);
             bad = λ honest.
-                let B : Image → Type 0 = λ i. IsBadForExport count i page in
+                let B : Image → Type 0 = λ i. IsBadForExport name count i page in
                 let tree : HasBadTree image s page = record { id = id; within = within; bad = unfit_bad image s.total (entry image id).slots (page_levels (entry image id).slots) 0 (entry image id).root (entry image id).span page (cause.1 honest) } in
-                subst B (sym (rests.current honest)) (record { numbers = s; keeps = spelled honest; so = (cause.0, tree) });
+                subst B (sym (rests.current honest)) (record { numbers = s; keeps = spelled honest; so = (cause.0, record { bad = tree; named = named honest }) });
           } in
           let never : Never count old = λ total book holds. elim (named_or name book) [
             | inl none ↦ both (id_of name book) id (found total book holds.honest (stands_held count total book old rests holds)) none
@@ -181,16 +194,18 @@ module _ (name : List ℕ) (window : Option Window) (count count' : ℕ) (sound 
       by_error NoMemory no_damage cause = tt
 
 -- no series has the name
-pub none_found : (name : List ℕ) (window : Option Window) (count : ℕ) (old : View) (before : Option (List ℕ)) (sends : ℕ) → RestsNew count old → ((total : ℕ) (book : List Series) → Honest old → StandsForBook (pages_of count old.image) total book → id_of name book ≡ None) → ExportsStore name window count old old before before sends sends ends.UnknownSeries
-none_found name window count old before sends rests none =
+pub none_found : (name : List ℕ) (window : Option Window) (count : ℕ) (old : View) (before : Option (List ℕ)) (sends : ℕ) → RestsNew count old → LacksRecord count old name → ((total : ℕ) (book : List Series) → Honest old → StandsForBook (pages_of count old.image) total book → id_of name book ≡ None) → ExportsStore name window count old old before before sends sends ends.UnknownSeries
+none_found name window count old before sends rests lacks none =
     let none_named : (total : ℕ) (book : List Series) → HoldsBook count total book old → (series : Series) → IsNamed book name series → ⊥ = λ total book holds series named. both (id_of name book) named.id named.id_is (none total book holds.honest (stands_held count total book old rests holds)) in
     record {
       is = (none_named, refl);
       part = λ total book holds series named. absurd (none_named total book holds series named);
       unnamed = λ total book holds unnamed. refl;
+      lacks = λ is. lacks;
       crash = λ total book holds. since_none old (λ image sent. RecoversTo count image total book) holds.images;
       holds = λ total book holds. holds;
       reads = λ total book holds series named. omega arith;
+      unwritten = (refl, refl);
       honest = λ h. h;
       goes_on = goes_none old;
     }
@@ -198,13 +213,13 @@ none_found name window count old before sends rests none =
 -- ---- a store was opened first
 
 -- a page that is bad once the store is open was so before
-tree_before : (count : ℕ) (old mid : View) (place : ℕ) → (Honest old → Honest mid) → (Honest old → book_pages count mid.image ≡ book_pages count old.image) → IsDamagedLater IsBadForExport count mid place → IsDamagedLater IsBadForExport count old place
-tree_before count old mid place honest_then pages bad = record {
+tree_before : (name : List ℕ) (count : ℕ) (old mid : View) (place : ℕ) → (Honest old → Honest mid) → (Honest old → book_pages count mid.image ≡ book_pages count old.image) → IsDamagedLater (IsBadForExport name) count mid place → IsDamagedLater (IsBadForExport name) count old place
+tree_before name count old mid place honest_then pages bad = record {
   page = bad.page;
   place_is = bad.place_is;
   within = bad.within;
   bad = λ honest.
-      let P : Image → Type 0 = λ image. IsBadForExport count image bad.page in
+      let P : Image → Type 0 = λ image. IsBadForExport name count image bad.page in
       subst P (pages honest) (bad.bad (honest_then honest));
 }
 
@@ -214,7 +229,7 @@ module _ (name : List ℕ) (window : Option Window) (old mid new : View) (before
   exported ends.NoMemory is = tt
   exported ends.SendFault is = is
   exported ends.DiskFault is = risen_since old.faults mid.faults new.faults quiet is
-  exported (ends.DamagedPage page) is = (tree_before (page_count old.size) old mid (block_of page) opens.honest pages is.0, λ total book holds. is.1 total book (held old mid opens total book holds))
+  exported (ends.DamagedPage page) is = (tree_before name (page_count old.size) old mid (block_of page) opens.honest pages is.0, λ total book holds. is.1 total book (held old mid opens total book holds))
   exported ends.UnknownSeries is = (λ total book holds series named. is.0 total book (held old mid opens total book holds) series named, is.1)
   exported end is = absurd is
 
@@ -232,9 +247,13 @@ ends_opened name window count old mid new before mid_before now sends mid_sends 
       is = exported name window old mid new mid_before now mid_sends sends_now opens quiet pages_are end e.is;
       part = λ total book holds series named. e.part total book (hold total book holds) series named;
       unnamed = λ total book holds none. (2, omega arith, sym (e.unnamed total book (hold total book holds) none));
+      lacks = λ is honest.
+          let P : Image → Type 0 = λ image. HasNoRecord (page_count old.size) image name in
+          subst P (pages_are honest) (e.lacks is (opens.honest honest));
       crash = since_both old mid new mid_before now mid_sends sends_now opens pages_are e.crash e.goes_on;
       holds = λ total book holds. e.holds total book (hold total book holds);
       reads = λ total book holds series named. omega (arith, opens.reads.high, e.reads total book (hold total book holds) series named);
+      few = few_then (page_count old.size) old mid new opens.few e.unwritten.0 e.unwritten.1;
       honest = λ h. e.honest (opens.honest h);
       goes_on = goes_then old mid new (opened_goes old mid opens) e.goes_on;
     } in

@@ -1,7 +1,7 @@
 -- How a load ends.
-use Rattle.std.proofs.Common.{◌≡◌, ◌≢◌, ℕ, ◌<◌, ◌≤◌, List, [], Option, Some, None, Result, Ok, Err, IfSome, refl, sym, subst, inl, arith, ◌∙◌}
+use Rattle.std.proofs.Common.{◌≡◌, ◌≢◌, ℕ, ◌<◌, ◌≤◌, List, [], Option, Some, None, Result, Ok, Err, IfSome, refl, sym, ap, subst, inl, arith, ◌∙◌}
 use Rattle.block_disk.specs.Streams.{sent_after}
-use Rattle.block_disk.specs.View.{Image, View, Now, DiskKept, Passes, sent_now}
+use Rattle.block_disk.specs.View.{Honest, Image, View, Now, DiskKept, Passes, sent_now}
 use Rattle.block_disk.proofs.Passing.{now_back}
 use Rattle.gate_pages.specs.GateLaws.{kept_told, goes_by, goes_then}
 use Rattle.gate_pages.specs.GatePages.{IsReadable}
@@ -35,14 +35,21 @@ use Rattle.store_commands.specs.Unopened.{IsUnopenedEnd}
 use Rattle.store_commands.proofs.Held.{held}
 use Rattle.store_commands.proofs.LoadStored.{answered, err_same, failed}
 use Rattle.store_commands.proofs.Moments.{since_opened, since_sent, opened_since, opened_goes, opened_quiet}
-use Rattle.store_commands.proofs.Unopened.{outside_ends, unopened_end}
+use Rattle.store_commands.proofs.Unopened.{opening_known, outside_ends, unopened_end}
 use Rattle.store_commands.proofs.WorldLemmas.{IsUnopened}
+use Rattle.store_commands.specs.Lacking.{HasNoRecord, LacksRecord}
 use Rattle.store_commands.specs.Loaded.{OfSeries, LoadEnds, IsAheadLoad, IsLoadEnd, LeavesLoads, HoldsSome, LoadsSome, loaded_text}
 use Rattle.store_commands.specs.Storing.{StopsAt, IsEndCause, Stores}
 
 -- ---- the store is opened first
 
-module _ (name : List ℕ) (old mid new : View) (opens : Opens (page_count old.size) old mid) (same_faults : mid.faults ≡ old.faults) where
+module _ (name : List ℕ) (old mid new : View) (opens : Opens (page_count old.size) old mid) (same_faults : mid.faults ≡ old.faults) (pages : Honest old → book_pages (page_count old.size) mid.image ≡ book_pages (page_count old.size) old.image) where
+  -- a name that its catalog lacks once the store is open
+  lacks_on : LacksRecord (page_count old.size) mid name → LacksRecord (page_count old.size) old name
+  lacks_on lacks = λ honest.
+      let P : Image → Type 0 = λ image. HasNoRecord (page_count old.size) image name in
+      subst P (pages honest) (lacks (opens.honest honest))
+
   of_series : (IsSo : ℕ → List Series → Series → Type 0) → OfSeries (page_count old.size) mid name IsSo → OfSeries (page_count old.size) old name IsSo
   of_series IsSo all = λ total book holds series named. all total book (held old mid opens total book holds) series named
 
@@ -92,6 +99,7 @@ module _ (name : List ℕ) (old mid new : View) (opens : Opens (page_count old.s
     cause = tt;
     named = of_series (λ total book series. Ok readings ≢ Err UnknownSeries) s.named;
     unnamed = λ total book holds none. s.unnamed total book (held old mid opens total book holds) none;
+    lacks = λ is. lacks_on (s.lacks is);
     untouched = λ is. untouched_on (Ok readings) t.left t.left_now s.untouched is;
     moments = moments_on t.left s.moments;
     quiet = λ total book holds. s.quiet total book (held old mid opens total book holds) ∙ opened_quiet old mid opens;
@@ -110,6 +118,7 @@ module _ (name : List ℕ) (old mid new : View) (opens : Opens (page_count old.s
     cause = cause_on end t.reads t.reads_now s.cause;
     named = of_series (λ total book series. Err end ≢ Err UnknownSeries) s.named;
     unnamed = λ total book holds none. s.unnamed total book (held old mid opens total book holds) none;
+    lacks = λ is. lacks_on (s.lacks is);
     untouched = λ is. untouched_on (Err end) t.left t.left_now s.untouched is;
     moments = moments_on t.left s.moments;
     quiet = λ total book holds. s.quiet total book (held old mid opens total book holds) ∙ opened_quiet old mid opens;
@@ -186,6 +195,7 @@ unloaded name old new t cause end u same =
     subst P (sym same) (record {
       is = by cause (unopened_end old new t.left t.left_now t.sent t.sent_now cause u).0;
       unnamed = λ total book holds none. outside_ends cause (u.outside total book holds);
+      lacks = λ is. absurd (opening_known cause is);
       crash = opened_ahead name old new t.left u.opens;
       kept = λ total book holds none. opened_since old new u.opens total book holds;
       honest = u.opens.honest;
@@ -221,6 +231,7 @@ pub stopped_ends : (name : List ℕ) (old new : View) (t : Traffic) (end : End) 
 stopped_ends name old new t end s = record {
   is = stopped name old new t end s;
   unnamed = λ total book holds none. (2, omega arith, sym (err_same end UnknownSeries (s.unnamed total book holds none)));
+  lacks = λ is. s.lacks (ap Err is);
   crash = ahead_by name (page_count old.size) old new t.left s.moments;
   kept = λ total book holds none. ((s.untouched (s.unnamed total book holds none)).0 total book holds).1;
   honest = s.honest;
@@ -310,6 +321,9 @@ sent_ends name old mid new t left' now reads_now sends_now readings end same s t
     record {
       is = text_sent name old mid new t readings s x.kept x.time left' now reads_now sends_now end same x.is;
       unnamed = λ total book holds none. absurd (never_unknown readings (s.unnamed total book holds none));
+      lacks = λ is.
+          let S : End → Type 0 = λ e. IsSent e (loaded_text readings) t.sent now t.sends sends_now in
+          absurd (subst S is x.is);
       crash = sent_ahead name (page_count old.size) old mid new t.left readings x.time s.quiet s.moments (s.some (λ same. cc)) s.done;
       kept = λ total book holds none. absurd (never_unknown readings (s.unnamed total book holds none));
       honest = λ h. kept_told mid new x.kept (s.honest h);
@@ -318,10 +332,11 @@ sent_ends name old mid new t left' now reads_now sends_now readings end same s t
 
 -- ---- as the calls give it
 
-pub stores_on : (name : List ℕ) (count : ℕ) (old start new : View) (t t' : Traffic) (answer told : Result ℕ End) → count ≡ page_count old.size → answer ≡ told → Opens (page_count old.size) old start → start.faults ≡ old.faults → t' ≡ t
+pub stores_on : (name : List ℕ) (count : ℕ) (old start new : View) (t t' : Traffic) (answer told : Result ℕ End) → count ≡ page_count old.size → answer ≡ told → Opens (page_count old.size) old start → start.faults ≡ old.faults → (Honest old → book_pages count start.image ≡ book_pages count old.image) → t' ≡ t
     → Stores name count start new t' answer → Stores name (page_count old.size) old new t told
-stores_on name count old start new t t' answer told counted is opens same_faults same s =
+stores_on name count old start new t t' answer told counted is opens same_faults pages same s =
+    let G : ℕ → Type 0 = λ n. Honest old → book_pages n start.image ≡ book_pages n old.image in
     let C : ℕ → Type 0 = λ n. Stores name n start new t' answer in
     let R : Result ℕ End → Type 0 = λ r. Stores name (page_count old.size) start new t' r in
     let T : Traffic → Type 0 = λ x. Stores name (page_count old.size) start new x told in
-    stores_opened name old start new opens same_faults t told (subst T same (subst R is (subst C counted s)))
+    stores_opened name old start new opens same_faults (subst G counted pages) t told (subst T same (subst R is (subst C counted s)))

@@ -5,6 +5,7 @@ use Rattle.block_disk.specs.View.{View}
 use Rattle.disk_store.specs.Openings.{IsOutside}
 use Rattle.disk_store.specs.declared.causes.OpeningCause.{OpeningCause}
 use Rattle.disk_store.specs.declared.causes.OpeningCause.TheVariants as opening
+use Rattle.run_ends.specs.declared.ending.End.TheVariants.{UnknownSeries}
 use Rattle.store_commands.specs.Codes.{unopened}
 use Rattle.store_commands.specs.Loaded.{unnamed_ends}
 use Rattle.store_commands.specs.Status.{opening_end}
@@ -16,6 +17,13 @@ unopened_end old new left left' before now (opening.TooSmall size) u = ((u.preve
 unopened_end old new left left' before now (opening.Damaged block) u = ((u.prevents.1, λ total book holds. unopened block (u.outside total book holds)), u.sent_is)
 unopened_end old new left left' before now opening.DiskFault u = (u.prevents, u.sent_is)
 unopened_end old new left left' before now opening.NoMemory u = (tt, u.sent_is)
+
+-- an opening knows of no names
+pub opening_known : (cause : OpeningCause) → opening_end cause ≡ UnknownSeries → ⊥
+opening_known (opening.TooSmall size) is = cc
+opening_known (opening.Damaged block) is = cc
+opening_known opening.DiskFault is = cc
+opening_known opening.NoMemory is = cc
 
 -- a store that holds a book is kept from opening by want of memory or a fault alone
 pub outside_ends : (cause : OpeningCause) → IsOutside cause → Contains unnamed_ends (opening_end cause)

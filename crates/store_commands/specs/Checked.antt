@@ -1,5 +1,5 @@
 -- How a check of the disk's store ends.
-use Rattle.std.specs.Prelude.{◌≡◌, ℕ, ◌<◌, ◌⊎◌, List, ◌++◌, Option, codes}
+use Rattle.std.specs.Prelude.{◌≡◌, ℕ, ◌+◌, ◌<◌, ◌≤◌, ◌⊎◌, List, ◌++◌, Option, codes}
 use Rattle.std.specs.Fmt.{decimal}
 use Rattle.block_disk.specs.Counts.{HasRisen}
 use Rattle.block_disk.specs.Streams.{sent_after}
@@ -12,6 +12,7 @@ use Rattle.path_repair.specs.Damage.{HasBadLink}
 use Rattle.series_store.specs.Counting.{AreCounts, AreNumbers, AreSound, HasBadTree}
 use Rattle.series_store.specs.declared.counts.Counts.{Counts}
 use Rattle.disk_store.specs.Held.{HoldsBook}
+use Rattle.disk_store.specs.Openings.{WritesFew}
 use Rattle.stored_book.specs.Damage.{SaysNumbers}
 use Rattle.stored_book.specs.Standing.{AreCatalog, book_pages}
 use Rattle.run_ends.specs.Statuses.{block_of}
@@ -54,6 +55,10 @@ pub record SendsCountsPart (count : ℕ) (disk : View) (before now : Option (Lis
 abbrev pub IsBadForCheck : ℕ → Image → ℕ → Type 0
 IsBadForCheck count image page = SaysNumbers count image (λ s. (page < s.total) × (HasBadTree image s page ⊎ HasBadLink image s s.chain page))
 
+-- at most the blocks were read that an opening reads, and each page of the store once
+abbrev pub ReadsStore : ℕ → View → View → Type 0
+ReadsStore count old new = OfBook count old (λ total book. new.reads ≤ old.reads + 200 + total)
+
 -- what a check sent, and why it ended
 abbrev pub IsCheckEnd : End → View → View → Option (List ℕ) → Option (List ℕ) → ℕ → ℕ → Type 0
 IsCheckEnd Done old new before now sends sends_now = SendsCounts (page_count old.size) old before now
@@ -67,6 +72,9 @@ pub record CheckEnds (old new : View) (before now : Option (List ℕ)) (sends se
   pub is : IsCheckEnd end old new before now sends sends_now
   pub crash : LeavesSame (page_count old.size) old new
   pub holds : OfBook (page_count old.size) old (λ total book. HoldsBook (page_count old.size) total book new)
+  pub reads : ReadsStore (page_count old.size) old new
+  -- it syncs and writes no more than an opening
+  pub few : WritesFew (page_count old.size) old new
   -- reads give what a crash may leave, where they did
   pub honest : Honest old → Honest new
   pub goes_on : GoesOn old new

@@ -1,5 +1,5 @@
 -- What the parts of a check do.
-use Rattle.std.specs.Prelude.{ℕ, ◌≡◌, List, Option}
+use Rattle.std.specs.Prelude.{ℕ, ◌≡◌, ◌+◌, ◌≤◌, List, Option}
 use Rattle.block_disk.specs.Counts.{HasRisen}
 use Rattle.block_disk.specs.View.{Honest, View}
 use Rattle.gate_pages.specs.Pages.{GoesOn}
@@ -8,6 +8,7 @@ use Rattle.run_ends.specs.declared.ending.End.{End}
 use Rattle.run_ends.specs.declared.ending.End.TheVariants.{Done, NoMemory, SendFault, DiskFault, DamagedPage}
 use Rattle.series_store.specs.declared.errors.StoreError.{StoreError}
 use Rattle.series_store.specs.declared.errors.StoreError.TheVariants as of_store
+use Rattle.series_store.specs.Results.{CommitsNone}
 use Rattle.disk_store.specs.Held.{HoldsBook}
 use Rattle.store_commands.specs.Damaged.{IsDamagedLater}
 use Rattle.store_commands.specs.Books.{OfBook, Never, LeavesSame}
@@ -37,6 +38,8 @@ pub record ChecksStore (count : ℕ) (old new : View) (before now : Option (List
   pub is : EndsCheck end count old new before now sends sends_now
   pub crash : LeavesSame count old new
   pub holds : OfBook count old (λ total book. HoldsBook count total book new)
+  pub reads : OfBook count old (λ total book. new.reads ≤ old.reads + total)
+  pub unwritten : CommitsNone old new
   -- reads give what a crash may leave, where they did
   pub honest : Honest old → Honest new
   pub goes_on : GoesOn old new

@@ -13,10 +13,12 @@ use Rattle.series_book.specs.Pages.{series_pages}
 use Rattle.series_export.specs.declared.window.Window.{Window}
 use Rattle.series_store.specs.declared.send_errors.SendError.{SendError}
 use Rattle.series_store.specs.declared.send_errors.SendError.TheVariants.{SendFault, DiskFault, Damaged, NoMemory}
+use Rattle.series_store.specs.Results.{CommitsNone}
 use Rattle.disk_store.specs.Held.{HoldsBook}
 use Rattle.store_commands.specs.Books.{OfBook, Never, LeavesSame}
 use Rattle.store_commands.specs.Damaged.{IsDamagedLater}
 use Rattle.store_commands.specs.Exported.{ExportsAll, ExportsPart, HasNone, IsBadForExport}
+use Rattle.store_commands.specs.Lacking.{LacksRecord}
 use Rattle.store_commands.specs.Loaded.{OfSeries, Unnamed}
 use Rattle.store_commands.specs.Traffic.{Traffic}
 
@@ -35,7 +37,7 @@ EndsExport ends.NoMemory name window count old new before now sends sends_now = 
 EndsExport ends.SendFault name window count old new before now sends sends_now = HasRisen sends sends_now
 EndsExport ends.DiskFault name window count old new before now sends sends_now = HasRisen old.faults new.faults
 EndsExport (ends.DamagedPage page) name window count old new before now sends sends_now =
-    IsDamagedLater IsBadForExport count old (block_of page) × Never count old
+    IsDamagedLater (IsBadForExport name) count old (block_of page) × Never count old
 EndsExport ends.UnknownSeries name window count old new before now sends sends_now = HasNone count old name × (now ≡ before)
 EndsExport end name window count old new before now sends sends_now = ⊥
 
@@ -44,9 +46,11 @@ pub record ExportsStore (name : List ℕ) (window : Option Window) (count : ℕ)
   pub is : EndsExport end name window count old new before now sends sends_now
   pub part : ExportsPart name window count old before now
   pub unnamed : Unnamed count old name (λ total book. end ≡ ends.UnknownSeries)
+  pub lacks : end ≡ ends.UnknownSeries → LacksRecord count old name
   pub crash : LeavesSame count old new
   pub holds : OfBook count old (λ total book. HoldsBook count total book new)
   pub reads : OfSeries count old name (λ total book series. new.reads ≤ old.reads + series_pages series.slots)
+  pub unwritten : CommitsNone old new
   -- reads give what a crash may leave, where they did
   pub honest : Honest old → Honest new
   pub goes_on : GoesOn old new

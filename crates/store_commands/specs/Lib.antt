@@ -8,6 +8,7 @@ pub mod Sides
 pub mod Sending
 pub mod Codes
 pub mod Damaged
+pub mod Lacking
 pub mod Unopened
 pub mod Loaded
 pub mod Storing

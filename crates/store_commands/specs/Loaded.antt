@@ -24,6 +24,7 @@ use Rattle.run_ends.specs.declared.ending.End.TheVariants.{Done, NoMemory, ReadF
 use Rattle.run_ends.specs.declared.ending.End.TheVariants.{BadInput, InputTooLong, UnknownSeries, Refused}
 use Rattle.store_commands.specs.Traffic.{IsLong, Traffic, WasRead}
 use Rattle.store_commands.specs.Damaged.{IsDamagedLater}
+use Rattle.store_commands.specs.Lacking.{LacksRecord}
 use Rattle.store_commands.specs.Unopened.{IsUnopenedEnd}
 use Rattle.store_commands.specs.Books.{OfBook, Never, LeavesSame, SendsPartOf, HoldsPages}
 
@@ -134,6 +135,7 @@ IsLoadEnd end name old new t = IsUnopenedEnd end old new × (t.left_now ≡ t.le
 pub record LoadEnds (name : List ℕ) (old new : View) (t : Traffic) (end : End) : Type 0 where
   pub is : IsLoadEnd end name old new t
   pub unnamed : Unnamed (page_count old.size) old name (λ total book. Contains unnamed_ends end)
+  pub lacks : end ≡ UnknownSeries → LacksRecord (page_count old.size) old name
   pub crash : IfSome t.left (λ input. LeavesLoads name (page_count old.size) input old new)
   pub kept : LeavesUnnamed name (page_count old.size) old new
   -- reads give what a crash may leave, where they did

@@ -18,6 +18,7 @@ use Rattle.series_load.specs.Ends.{IsLoaded}
 use Rattle.store_commands.specs.Traffic.{IsLong, Traffic, WasRead}
 use Rattle.store_commands.specs.Damaged.{IsDamagedLater}
 use Rattle.store_commands.specs.Books.{OfBook, Never, IsOnBook, HoldsPages}
+use Rattle.store_commands.specs.Lacking.{LacksRecord}
 use Rattle.store_commands.specs.Loaded.{LoadsTaken, LoadsToBad, LoadsWithin, OfSeries, RefusesRun, Unnamed}
 
 -- what was done of an input that wasn't loaded to its end
@@ -50,6 +51,7 @@ pub record Stores (name : List ℕ) (count : ℕ) (old new : View) (t : Traffic)
   pub cause : IfErr answer (λ end. IsEndCause end count old new t.reads t.reads_now)
   pub named : OfSeries count old name (λ total book series. answer ≢ Err UnknownSeries)
   pub unnamed : Unnamed count old name (λ total book. answer ≡ Err UnknownSeries)
+  pub lacks : answer ≡ Err UnknownSeries → LacksRecord count old name
   pub untouched : answer ≡ Err UnknownSeries → OfBook count old (λ total book. HoldsBook count total book new × Since old new (λ image sent. RecoversTo count image total book)) × (t.left_now ≡ t.left)
   pub moments : OfSeries count old name (λ total book series. Since old new (λ image sent. IsOnBook count total (IsAfterSome total name book series t.left) image × (sent ≡ sent_now old)))
   pub quiet : OfBook count old (λ total book. sent_now new ≡ sent_now old)

@@ -1,11 +1,12 @@
 //! The command `list`: a line for each series of the store is sent.
-ghost use Rattle.std.specs.Prelude.{◌≡◌, IfOk};
+ghost use Rattle.std.specs.Prelude.{◌≡◌, IfOk, flat_map, map};
 ghost use Rattle.chart_world.specs.Faults.{CountsFault};
+ghost use Rattle.series_catalog.specs.Catalogs.{entry_of};
 ghost use Rattle.series_store.specs.Shown as shown;
 ghost use Rattle.run_ends.specs.Faults.{end_fault};
 ghost use Rattle.run_ends.specs.Statuses.{status_of};
 ghost use Rattle.store_commands.specs.Away.{TurnsAway};
-ghost use Rattle.store_commands.specs.Listed.{ListEnds, list_text};
+ghost use Rattle.store_commands.specs.Listed.{ListEnds, entry_line, list_text};
 ghost use Rattle.store_commands.specs.Traffic.{traffic};
 
 use crate::opening::opening_end;
@@ -37,7 +38,8 @@ pub fn list_series<W: World>(alloc: Global, world: W) -> (End, W)
 
 /// The lines of the series of a store.
 fn list_text<P: Pages>(alloc: Global, store: &Store<P>) -> Result<Vec<u8>, AllocError>
-    ensures { shown.ForSoundBook store.now (λ total book. IfOk result (λ text. text.items ≡ list_text book)) }
+    ensures books { shown.ForSoundBook store.now (λ total book. IfOk result (λ text. text.items ≡ list_text book)) }
+    ensures records { IfOk result (λ text. text.items ≡ flat_map entry_line (map entry_of (shown.catalog store.now))) }
 {
     let mut text = Vec::new(alloc);
     for id in 0..store.len() {

@@ -106,7 +106,7 @@ returns-clause-named g c =
     let before = g.P.Streams.sent (shown.pages old) in
     let now = g.P.Streams.sent (shown.pages new) in
     subst (λ r. ShowsBy gives c.args.show.now c.answer_lines-answer.new.kept old.sessions before now r) (sym c.of_answers.ensures)
-    (named_shown gives c.args.show.now c.answer_lines-answer.new.kept old.sessions before now new.sessions c.answer_lines-answer.result c.answer_lines-answer.ensures.gives)
+    (named_shown gives c.args.show.now c.answer_lines-answer.new.kept old.sessions before now c.answer_lines-answer.ensures.gives.lines new.sessions c.answer_lines-answer.result c.answer_lines-answer.ensures.gives.gives)
 
 pub returns-clause-faults : goal.returns-clause-faults
 returns-clause-faults g c =

@@ -1,4 +1,4 @@
-use Rattle.std.proofs.Common.{◌≡◌, ◌∙◌, ◌≤◌, ℕ, List, All, Err, ap, sym, subst, arith}
+use Rattle.std.proofs.Common.{◌≡◌, ◌∙◌, ◌≤◌, ℕ, List, All, Err, length, ap, sym, subst, arith}
 use Rattle.block_disk.specs.Counts.{HasRisen}
 use Rattle.block_disk.specs.View.{Image, sent_now}
 use Rattle.chart_frames.specs.declared.frame.Frame.{Frame}
@@ -25,7 +25,7 @@ use Rattle.chart_service.proofs.Ends.{err_is, error_is, on_err, step_short, step
 use Rattle.chart_service.proofs.Faulting.{step_goes}
 use Rattle.chart_service.proofs.Known.{known_kept}
 use Rattle.chart_service.proofs.GroupReplies.{if_told, group_done, group_stops, edits_stop, edits_moments, group_moments}
-use Rattle.chart_service.proofs.Naming.{first_step, gives_error, edits_give}
+use Rattle.chart_service.proofs.Naming.{first_step, gives_error, edits_give, edits_may}
 use Rattle.chart_service.proofs.Sending.{error_goes, error_so}
 use Rattle.chart_service.proofs.SyncLemmas.{always_ok, replied_book}
 use Rattle.chart_service.proofs.answers.answer_edits.Goals as goal
@@ -62,7 +62,7 @@ returns-in_err-frames g c =
       behind = λ total book told stands. on_err result _ _ residual;
       known = λ knows follows known. on_err result _ _ residual;
       named = λ knows follows known. error_goes (EndsKnown g.R.Reply.makes knows) result (Serve (end_of_step e)) residual tt;
-      gives = gives_error g.R.Reply.makes c.args.kept.now c.args.kept.now own c.step_edits.new.self.sessions (g.P.Streams.sent pages) (g.P.Streams.sent pages') result (Serve (end_of_step e)) residual
+      gives = λ lines spells. gives_error g.R.Reply.makes lines c.args.kept.now c.args.kept.now own c.step_edits.new.self.sessions (g.P.Streams.sent pages) (g.P.Streams.sent pages') result (Serve (end_of_step e)) residual
           (first_step g.R.Reply.makes c.args.kept.now (λ n. is_open n own) (g.P.Streams.sent pages) (g.P.Streams.sent pages') e sent);
       send = λ fault. step_unsent e (sym is ∙ fault);
       disk = λ fault. no.disk (ap Err (step_fault e (sym is ∙ fault)));
@@ -134,8 +134,8 @@ returns g c =
           always_ok result (StandsForBook (view new).image total (after_edits total book edits)) (subst B book_is (subst I (sym rest.keeps.disk.image) after.stands));
       known = λ knows follows known. rest.known knows follows (known_kept knows kept own c.step_edits.new.self.sessions made.sessions known);
       named = λ knows follows known. rest.named knows follows (known_kept knows kept own c.step_edits.new.self.sessions made.sessions known);
-      gives = edits_give g.R.Reply.makes kept kept' result frames own c.send_replies.new.service.sessions (g.P.Streams.sent pages) (g.P.Streams.sent mid) (g.P.Streams.sent new)
-          (subst A (sym c.as_slice.ensures.value) yes.fits) (subst E (sym c.as_slice.ensures.value) yes.replies) (rest.sessions ∙ made.sessions) sent rest.done rest.stops;
+      gives = λ lines spells. edits_give g.R.Reply.makes lines kept kept' result frames own c.send_replies.new.service.sessions (g.P.Streams.sent pages) (g.P.Streams.sent mid) (g.P.Streams.sent new)
+          (subst A (sym c.as_slice.ensures.value) yes.fits) (edits_may lines edits frames spells (ap length c.as_slice.ensures.value ∙ yes.each) (subst E (sym c.as_slice.ensures.value) yes.replies)) (subst E (sym c.as_slice.ensures.value) yes.replies) (rest.sessions ∙ made.sessions) sent rest.done rest.stops;
       send = λ fault. subst Risen same (rest.send fault);
       disk = λ fault. absurd (not_of_disk result rest.ends fault);
       faults = counts_then (fault_in answer_fault result) (view pages) (view mid) (view new) yes.faults rest.faults;

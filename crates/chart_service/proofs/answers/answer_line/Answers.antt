@@ -21,7 +21,7 @@ use Rattle.chart_service.proofs.DiskKept.{serves_none, serves_then, serves_kept,
 use Rattle.chart_service.proofs.Ends.{differ, error_is, on_err, step_short, step_unread, step_unsent, step_fault, step_bad, step_sound, reply_bad, not_of_disk, not_of_input, not_of_length, stays}
 use Rattle.chart_service.proofs.Faulting.{step_goes}
 use Rattle.chart_service.proofs.Known.{known_next, named_known, ends_known, same_opens}
-use Rattle.chart_service.proofs.Naming.{gives_none, first_step, gives_error, answer_gives, names_open}
+use Rattle.chart_service.proofs.Naming.{gives_empty, first_step, gives_error, answer_gives, names_open, text_may_all}
 use Rattle.chart_service.proofs.SyncLemmas.{unchanged_kept}
 use Rattle.chart_service.proofs.TurnLemmas.{first_none, text_reads}
 use Rattle.chart_service.proofs.Sending.{empty_done, error_goes, error_so, ok_so, step_stops, answer_done, answer_stops, text_replied, text_step, text_moments, text_is}
@@ -57,7 +57,7 @@ returns-in_err-frame g c =
           let before = g.P.Streams.sent pages in
           let now = g.P.Streams.sent pages' in
           let sent : now ≡ before = sym (g.met.P.PageWorld.beside_sent pages') ∙ ap (λ b. b.sent) c.step_line.ensures.steps.beside ∙ g.met.P.PageWorld.beside_sent pages in
-          gives_error g.R.Reply.makes c.args.kept.now c.args.kept.now c.args.service.now.sessions c.step_line.new.self.sessions before now c.from_residual.result (Serve (end_of_step c.in_err-frame.field-0.0)) c.from_residual.ensures.1
+          gives_error g.R.Reply.makes (unless_empty (Some c.args.line.now)) c.args.kept.now c.args.kept.now c.args.service.now.sessions c.step_line.new.self.sessions before now c.from_residual.result (Serve (end_of_step c.in_err-frame.field-0.0)) c.from_residual.ensures.1
           (first_step g.R.Reply.makes c.args.kept.now (λ n. is_open n c.args.service.now.sessions) before now c.in_err-frame.field-0.0 sent);
       send = λ fault. step_unsent c.in_err-frame.field-0.0 (sym (error_is c.from_residual.result (Serve (end_of_step c.in_err-frame.field-0.0)) c.from_residual.ensures.1) ∙ fault);
       disk = λ fault. c.in_err-frame.ensures.disk (ap Err (step_fault c.in_err-frame.field-0.0 (sym (error_is c.from_residual.result (Serve (end_of_step c.in_err-frame.field-0.0)) c.from_residual.ensures.1) ∙ fault)));
@@ -130,7 +130,7 @@ returns g c =
           (named_known knows c.args.kept.now frame c.args.service.now.sessions known yes.opens.named) why)
           c.send_reply.ensures.stops;
       gives =
-          answer_gives g.R.Reply.makes c.args.kept.now c.send_reply.new.kept c.send_reply.result frame c.args.service.now.sessions c.send_reply.new.service.sessions (g.P.Streams.sent pages) (g.P.Streams.sent mid) (g.P.Streams.sent pages') yes.fits (names_open frame c.args.service.now.sessions yes.opens.named)
+          answer_gives g.R.Reply.makes (unless_empty (Some c.args.line.now)) c.args.kept.now c.send_reply.new.kept c.send_reply.result frame c.args.service.now.sessions c.send_reply.new.service.sessions (g.P.Streams.sent pages) (g.P.Streams.sent mid) (g.P.Streams.sent pages') yes.fits (text_may_all c.args.line.now frame c.requires.short some yes.may) (names_open frame c.args.service.now.sessions yes.opens.named)
           (same_opens c.args.service.now.sessions c.step_line.new.self.sessions c.send_reply.new.service.sessions frame c.send_reply.ensures.sessions yes.opens.after) sent made.done made.stops;
       send = λ fault. subst P same (c.send_reply.ensures.send fault);
       disk = λ fault. absurd (not_of_disk c.send_reply.result c.send_reply.ensures.ends fault);
@@ -166,7 +166,7 @@ returns-then-is_empty g c =
       idle = λ none. record { image = λ t. refl; fit = λ f. f; syncs = refl; writes = refl };
       known = λ knows follows known. known;
       named = λ knows follows known. tt;
-      gives = gives_none g.R.Reply.makes c.args.kept.now (λ n. is_open n it.sessions) (g.P.Streams.sent at);
+      gives = gives_empty g.R.Reply.makes c.args.line.now none c.args.kept.now (λ n. is_open n it.sessions) (g.P.Streams.sent at);
       send = λ fault. differ fault refl;
       disk = λ fault. differ fault refl;
       read = λ fault. differ fault refl;

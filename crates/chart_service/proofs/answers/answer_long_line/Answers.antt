@@ -7,6 +7,7 @@ use Rattle.chart_service.specs.Making.{FrameSent, FrameStops}
 use Rattle.chart_service.specs.Shown as shown
 use Rattle.chart_service.specs.Stepping.{state_of}
 use Rattle.chart_service.proofs.Known.{known_next, ends_known, same_opens, refused_opens, refused_names}
+use Rattle.chart_service.specs.Serving.{unless_empty}
 use Rattle.chart_service.proofs.Naming.{answer_gives}
 use Rattle.chart_service.proofs.Sending.{ok_so, error_so, answer_done, answer_stops, long_replied, long_after, reply_moments}
 use Rattle.chart_service.proofs.answers.answer_long_line.Goals as goal
@@ -71,5 +72,5 @@ returns-clause-gives g c =
     let own = c.args.service.now.sessions in
     let before = g.P.Streams.sent (shown.pages c.args.service.now) in
     let new = c.send_reply.new.service in
-    answer_gives g.R.Reply.makes c.args.kept.now c.send_reply.new.kept c.send_reply.result frame own new.sessions before before (g.P.Streams.sent (shown.pages new)) c.refused.ensures.fits (refused_names frame LineTooLong c.refused.ensures.frame (λ n. is_open n own))
+    answer_gives g.R.Reply.makes (unless_empty None) c.args.kept.now c.send_reply.new.kept c.send_reply.result frame own new.sessions before before (g.P.Streams.sent (shown.pages new)) c.refused.ensures.fits (c.refused.ensures.frame, tt) (refused_names frame LineTooLong c.refused.ensures.frame (λ n. is_open n own))
     (same_opens own own new.sessions frame c.send_reply.ensures.sessions (refused_opens frame LineTooLong c.refused.ensures.frame own)) refl c.send_reply.ensures.done c.send_reply.ensures.stops

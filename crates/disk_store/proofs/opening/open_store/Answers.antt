@@ -19,7 +19,7 @@ opened g c =
     let near = c.upgrade.new.pages in
     let u = c.in-Ok-upgrade.ensures in
     let read = shown.pages c.in-Ok-open.store in
-    opens_read (page_count old.size) pages.count near.count pages.sound near.sound old (view pages.disk) (view near.disk) e.count e.moments e.moves e.pages c.upgrade.ensures.upgrades c.upgrade.ensures.goes_on u.done u.kept (near.at_rest u.sound)
+    opens_read (page_count old.size) pages.count near.count pages.sound near.sound old (view pages.disk) (view near.disk) e.count e.moments e.moves e.pages c.upgrade.ensures.upgrades c.upgrade.ensures.goes_on e.unwritten c.upgrade.ensures.unwritten u.done u.kept (near.at_rest u.sound)
     read.count read.sound (view read.disk) c.in-Ok-open.ensures.reads c.in-Ok-open.ensures.goes_on
 
 pub returns-in-Ok-open-clause-opens : goal.returns-in-Ok-open-clause-opens
@@ -49,7 +49,7 @@ unread g c =
     let back = c.in-Err-open.field-0.value in
     let P : g.row.D.Denot → Type 0 = λ disk. Opens (page_count old.size) old (view disk) in
     subst P (sym c.into_disk.ensures.disk)
-    (opens_read (page_count old.size) pages.count near.count pages.sound near.sound old (view pages.disk) (view near.disk) e.count e.moments e.moves e.pages c.upgrade.ensures.upgrades c.upgrade.ensures.goes_on u.done u.kept (near.at_rest u.sound)
+    (opens_read (page_count old.size) pages.count near.count pages.sound near.sound old (view pages.disk) (view near.disk) e.count e.moments e.moves e.pages c.upgrade.ensures.upgrades c.upgrade.ensures.goes_on e.unwritten c.upgrade.ensures.unwritten u.done u.kept (near.at_rest u.sound)
     back.count back.sound (view back.disk) c.in-Err-open.ensures.reads c.in-Err-open.ensures.goes_on)
 
 pub returns-in-Err-open-clause-opens : goal.returns-in-Err-open-clause-opens
@@ -78,10 +78,10 @@ returns-in-Err-open-clause-cause g c =
     let back = c.in-Err-open.field-0.value in
     let P : g.row.D.Denot → Type 0 = λ disk. Prevents c.store_cause.result old (view disk) in
     let Q : OpeningCause → Type 0 = λ cause. Prevents cause old (view back.disk) in
-    let so_far = opens_upgraded (page_count old.size) pages.count near.count pages.sound near.sound old (view pages.disk) (view near.disk) e.count e.moments e.moves e.pages u c.upgrade.ensures.goes_on in
+    let so_far = opens_upgraded (page_count old.size) pages.count near.count pages.sound near.sound old (view pages.disk) (view near.disk) e.count e.moments e.moves e.pages u c.upgrade.ensures.goes_on e.unwritten c.upgrade.ensures.unwritten in
     subst P (sym c.into_disk.ensures.disk) (subst Q (sym c.store_cause.ensures)
     (store_prevents c.in-Err-open.field-0.cause (page_count old.size) near.count back.count near.sound back.sound old (view near.disk) (view back.disk) (u.size ∙ e.count) refl e.large so_far.honest
-    (same_near (page_count old.size) pages.count near.count pages.sound near.sound old (view pages.disk) (view near.disk) e.count e.moments e.moves e.pages u c.upgrade.ensures.goes_on c.in-Ok-upgrade.ensures.done)
+    (same_near (page_count old.size) pages.count near.count pages.sound near.sound old (view pages.disk) (view near.disk) e.count e.moments e.moves e.pages u c.upgrade.ensures.goes_on e.unwritten c.upgrade.ensures.unwritten c.in-Ok-upgrade.ensures.done)
     (c.in-Ok-upgrade.ensures.quiet ∙ e.quiet) c.in-Err-open.ensures.place c.in-Err-open.ensures.cause))
 
 pub returns-in-Err-open-clause-a_store : goal.returns-in-Err-open-clause-a_store
@@ -95,7 +95,7 @@ returns-in-Err-open-clause-a_store g c = λ total book honest recovers.
     let N : ℕ → Type 0 = λ n. RecoversTo n old.image total book in
     let here = subst N (sym (u.size ∙ e.count)) recovers in
     let I : Image → Type 0 = λ image. StandsForBook image total book in
-    let same = same_near (page_count old.size) pages.count near.count pages.sound near.sound old (view pages.disk) (view near.disk) e.count e.moments e.moves e.pages u c.upgrade.ensures.goes_on c.in-Ok-upgrade.ensures.done in
+    let same = same_near (page_count old.size) pages.count near.count pages.sound near.sound old (view pages.disk) (view near.disk) e.count e.moments e.moves e.pages u c.upgrade.ensures.goes_on e.unwritten c.upgrade.ensures.unwritten c.in-Ok-upgrade.ensures.done in
     subst IsOutside (sym c.store_cause.ensures)
     (store_outside c.in-Err-open.field-0.cause (c.in-Err-open.ensures.a_store total book (u.told (e.moves.honest honest)) here.within (subst I (sym (same honest)) here.stands)))
 
@@ -112,7 +112,7 @@ stopped g c =
     let near = c.upgrade.new.pages in
     let P : g.row.D.Denot → Type 0 = λ disk. Opens (page_count old.size) old (view disk) in
     subst P (sym c.into_disk-in-Err-upgrade.ensures.disk)
-    (opens_upgraded (page_count old.size) pages.count near.count pages.sound near.sound old (view pages.disk) (view near.disk) e.count e.moments e.moves e.pages c.upgrade.ensures.upgrades c.upgrade.ensures.goes_on)
+    (opens_upgraded (page_count old.size) pages.count near.count pages.sound near.sound old (view pages.disk) (view near.disk) e.count e.moments e.moves e.pages c.upgrade.ensures.upgrades c.upgrade.ensures.goes_on e.unwritten c.upgrade.ensures.unwritten)
 
 pub returns-in-Err-upgrade-clause-opens : goal.returns-in-Err-upgrade-clause-opens
 returns-in-Err-upgrade-clause-opens g c = stopped g c
@@ -161,7 +161,7 @@ unopened g c =
     let view = g.D.Disk.view in
     let old = view c.args.disk in
     let e = c.in-Err.ensures in
-    opens_pages (page_count old.size) old (view c.in-Err.field-0.value) e.moments e.moves
+    opens_pages (page_count old.size) old (view c.in-Err.field-0.value) e.moments e.moves e.unwritten
 
 pub returns-in-Err-clause-opens : goal.returns-in-Err-clause-opens
 returns-in-Err-clause-opens g c = unopened g c

@@ -147,3 +147,15 @@ returns-clause-sound g c = c.load_lines.ensures.sound
 
 pub returns-clause-sound_for : goal.returns-clause-sound_for
 returns-clause-sound_for g c = c.load_lines.ensures.sound_for
+
+pub returns-in_default-clause-lacks : goal.returns-in_default-clause-lacks
+returns-in_default-clause-lacks g c = λ is. c.in_default.ensures.named
+
+pub returns-in_err-loader-clause-lacks : goal.returns-in_err-loader-clause-lacks
+returns-in_err-loader-clause-lacks g c = λ is. absurd (no_memory_known c.from_residual.result c.in_err-loader.field-0.0 c.from_residual.ensures.1 c.in_err-loader.ensures.err is)
+
+pub returns-in_err-lines-clause-lacks : goal.returns-in_err-lines-clause-lacks
+returns-in_err-lines-clause-lacks g c = λ is. absurd (no_memory_known c.from_residual-in_err-lines.result c.in_err-lines.field-0.0 c.from_residual-in_err-lines.ensures.1 c.in_err-lines.ensures.err is)
+
+pub returns-clause-lacks : goal.returns-clause-lacks
+returns-clause-lacks g c = λ is. absurd (c.load_lines.ensures.known is)

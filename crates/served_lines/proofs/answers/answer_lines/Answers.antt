@@ -1,4 +1,4 @@
-use Rattle.std.proofs.Common.{rules, refl, subst}
+use Rattle.std.proofs.Common.{[], rules, refl, subst}
 use Rattle.std.specs.Prelude.{OnOk}
 use Rattle.chart_service.specs.Making.{AreMade}
 use Rattle.chart_service.specs.Answering.{SendsAll}
@@ -46,8 +46,12 @@ pub returns-in-Err-clause-gives : goal.returns-in-Err-clause-gives
 returns-in-Err-clause-gives g c =
     let it = c.args.service.now in
     let sent = g.P.Streams.sent (shown.pages it) in
-    first_memory g.R.Reply.makes c.args.kept.now c.args.kept.now (λ n. is_open n it.sessions) (λ n. is_open n it.sessions) sent sent
-    (gives_none g.R.Reply.makes c.args.kept.now (λ n. is_open n it.sessions) sent)
+    record {
+      lines = [];
+      gives = first_memory g.R.Reply.makes [] c.args.kept.now c.args.kept.now (λ n. is_open n it.sessions) (λ n. is_open n it.sessions) sent sent
+          (gives_none g.R.Reply.makes c.args.kept.now (λ n. is_open n it.sessions) sent);
+      are_told = tt;
+    }
 
 pub returns-clause-done : goal.returns-clause-done
 returns-clause-done g c = λ total book told stands.

@@ -1,9 +1,9 @@
-use Rattle.std.proofs.Common.{Result, IfErr, refl, sym, subst}
+use Rattle.std.proofs.Common.{[], Result, IfErr, refl, sym, subst}
 use Rattle.std.specs.Prelude.{OnOk}
 use Rattle.chart_service.specs.Answering.{EndsBy, SendsAll}
 use Rattle.chart_service.specs.Knowing.{EndsKnown}
 use Rattle.chart_service.specs.Making.{AreMade}
-use Rattle.chart_service.specs.Naming.{GivesBy}
+use Rattle.chart_service.specs.Naming.{GivesTold}
 use Rattle.chart_service.specs.Shown as shown
 use Rattle.chart_service.specs.declared.failure.AnswerEnd.{AnswerEnd}
 use Rattle.served_lines.specs.Ending.{answer_of}
@@ -11,6 +11,7 @@ use Rattle.served_lines.specs.Standing.{IsNamed}
 use Rattle.served_lines.specs.Turning.{Any, Named, Over}
 use Rattle.served_lines.proofs.Concluding.{first_held}
 use Rattle.served_lines.proofs.Finishing.{crash_told, done_so, ends_so, first_stands, reads_so, syncs_so}
+use Rattle.served_lines.proofs.KeepLemmas.{none_spelled}
 use Rattle.served_lines.proofs.NamedLemmas.{gives_so, known_by}
 use Rattle.served_lines.proofs.answers.answer_turns.Goals as goal
 
@@ -27,10 +28,11 @@ returns-clause-same_reference g c =
     let pieces = g.P.Streams.pieces in
     let makes = g.R.Reply.makes in
     let r = c.run_lines.result in
-    let named : Named g.row.S.Denot = record { name = turns.kept.ghost_name; kept = turns.kept.now; sessions = it.sessions } in
-    let here : IsNamed named turns.kept.ghost_name turns.kept.now it.sessions = record {
+    let named : Named g.row.S.Denot = record { name = turns.kept.ghost_name; kept = turns.kept.now; ahead = []; sessions = it.sessions } in
+    let here : IsNamed named turns.kept.ghost_name turns.kept.now turns.edits.items it.sessions = record {
       name_is = refl;
       kept_is = refl;
+      spells = none_spelled turns.edits.items c.requires.none;
       sessions_are =
           refl;
     } in
@@ -160,10 +162,11 @@ returns-clause-known g c = λ knows follows known.
     let pieces = g.P.Streams.pieces in
     let makes = g.R.Reply.makes in
     let r = c.run_lines.result in
-    let named : Named g.row.S.Denot = record { name = turns.kept.ghost_name; kept = turns.kept.now; sessions = it.sessions } in
-    let here : IsNamed named turns.kept.ghost_name turns.kept.now it.sessions = record {
+    let named : Named g.row.S.Denot = record { name = turns.kept.ghost_name; kept = turns.kept.now; ahead = []; sessions = it.sessions } in
+    let here : IsNamed named turns.kept.ghost_name turns.kept.now turns.edits.items it.sessions = record {
       name_is = refl;
       kept_is = refl;
+      spells = none_spelled turns.edits.items c.requires.none;
       sessions_are =
           refl;
     } in
@@ -173,8 +176,8 @@ returns-clause-known g c = λ knows follows known.
     (c.run_lines.ensures.done (Any named) here) (c.run_lines.ensures.stops (Any named) here) in
     let P : Result (Unit {0}) (AnswerEnd g.row.F.Denot) → Type 0 = λ x. IfErr x (EndsKnown makes knows) in
     subst P (sym c.answer_of.ensures)
-    (known_by makes knows follows turns.kept.now work.kept.now it.sessions new.sessions (sent pages) (sent pages') (answer_of r) known
-    all.0)
+    (known_by makes knows follows all.0.lines turns.kept.now work.kept.now it.sessions new.sessions (sent pages) (sent pages') (answer_of r) known
+    all.0.gives)
 
 pub returns-clause-gives : goal.returns-clause-gives
 returns-clause-gives g c =
@@ -189,10 +192,11 @@ returns-clause-gives g c =
     let pieces = g.P.Streams.pieces in
     let makes = g.R.Reply.makes in
     let r = c.run_lines.result in
-    let named : Named g.row.S.Denot = record { name = turns.kept.ghost_name; kept = turns.kept.now; sessions = it.sessions } in
-    let here : IsNamed named turns.kept.ghost_name turns.kept.now it.sessions = record {
+    let named : Named g.row.S.Denot = record { name = turns.kept.ghost_name; kept = turns.kept.now; ahead = []; sessions = it.sessions } in
+    let here : IsNamed named turns.kept.ghost_name turns.kept.now turns.edits.items it.sessions = record {
       name_is = refl;
       kept_is = refl;
+      spells = none_spelled turns.edits.items c.requires.none;
       sessions_are =
           refl;
     } in
@@ -201,5 +205,5 @@ returns-clause-gives g c =
     pages') r
     (c.run_lines.ensures.done (Any named) here) (c.run_lines.ensures.stops (Any named) here) in
     let P : Result (Unit {0}) (AnswerEnd g.row.F.Denot)
-    → Type 0 = λ x. GivesBy makes turns.kept.now work.kept.now it.sessions new.sessions (sent pages) (sent pages') x in
+    → Type 0 = λ x. GivesTold makes (left pages) turns.kept.now work.kept.now it.sessions new.sessions (sent pages) (sent pages') x in
     subst P (sym c.answer_of.ensures) all.0

@@ -1,7 +1,7 @@
 use Rattle.std.proofs.Common.{◌≡◌, ◌≤◌, [], ◌∷◌, ◌++◌, length, arith}
 use Rattle.std.proofs.lemmas.Grind.{common_steps}
 use Rattle.chart_service.specs.Shown as shown
-use Rattle.served_lines.proofs.KeepLemmas.{full_does, full_leaves, full_stops, kept_does, memory_stops}
+use Rattle.served_lines.proofs.KeepLemmas.{none_spelled, full_does, full_leaves, full_stops, kept_does, memory_stops}
 use Rattle.served_lines.proofs.Steps.{spelled_line}
 use Rattle.served_lines.proofs.keeping.keep.Goals as goal
 
@@ -33,7 +33,7 @@ returns-clause-does g c = λ stand at line spells stands.
     (g.P.Streams.sent (shown.pages it)) line c.args.edit spells c.push.new.self.items pushed next.kept.ghost_name
     c.settle.ensures.same_reference
     next.kept.now (shown.IsTold new) (shown.view new) (shown.sessions new) (g.P.Streams.sent (shown.pages new)) next.edits.items
-    c.settle.result stand at full stands c.settle.ensures.gives c.settle.ensures.done
+    c.settle.result stand at full stands (none_spelled next.edits.items c.settle.ensures.none) c.settle.ensures.gives c.settle.ensures.done
 
 pub returns-clause-stops : goal.returns-clause-stops
 returns-clause-stops g c = λ stand at line spells stands.

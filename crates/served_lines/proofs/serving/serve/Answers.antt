@@ -1,14 +1,16 @@
-use Rattle.std.proofs.Common.{IfErr, IfSome, OnOk, length, ap, sym, subst, ◌≤◌, ◌^◌, ◌∙◌}
+use Rattle.std.proofs.Common.{Result, IfErr, IfSome, OnOk, length, ap, sym, subst, ◌≤◌, ◌^◌, ◌∙◌}
 use Rattle.block_disk.specs.View.{sent_now}
 use Rattle.chart_world.specs.Faults.{CountsFault, fault_in}
 use Rattle.chart_service.specs.Answering.{SendsWhole, ServeEndsBy}
 use Rattle.chart_service.specs.Faulting.{serve_fault}
+use Rattle.chart_service.specs.Naming.{SendsAnswers}
 use Rattle.chart_service.specs.Serving.{AreSpelled, EndsAtBad}
 use Rattle.chart_service.specs.Shown as shown
 use Rattle.chart_service.specs.Spelled.{serve_end}
+use Rattle.chart_service.specs.declared.failure.ServeEnd.{ServeEnd}
 use Rattle.chart_service.specs.declared.failure.ServeEnd.TheVariants.{ReadFault, SendFault, DiskFault}
 use Rattle.chart_service.proofs.Faulting.{serve_goes}
-use Rattle.chart_service.proofs.Naming.{serve_named}
+use Rattle.chart_service.proofs.Naming.{serve_answers, serve_named}
 use Rattle.chart_service.proofs.Sending.{ok_so}
 use Rattle.chart_service.proofs.Served.{spelling_makes, spells, done_spelled, ends_spelled, lasts_spelled, served_ok, served_fault, served_bad}
 use Rattle.served_lines.proofs.serving.serve.Goals as goal
@@ -77,8 +79,8 @@ pub returns-clause-named : goal.returns-clause-named
 returns-clause-named g c =
     let old = c.args.service.now in
     let new = c.answer_lines-answer.new.service in
-    serve_named _ _ old.sessions new.sessions (g.P.Streams.sent (shown.pages old)) (g.P.Streams.sent (shown.pages new))
-    c.answer_lines-answer.result c.answer_lines-answer.ensures.gives
+    serve_named c.answer_lines-answer.ensures.gives.lines _ _ old.sessions new.sessions (g.P.Streams.sent (shown.pages old)) (g.P.Streams.sent (shown.pages new))
+    c.answer_lines-answer.result c.answer_lines-answer.ensures.gives.gives
 
 pub returns-clause-faults : goal.returns-clause-faults
 returns-clause-faults g c =
@@ -86,3 +88,14 @@ returns-clause-faults g c =
     let new = shown.view c.answer_lines-answer.new.service in
     subst (λ r. CountsFault (fault_in serve_fault r) old new) (sym c.served.ensures) (serve_goes c.answer_lines-answer.result old new
     c.answer_lines-answer.ensures.faults)
+
+pub returns-clause-answers : goal.returns-clause-answers
+returns-clause-answers g c =
+    let old = c.args.service.now in
+    let new = c.answer_lines-answer.new.service in
+    let left = g.P.Streams.left (shown.pages old) in
+    let before = g.P.Streams.sent (shown.pages old) in
+    let now = g.P.Streams.sent (shown.pages new) in
+    let A : Result (Unit {0}) ServeEnd → Type 0 = λ r. OnOk r (IfSome left (λ input. SendsAnswers old.sessions input before now)) in
+    let gives = c.answer_lines-answer.ensures.gives in
+    subst A (sym c.served.ensures) (serve_answers c.answer_lines-answer.result _ _ old.sessions new.sessions before now left gives)

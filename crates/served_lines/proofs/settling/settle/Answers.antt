@@ -8,6 +8,9 @@ use Rattle.chart_service.proofs.Sending.{error_so}
 use Rattle.served_lines.specs.Standing.{IsHeld}
 use Rattle.served_lines.specs.Shown.{Unsettled}
 use Rattle.served_lines.proofs.SettleLemmas.{both_ok, moments_settled, none_settled, settled, unsettled}
+use Rattle.zoom_session.specs.Sessions.{is_open}
+use Rattle.chart_service.specs.EditGroups.{SpellEdits}
+use Rattle.served_lines.proofs.KeepLemmas.{none_given}
 use Rattle.served_lines.proofs.settling.settle.Goals as goal
 
 pub returns-then-is_empty-clause-done : goal.returns-then-is_empty-clause-done
@@ -77,3 +80,14 @@ returns-clause-moments g c = λ held is told.
     moments_settled g.R.Reply.makes held edits (shown.IsTold it) (shown.view it) (shown.sessions it) kept before here
     (shown.IsTold new) (shown.view new) (shown.sessions new) c.answer_edits-answer.new.kept (g.P.Streams.sent (shown.pages new))
     some told (e.moments held.ahead here.spells held.state.total held.state.book is.told_so is.stands)
+
+pub returns-then-is_empty-clause-gives : goal.returns-then-is_empty-clause-gives
+returns-then-is_empty-clause-gives g c = λ lines spells.
+    let it = c.args.service.now in
+    let none : length c.args.turns.now.edits.items ≡ 0 = grind (arith, common_steps) in
+    none_given g.R.Reply.makes lines c.args.turns.now.edits.items none spells c.args.turns.now.kept.now (λ n. is_open n it.sessions) (g.P.Streams.sent (shown.pages it))
+
+pub returns-clause-gives : goal.returns-clause-gives
+returns-clause-gives g c = λ lines spells.
+    let S : List Edit → Type 0 = λ l. SpellEdits lines l in
+    c.answer_edits-answer.ensures.gives lines (subst S (sym c.as_slice.ensures.value) spells)

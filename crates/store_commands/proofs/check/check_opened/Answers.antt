@@ -1,10 +1,13 @@
-use Rattle.std.proofs.Common.{◌≡◌, sym, subst, ap, ◌∙◌}
+use Rattle.std.proofs.Common.{◌≡◌, ◌+◌, ◌≤◌, sym, subst, ap, ◌∙◌, arith}
 use Rattle.block_disk.specs.View.{Image, Beside}
 use Rattle.chart_world.specs.Faults.{CountsFault}
 use Rattle.chart_world.specs.FaultLaws.{counts_no_disk, counts_then}
+use Rattle.gate_pages.specs.Journal.{pages_of}
 use Rattle.page_space.specs.Layout.{superblock_page}
+use Rattle.series_store.proofs.AskLemmas.{own_store}
 use Rattle.series_store.specs.Counting.{AreSound}
 use Rattle.stored_book.specs.Standing.{AreCatalog}
+use Rattle.store_commands.specs.Books.{OfBook}
 use Rattle.store_commands.specs.Checked.{counts_text}
 use Rattle.series_store.specs.Shown as shown
 use Rattle.run_ends.specs.Faults.{end_fault}
@@ -34,8 +37,12 @@ returns-in-Ok-clause-checks g c =
     let closed = read.at_rest (e.looks.kept.fit c.requires) in
     let rests = rests_new pages.count (view old) (shown.numbers c.args.store) (pages.at_rest c.requires) (c.args.store.space.spelled c.requires) in
     let s = shown.numbers c.args.store in
+    let few : OfBook pages.count (view old) (λ total book. (view mid).reads ≤ (view old).reads + total) = λ total book holds.
+    let stands = stands_held pages.count total book (view old) rests holds in
+    let numbers = own_store pages.count total (pages_of pages.count (view old).image) book s c.args.store.space.rules c.args.store.small (c.args.store.space.spelled c.requires holds.honest) stands in
+    omega (arith, e.reads total book holds.honest stands, c.args.store.space.rules.fresh_high, numbers.1) in
     let P : g.row.W.Denot → Type 0 = λ d. SendsText (counts_text counts) (view d) (view new) (sent d) (sent new) (sends d) (sends new) c.send_text.result.0 in
-    checks_sent pages.count read.count pages.sound read.sound (view old) (view mid) e.looks.kept e.looks.over.goes_on rests closed (view new) counts (sent old) (sent mid) (sent new) (sends old) (sends mid) (sends new) c.send_text.result.0
+    checks_sent pages.count read.count pages.sound read.sound (view old) (view mid) e.looks.kept e.looks.over.goes_on rests closed few (view new) counts (sent old) (sent mid) (sent new) (sends old) (sends mid) (sends new) c.send_text.result.0
     (sym (w.beside_sent mid) ∙ ap (λ (b : Beside). b.sent) beside ∙ w.beside_sent old)
     (sym (w.beside_send_faults mid) ∙ ap (λ (b : Beside). b.send_faults) beside ∙ w.beside_send_faults old)
     (λ total book holds. c.in-Ok.ensures.counts total book holds.honest (stands_held pages.count total book (view old) rests holds))
@@ -64,9 +71,14 @@ returns-in-Err-clause-checks g c =
     let beside = e.looks.kept.beside in
     let closed = read.at_rest (e.looks.kept.fit c.requires) in
     let rests = rests_new pages.count (view old) (shown.numbers c.args.store) (pages.at_rest c.requires) (c.args.store.space.spelled c.requires) in
+    let s = shown.numbers c.args.store in
+    let few : OfBook pages.count (view old) (λ total book. (view mid).reads ≤ (view old).reads + total) = λ total book holds.
+    let stands = stands_held pages.count total book (view old) rests holds in
+    let numbers = own_store pages.count total (pages_of pages.count (view old).image) book s c.args.store.space.rules c.args.store.small (c.args.store.space.spelled c.requires holds.honest) stands in
+    omega (arith, e.reads total book holds.honest stands, c.args.store.space.rules.fresh_high, numbers.1) in
     let P : g.row.W.Denot → Type 0 = λ d. ChecksStore pages.count (view old) (view d) (sent old) (sent d) (sends old) (sends d) c.check_end.result in
     subst P (sym c.disk_of-world.ensures.disk)
-    (checks_not pages.count read.count pages.sound read.sound (view old) (view mid) e.looks.kept e.looks.over.goes_on rests closed (shown.numbers c.args.store) (sent old) (sent mid) (sends old) (sends mid) c.in-Err.error c.check_end.result c.check_end.ensures
+    (checks_not pages.count read.count pages.sound read.sound (view old) (view mid) e.looks.kept e.looks.over.goes_on rests closed few (shown.numbers c.args.store) (sent old) (sent mid) (sends old) (sends mid) c.in-Err.error c.check_end.result c.check_end.ensures
     (sym (w.beside_sent mid) ∙ ap (λ (b : Beside). b.sent) beside ∙ w.beside_sent old)
     (λ honest. record { spelled = c.args.store.space.spelled c.requires honest; rules = c.args.store.space.rules }) c.args.store.space.rules.total_high c.in-Err.ensures.within
     c.in-Err.ensures.cause

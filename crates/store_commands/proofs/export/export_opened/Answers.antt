@@ -2,7 +2,9 @@ use Rattle.std.proofs.Common.{refl, sym, subst, ap, ◌∙◌, arith}
 use Rattle.chart_world.specs.Faults.{CountsFault, fault_in}
 use Rattle.chart_world.specs.FaultLaws.{counts_none}
 use Rattle.gate_pages.specs.GatePages.{IsClosed}
+use Rattle.gate_pages.specs.Journal.{pages_of}
 use Rattle.series_export.specs.Faults.{send_fault}
+use Rattle.series_store.proofs.NameLemmas.{named_record, no_record}
 use Rattle.series_store.specs.Shown as shown
 use Rattle.run_ends.specs.declared.ending.End.{End}
 use Rattle.run_ends.specs.Faults.{end_fault}
@@ -10,6 +12,7 @@ use Rattle.run_ends.specs.declared.ending.End.TheVariants.{UnknownSeries}
 use Rattle.store_commands.specs.Exporting.{ExportsStore, export_end}
 use Rattle.store_commands.specs.Faulting.{counts_told}
 use Rattle.store_commands.proofs.FaultLemmas.{send_fault_is}
+use Rattle.store_commands.proofs.Damages.{lacks_record}
 use Rattle.store_commands.proofs.Held.{rests_new}
 use Rattle.store_commands.proofs.ExportEnds.{series_sent, none_found}
 use Rattle.store_commands.proofs.export.export_opened.Goals as goal
@@ -25,7 +28,11 @@ returns-in_default-clause-exports g c =
     let disk = pages.disk in
     let D : g.row.W.Denot → Type 0 = λ d. ExportsStore name window pages.count (view disk) (view d) (sent disk) (sent d) (sends disk) (sends d) UnknownSeries in
     subst D (sym c.disk_of.ensures.disk)
-    (none_found name window pages.count (view disk) (sent disk) (sends disk) (rests_new pages.count (view disk) (shown.numbers c.args.store) (pages.at_rest c.requires) (c.args.store.space.spelled c.requires)) (λ total book honest stands. c.in_default.ensures.info total book c.requires honest stands))
+    (none_found name window pages.count (view disk) (sent disk) (sends disk) (rests_new pages.count (view disk) (shown.numbers c.args.store) (pages.at_rest c.requires) (c.args.store.space.spelled c.requires))
+    (lacks_record pages.count (view disk) (shown.numbers c.args.store) name (rests_new pages.count (view disk) (shown.numbers c.args.store) (pages.at_rest c.requires) (c.args.store.space.spelled c.requires))
+    (λ honest. record { spelled = c.args.store.space.spelled c.requires honest; rules = c.args.store.space.rules })
+    (λ honest. no_record (pages_of pages.count (view disk).image) (shown.numbers c.args.store) (shown.catalog c.args.store) name c.args.store.count (c.args.store.told c.requires honest) c.in_default.ensures.named))
+    (λ total book honest stands. c.in_default.ensures.info total book c.requires honest stands))
 
 pub returns-clause-exports : goal.returns-clause-exports
 returns-clause-exports g c =
@@ -54,6 +61,7 @@ returns-clause-exports g c =
     (sent disk) (sent new) (sends disk) (sends new) answer (w.beside_send_faults disk) (w.beside_send_faults new)
     (omega (arith, c.in-Some.ensures.there, before.count)) before.space.rules.total_high
     (λ honest. record { spelled = before.space.spelled c.requires honest; rules = before.space.rules })
+    (λ honest. named_record (pages_of pages.count (view disk).image) (shown.catalog before) name c.in-Some.info.id c.in-Some.ensures.there (before.told c.requires honest) c.in-Some.ensures.named)
     (λ total book series honest stands there. e.sent total book series honest stands there)
     (λ total book series honest stands there. e.part total book series honest stands there)
     (λ total book series honest stands there. e.no_damage total book series honest stands there)

@@ -1,15 +1,19 @@
 use Rattle.std.proofs.Common.{sym, ap, subst, ◌∙◌}
+use Rattle.std.specs.Prelude.{flat_map, map}
 use Rattle.block_disk.specs.View.{Beside}
 use Rattle.chart_world.specs.Faults.{CountsFault}
 use Rattle.chart_world.specs.FaultLaws.{counts_no_disk, counts_then}
+use Rattle.gate_pages.specs.Journal.{page_count, pages_of}
+use Rattle.series_catalog.specs.Catalogs.{entry_of}
+use Rattle.series_store.proofs.NameLemmas.{as_long, records_are}
 use Rattle.series_store.specs.Shown as shown
 use Rattle.run_ends.specs.Statuses.{status_of}
 use Rattle.run_ends.specs.Faults.{end_fault}
 use Rattle.run_ends.specs.declared.ending.End.{End}
 use Rattle.store_commands.specs.Faulting.{counts_unopened_end}
-use Rattle.store_commands.specs.Listed.{list_text}
+use Rattle.store_commands.specs.Listed.{entry_line, list_text}
 use Rattle.store_commands.specs.Sending.{SendsMade}
-use Rattle.store_commands.proofs.ListEnds.{listed, unlisted, text_in, made_is}
+use Rattle.store_commands.proofs.ListEnds.{listed, lists_entries, unlisted, text_in, made_is}
 use Rattle.store_commands.proofs.TurnedAway.{away_never}
 use Rattle.store_commands.proofs.WorldLemmas.{away_over, unopened_over}
 use Rattle.store_commands.proofs.list.list_series.Goals as goal
@@ -20,7 +24,11 @@ returns-in-Ok-clause-ends g c =
     let sent = g.W.Streams.sent in
     let sends = g.W.Streams.send_faults in
     let old = c.args.world in
-    let mid = (shown.pages c.in-Ok.store).disk in
+    let store = c.in-Ok.store in
+    let pages = shown.pages store in
+    let catalog = shown.catalog store in
+    let s = shown.numbers store in
+    let mid = pages.disk in
     let new = c.send_text.result.1 in
     let e = c.in-Ok.ensures in
     let beside = e.opens.beside_is in
@@ -32,7 +40,11 @@ returns-in-Ok-clause-ends g c =
     (sym (w.beside_sent mid) ∙ ap (λ (b : Beside). b.sent) beside ∙ w.beside_sent old)
     (sym (w.beside_send_faults mid) ∙ ap (λ (b : Beside). b.send_faults) beside ∙ w.beside_send_faults old)
     (sent_of (text_in made) (made_is made))
-    (λ total book holds. sent_of (list_text book) (c.list_text-text.ensures total book e.sound (e.opens.honest holds.honest) (e.stands total book holds)))
+    (λ total book holds. sent_of (list_text book) (c.list_text-text.ensures.books total book e.sound (e.opens.honest holds.honest) (e.stands total book holds)))
+    (map entry_of catalog) (sent_of (flat_map entry_line (map entry_of catalog)) c.list_text-text.ensures.records)
+    (lists_entries pages.count (page_count (view old).size) (view old) (view mid) s (map entry_of catalog) e.count e.opens.honest e.pages
+    (λ honest. record { spelled = store.space.spelled e.sound honest; rules = store.space.rules }) (as_long catalog ∙ store.count)
+    (λ honest. records_are (pages_of pages.count (view mid).image) catalog (store.told e.sound honest)))
 
 pub returns-in-Err-clause-ends : goal.returns-in-Err-clause-ends
 returns-in-Err-clause-ends g c =

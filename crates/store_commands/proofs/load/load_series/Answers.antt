@@ -13,6 +13,7 @@ use Rattle.store_commands.specs.Faulting.{counts_unopened_end}
 use Rattle.store_commands.specs.Loaded.{loaded_text}
 use Rattle.store_commands.specs.Traffic.{traffic}
 use Rattle.store_commands.proofs.HoldsAgain.{again_opened, again_sent, again_loaded}
+use Rattle.store_commands.proofs.Held.{opened_book}
 use Rattle.store_commands.proofs.LoadEnds.{unloaded, stopped_ends, sent_ends, stores_on}
 use Rattle.store_commands.proofs.LoadStored.{err_same}
 use Rattle.store_commands.proofs.TurnedAway.{away_never}
@@ -34,7 +35,7 @@ returns-in-Ok-answer-clause-ends g c =
     let new = c.send_text.result.1 in
     let readings = c.in-Ok-answer.readings in
     let e = c.in-Ok.ensures in
-    let s = stores_on name opened.count (view old) (view opened.disk) (view mid) (traffic left sent reads sends old mid) (traffic left sent reads sends opened.disk mid) c.load_store-answer.result.0 (Ok readings) e.count c.in-Ok-answer.is e.opens e.quiet
+    let s = stores_on name opened.count (view old) (view opened.disk) (view mid) (traffic left sent reads sends old mid) (traffic left sent reads sends opened.disk mid) c.load_store-answer.result.0 (Ok readings) e.count c.in-Ok-answer.is e.opens e.quiet (opened_book opened.count (view old) (view opened.disk) e.pages)
     (traffic_over view left sent reads sends w.beside_left w.beside_sent w.beside_read_faults w.beside_send_faults old opened.disk mid e.opens.beside_is) c.load_store-answer.ensures.stores in
     sent_ends name (view old) (view mid) (view new) (traffic left sent reads sends old mid) (left new) (sent new) (reads new) (sends new) readings c.send_text.result.0 c.send_text.ensures.left s (c.send_text.ensures.sends (loaded_text readings) c.loaded_text.ensures)
 
@@ -52,7 +53,7 @@ returns-in-Err-answer-clause-ends g c =
     let new = c.load_store-answer.result.1 in
     let end = c.in-Err-answer.end in
     let e = c.in-Ok.ensures in
-    let s = stores_on name opened.count (view old) (view opened.disk) (view new) (traffic left sent reads sends old new) (traffic left sent reads sends opened.disk new) c.load_store-answer.result.0 (Err end) e.count c.in-Err-answer.is e.opens e.quiet
+    let s = stores_on name opened.count (view old) (view opened.disk) (view new) (traffic left sent reads sends old new) (traffic left sent reads sends opened.disk new) c.load_store-answer.result.0 (Err end) e.count c.in-Err-answer.is e.opens e.quiet (opened_book opened.count (view old) (view opened.disk) e.pages)
     (traffic_over view left sent reads sends w.beside_left w.beside_sent w.beside_read_faults w.beside_send_faults old opened.disk new e.opens.beside_is) c.load_store-answer.ensures.stores in
     stopped_ends name (view old) (view new) (traffic left sent reads sends old new) end s
 
@@ -93,7 +94,7 @@ returns-in-Ok-answer-clause-holds g c = λ other.
     let new = c.send_text.result.1 in
     let readings = c.in-Ok-answer.readings in
     let e = c.in-Ok.ensures in
-    let s = stores_on name opened.count (view old) (view opened.disk) (view mid) (traffic left sent reads sends old mid) (traffic left sent reads sends opened.disk mid) c.load_store-answer.result.0 (Ok readings) e.count c.in-Ok-answer.is e.opens e.quiet
+    let s = stores_on name opened.count (view old) (view opened.disk) (view mid) (traffic left sent reads sends old mid) (traffic left sent reads sends opened.disk mid) c.load_store-answer.result.0 (Ok readings) e.count c.in-Ok-answer.is e.opens e.quiet (opened_book opened.count (view old) (view opened.disk) e.pages)
     (traffic_over view left sent reads sends w.beside_left w.beside_sent w.beside_read_faults w.beside_send_faults old opened.disk mid e.opens.beside_is) c.load_store-answer.ensures.stores in
     let text = c.send_text.ensures.sends (loaded_text readings) c.loaded_text.ensures in
     again_sent (page_count (view old).size) (view old) (view mid) (view new) (λ count. (sent_now (view mid) ≤ count) × (count ≤ sent_now (view new))) text.kept text.time
@@ -113,7 +114,7 @@ returns-in-Err-answer-clause-holds g c = λ other.
     let new = c.load_store-answer.result.1 in
     let end = c.in-Err-answer.end in
     let e = c.in-Ok.ensures in
-    let s = stores_on name opened.count (view old) (view opened.disk) (view new) (traffic left sent reads sends old new) (traffic left sent reads sends opened.disk new) c.load_store-answer.result.0 (Err end) e.count c.in-Err-answer.is e.opens e.quiet
+    let s = stores_on name opened.count (view old) (view opened.disk) (view new) (traffic left sent reads sends old new) (traffic left sent reads sends opened.disk new) c.load_store-answer.result.0 (Err end) e.count c.in-Err-answer.is e.opens e.quiet (opened_book opened.count (view old) (view opened.disk) e.pages)
     (traffic_over view left sent reads sends w.beside_left w.beside_sent w.beside_read_faults w.beside_send_faults old opened.disk new e.opens.beside_is) c.load_store-answer.ensures.stores in
     again_loaded name (page_count (view old).size) (view old) (view new) (traffic left sent reads sends old new) (Err end) (λ is. other (err_same end DiskFault is)) s
 

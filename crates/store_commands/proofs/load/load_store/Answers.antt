@@ -1,12 +1,15 @@
 use Rattle.std.proofs.Common.{◌≢◌, Err, sym, ap, subst, arith}
 use Rattle.chart_world.specs.Faults.{CountsFault, fault_in}
 use Rattle.gate_pages.specs.GatePages.{IsClosed, pages_view}
+use Rattle.gate_pages.specs.Journal.{pages_of}
 use Rattle.run_ends.specs.Faults.{end_fault}
 use Rattle.run_ends.specs.declared.ending.End.TheVariants.{DiskFault}
+use Rattle.series_store.proofs.NameLemmas.{no_record}
 use Rattle.series_store.specs.Shown as shown
 use Rattle.store_commands.specs.Storing.{Stores}
 use Rattle.store_commands.specs.Traffic.{traffic}
 use Rattle.store_commands.specs.TrafficLaws.{read_on}
+use Rattle.store_commands.proofs.Damages.{lacks_record}
 use Rattle.store_commands.proofs.Held.{rests_new}
 use Rattle.store_commands.proofs.Stores.{store_disk}
 use Rattle.store_commands.proofs.LoadStored.{stores_by, sound_after}
@@ -34,7 +37,11 @@ returns-clause-stores g c =
     subst P c.disk_of.ensures.disk (c.disk_of.ensures.rests (sound_after answer (pages_view end_pages.count end_pages.sound (view new)) made.sound made.sound_for other)) in
     let all = stores_by name pages.count end_pages.count pages.sound end_pages.sound (view disk) (view new) (traffic left sent reads sends disk new) made.goes.size made.goes.is_told made.goes.goes_on
     (rests_new pages.count (view disk) (shown.numbers before) (pages.at_rest c.requires) (before.space.spelled c.requires)) answer (shown.total before)
-    made.outcome made.unknown (read_on answer (left disk) (left new) made.within made.whole) made.long (omega (arith, before.space.rules.total_high, made.goes.size)) made.cause closed (λ is. let same = store_disk after before (made.untouched is) in (ap view same, ap left same)) made.goes.sent_is made.goes.sends made.goes.faults in
+    made.outcome made.unknown
+    (λ is. lacks_record pages.count (view disk) (shown.numbers before) name (rests_new pages.count (view disk) (shown.numbers before) (pages.at_rest c.requires) (before.space.spelled c.requires))
+    (λ honest. record { spelled = before.space.spelled c.requires honest; rules = before.space.rules })
+    (λ honest. no_record (pages_of pages.count (view disk).image) (shown.numbers before) (shown.catalog before) name before.count (before.told c.requires honest) (made.lacks is)))
+    (read_on answer (left disk) (left new) made.within made.whole) made.long (omega (arith, before.space.rules.total_high, made.goes.size)) made.cause closed (λ is. let same = store_disk after before (made.untouched is) in (ap view same, ap left same)) made.goes.sent_is made.goes.sends made.goes.faults in
     let D : g.row.W.Denot → Type 0 = λ d. Stores name pages.count (view disk) (view d) (traffic left sent reads sends disk d) answer in
     subst D (sym c.disk_of.ensures.disk) all
 

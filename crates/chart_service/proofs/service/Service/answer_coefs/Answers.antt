@@ -73,6 +73,7 @@ returns-clause-looked g c =
     looked_viewed c.args.number (View c.view_frame.result) ss c.apply.new.self _ _ _ _ _ _ _ _ _ _
     (answered_fits c.args.number spec c.in-Ok.planned c.view_frame.result good c.view_frame.ensures.fields c.requires.number (search rules) c.plan.ensures.few spec.grid.window spec.grid.wide spec.grid.high)
     (opens_view c.args.number spec needed c.view_frame.result ss c.plan.new.self.sessions c.apply.new.self c.view_frame.ensures.session c.plan.ensures.sessions kept c.requires.opened)
+    (λ none. none)
     c.plan.ensures.looks
 
 pub returns-in-Err-TooLarge-clause-stays : goal.returns-in-Err-TooLarge-clause-stays

@@ -46,6 +46,7 @@ returns-clause-looked g c =
     looked_viewed c.args.number (Rows c.rows_frame-frame.result) ss c.apply.new.self _ _ _ _ _ _ _ _ _ _
     (subst FitsRows (sym c.rows_frame-frame.ensures) (rows_fit c.args.number spec c.in-Ok.shown c.requires.number (search rules) spec.grid.wide spec.grid.high fit))
     (opens_rows_of c.args.number spec c.rows_frame-frame.result ss c.rows.new.self.sessions c.apply.new.self (ap (λ (r : RowsFrame). r.session) c.rows_frame-frame.ensures) c.rows.ensures.sessions kept c.requires.opened)
+    (λ none. none)
     c.rows.ensures.looks
 
 pub returns-in-Err-Node-clause-stays : goal.returns-in-Err-Node-clause-stays

@@ -2,6 +2,7 @@ use Rattle.std.proofs.Common.{◌≡◌, ◌≢◌, ◌∙◌, ◌+◌, ◌<◌,
 use Rattle.std.specs.Prelude.{IfErr}
 use Rattle.block_disk.specs.View.{Image}
 use Rattle.stored_book.specs.Standing.{StandsForBook}
+use Rattle.chart_service.specs.EditDamage.{NamesBadForEdit}
 use Rattle.chart_service.specs.EditGroups.{group_end}
 use Rattle.chart_service.specs.Stepping.{IsOutside, NamesBad}
 use Rattle.chart_service.specs.Shown as shown
@@ -9,6 +10,7 @@ use Rattle.series_store.specs.Shown as stored
 use Rattle.chart_service.specs.declared.failure.ServiceError.{ServiceError}
 use Rattle.chart_service.specs.declared.failure.ServiceError.TheVariants.{DiskFault, NoMemory}
 use Rattle.chart_service.proofs.Ends.{err_is}
+use Rattle.chart_service.proofs.BlameLemmas.{group_blames, none_first}
 use Rattle.chart_service.proofs.Faulting.{quiet_any}
 use Rattle.chart_service.proofs.GroupEnds.{group_kept, group_risen, group_steps, frames_more}
 use Rattle.chart_service.proofs.Sending.{error_so, ok_so}
@@ -54,6 +56,8 @@ returns-in-Err g c =
       disk = λ is. group_risen error end told (stored.numbers store) old new c.group_error.ensures no.cause (err_is is);
       quiet = tt;
       quiet_err = λ other. no.quiet_err (λ is. other (c.group_error.ensures ∙ ap group_end is));
+      blames = group_blames error end told told' (stored.catalog store) (stored.numbers store) old new c.group_error.ensures own made.moves no.unchanged no.cause;
+      idle = λ total book t stands. tt;
       bad = group_bad error end told told' (stored.catalog store) (stored.numbers store) old new c.group_error.ensures own made.moves no.unchanged no.cause;
       moves = group_steps told told' old new made.moves;
       goes_on = made.goes_on;
@@ -97,6 +101,8 @@ returns g c =
           cc (no);
       quiet = on_ok result _ yes.quiet;
       quiet_err = quiet_any result (λ e. e ≢ DiskFault) (new.faults ≡ old.faults) yes.quiet;
+      blames = error_so result (λ e. e ≡ NoMemory) (NamesBadForEdit told' new.size new.image) (λ e is. subst (NamesBadForEdit told' new.size new.image) (sym is) tt) ends;
+      idle = λ total book t stands. on_ok result _ (λ none. yes.idle total book t stands (none_first total book (length answers) edits none));
       bad = error_so result (λ e. e ≡ NoMemory) (NamesBad told' new.size new.image) (λ e is. subst (NamesBad told' new.size new.image) (sym is) tt) ends;
       moves = group_steps told told' old new made.moves;
       goes_on = made.goes_on;

@@ -4,6 +4,7 @@ use Rattle.request_lines.specs.declared.requests.Request.{Request}
 use Rattle.request_lines.specs.declared.requests.Request.TheVariants.{View, Zoom, Pan}
 use Rattle.series_book.specs.Edits.{id_of}
 use Rattle.zoom_session.specs.Sessions.{is_open, open_refusal}
+use Rattle.chart_service.specs.Kinds.{MayAnswer}
 use Rattle.chart_service.specs.Looking.{Replying, ReadsByText}
 use Rattle.chart_service.specs.Replies.{Opens, Replies, RepliesToView, RepliesByText}
 use Rattle.chart_service.specs.Stepping.{state_of, series_at, IsStepCause, ReadsFew}
@@ -100,3 +101,28 @@ returns-in-Pan-clause-cause g c =
     let new = c.pan.new.self.store in
     let E : Request → Type 0 = λ r. IfErr c.pan.result (λ error. IsStepCause r error (g.P.Pages.told (stored.pages store)) (stored.catalog store) (stored.numbers store) (g.P.Pages.view (stored.pages store)) (g.P.Pages.view (stored.pages new))) in
     subst E (sym c.in-Pan.is) (pan_why c.pan.result c.in-Pan.session c.in-Pan.by (g.P.Pages.told (stored.pages store)) (stored.catalog store) (stored.numbers store) (g.P.Pages.view (stored.pages store)) (g.P.Pages.view (stored.pages new)) c.pan.ensures.looked.cause)
+
+pub returns-in-Open-clause-may : goal.returns-in-Open-clause-may
+returns-in-Open-clause-may g c =
+    let E : Request → Type 0 = λ r. IfOk c.open.result (λ frame. MayAnswer r frame) in
+    subst E (sym c.in-Open.is) c.open.ensures.may
+
+pub returns-in-View-clause-may : goal.returns-in-View-clause-may
+returns-in-View-clause-may g c =
+    let E : Request → Type 0 = λ r. IfOk c.view_by_text.result (λ frame. MayAnswer r frame) in
+    subst E (sym c.in-View.is) c.view_by_text.ensures.may
+
+pub returns-in-Zoom-clause-may : goal.returns-in-Zoom-clause-may
+returns-in-Zoom-clause-may g c =
+    let E : Request → Type 0 = λ r. IfOk c.zoom.result (λ frame. MayAnswer r frame) in
+    subst E (sym c.in-Zoom.is) c.zoom.ensures.may
+
+pub returns-in-Pan-clause-may : goal.returns-in-Pan-clause-may
+returns-in-Pan-clause-may g c =
+    let E : Request → Type 0 = λ r. IfOk c.pan.result (λ frame. MayAnswer r frame) in
+    subst E (sym c.in-Pan.is) c.pan.ensures.may
+
+pub returns-in-Close-clause-may : goal.returns-in-Close-clause-may
+returns-in-Close-clause-may g c =
+    let E : Request → Type 0 = λ r. MayAnswer r c.close.result in
+    subst E (sym c.in-Close.is) c.close.ensures.may

@@ -10,9 +10,11 @@ use Rattle.series_store.specs.Results.{KeepsBook}
 use Rattle.chart_service.specs.Syncing.{edit_asked}
 use Rattle.stored_book.specs.Standing.{StandsForBook}
 use Rattle.chart_service.specs.Stepping.{StandsAfter, state_of, RepliedTo, IsBeforeOrAfter, ReadsFew}
+use Rattle.chart_service.specs.Kinds.{MayAnswer}
 use Rattle.chart_service.specs.Shown as shown
 use Rattle.series_store.specs.Shown as stored
 use Rattle.chart_service.proofs.Faulting.{counts_step, step_risen, view_risen}
+use Rattle.chart_service.proofs.KindLemmas.{kept_same}
 use Rattle.chart_service.proofs.LookLemmas.{unchanged, unchanged_so, steps_so, moments_so}
 use Rattle.chart_service.proofs.StepLemmas.{AreOwn, look_reply, look_bad, edit_bad, on_ok}
 use Rattle.chart_service.proofs.SyncLemmas.{asks_one}
@@ -72,6 +74,8 @@ returns-in_default g c =
       fits = looked.fits;
       opens = looked.opens;
       sessions = looked.lost;
+      kept = looked.kept;
+      may = c.look-reply.ensures.may;
       unchanged = unchanged_so r (g.P.Pages.told (stored.pages store)) (g.P.Pages.view (stored.pages store)) (g.P.Pages.view (stored.pages new)) (unchanged _ _ _ _ _ _ _ _ _ _ looks);
       idle = λ none. unchanged _ _ _ _ _ _ _ _ _ _ looks;
       same_book = λ total book told stands keeps. let kept = unchanged _ _ _ _ _ _ _ _ _ _ looks in (kept.syncs, kept.writes);
@@ -85,6 +89,14 @@ returns-in_default g c =
       sound = on_ok r (g.P.Pages.view (stored.pages new)).fit fit;
       total = ap (λ (s : Superblock). s.total) looks.superblock;
     }
+
+pub returns-in-Edit-clause-kept : goal.returns-in-Edit-clause-kept
+returns-in-Edit-clause-kept g c = kept_same c.edit.result c.args.self.now.sessions c.edit.new.self.sessions c.edit.ensures.sessions
+
+pub returns-in-Edit-clause-may : goal.returns-in-Edit-clause-may
+returns-in-Edit-clause-may g c =
+    let E : Request → Type 0 = λ r. IfOk c.edit.result (λ frame. MayAnswer r frame) in
+    subst E (sym c.in-Edit.is) c.edit.ensures.may
 
 pub returns-in-Edit-clause-idle : goal.returns-in-Edit-clause-idle
 returns-in-Edit-clause-idle g c = λ none. absurd (asks_one c.args.request.now c.in-Edit.edit c.in-Edit.is none)

@@ -6,10 +6,13 @@ use Rattle.gate_pages.specs.GateLaws.{goes_then}
 use Rattle.gate_pages.specs.Pages.{Quiet}
 use Rattle.series_book.specs.declared.edits.Edit.{Edit}
 use Rattle.series_book.specs.EditLists.{after_edits}
+use Rattle.series_store.specs.Groups.{ChangeNone}
+use Rattle.series_store.specs.Results.{CommitsNone}
 use Rattle.chart_service.specs.EditGroups.{DoesSome, IsAfterSome}
 use Rattle.chart_service.specs.Faulting.{step_fault}
 use Rattle.chart_service.specs.Shown as shown
 use Rattle.chart_service.specs.Stepping.{IsOutside}
+use Rattle.chart_service.proofs.BlameLemmas.{none_later}
 use Rattle.chart_service.proofs.DiskKept.{group_then, risen_since}
 use Rattle.chart_service.proofs.Ends.{err_is, error_is}
 use Rattle.chart_service.proofs.Faulting.{counts_error, fault_goes}
@@ -47,6 +50,13 @@ edits-preserved g c =
       reads = λ total book told stands.
           let h = inv.has total book told stands in
           omega (arith, inv.reads total book told stands, yes.few_reads total (after_edits total book (take (length before) edits)) (inv.moves.told told) h.stands);
+      idle = λ total book told stands none.
+          let h = inv.has total book told stands in
+          let behind = after_edits total book (take (length before) edits) in
+          let C : List Edit → Type 0 = λ l. ChangeNone total behind l → CommitsNone (view mid) (view new) in
+          let so_far = inv.idle total book told stands none in
+          let now_too = subst C tail (yes.idle total behind (inv.moves.told told) h.stands) (none_later total book (length before) edits none) in
+          (now_too.0 ∙ so_far.0, now_too.1 ∙ so_far.1);
       syncs = λ total book told stands.
           let h = inv.has total book told stands in
           let behind = after_edits total book (take (length before) edits) in
@@ -149,3 +159,6 @@ pub returns-clause-faults : goal.returns-clause-faults
 returns-clause-faults g c =
     let inv = c.edits.invariant in
     counts_no_disk (g.P.Pages.view (shown.pages c.args.self.now)) (g.P.Pages.view (shown.pages c.edits.self)) inv.moves.beside inv.quiet
+
+pub returns-clause-idle : goal.returns-clause-idle
+returns-clause-idle g c = λ total book told stands. c.edits.invariant.idle total book told stands

@@ -3,6 +3,8 @@ use Rattle.block_disk.specs.View.{Passes}
 use Rattle.chart_frames.specs.Frames.{Fits}
 use Rattle.gate_pages.specs.Pages.{GoesOn, Quiet}
 use Rattle.series_book.specs.declared.one_series.Series.{Series}
+use Rattle.series_store.specs.Groups.{ChangeNone}
+use Rattle.series_store.specs.Results.{CommitsNone}
 use Rattle.stored_book.specs.Standing.{StandsForBook}
 use Rattle.chart_service.specs.EditGroups.{IsAfterSome, IsEditReply}
 use Rattle.chart_service.specs.Shown as shown
@@ -24,6 +26,7 @@ invariant-edits g l =
       has : (total : ℕ) (book : List Series) → told first → StandsForBook (view first).image total book → HasDone total book l.edits l.frames.items (view pages).image;
       moments : (total : ℕ) (book : List Series) → told first → StandsForBook (view first).image total book → Passes (view first) (view pages) (IsAfterSome total book l.edits) (Quiet (view first));
       reads : (total : ℕ) (book : List Series) → told first → StandsForBook (view first).image total book → (view pages).reads ≤ (view first).reads + 96 * length l.frames.items;
+      idle : (total : ℕ) (book : List Series) → told first → StandsForBook (view first).image total book → ChangeNone total book l.edits → CommitsNone (view first) (view pages);
       syncs : (total : ℕ) (book : List Series) → told first → StandsForBook (view first).image total book → GroupSynced total book l.edits (length l.frames.items) (view first).syncs (view pages).syncs;
       fits : All Fits l.frames.items;
       replies : All IsEditReply l.frames.items;

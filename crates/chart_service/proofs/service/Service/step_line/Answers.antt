@@ -7,6 +7,7 @@ use Rattle.chart_service.specs.Shown as shown
 use Rattle.series_store.specs.Shown as stored
 use Rattle.chart_service.specs.Replies.{line_text}
 use Rattle.chart_service.proofs.TurnLemmas.{line_none, line_reads}
+use Rattle.chart_service.proofs.KindLemmas.{may_bad, may_line, may_long}
 use Rattle.chart_service.proofs.LineLemmas.{long_line}
 use Rattle.chart_service.proofs.StepLemmas.{line_reply, line_moments, bad_line}
 use Rattle.chart_service.proofs.Sending.{text_is}
@@ -73,3 +74,19 @@ returns-in-Ok-clause-cause g c =
     let L : Option (List ℕ) → Type 0 = λ line. IfErr c.step.result (λ e. IsLineCause line e told (stored.catalog store) (stored.numbers store) old new) in
     let R : Result Request ℕ → Type 0 = λ read. IfErr c.step.result (λ e. IsReadCause read e told (stored.catalog store) (stored.numbers store) old new) in
     subst L (sym (text_is c.args.line.now short)) (subst R (sym is) c.step.ensures.cause)
+
+pub returns-then-line-gt-LONGEST_LINE-clause-may : goal.returns-then-line-gt-LONGEST_LINE-clause-may
+returns-then-line-gt-LONGEST_LINE-clause-may g c = may_long c.args.line.now c.refused.result c.if-line-gt-LONGEST_LINE.true c.refused.ensures.frame
+
+pub returns-in-Ok-clause-may : goal.returns-in-Ok-clause-may
+returns-in-Ok-clause-may g c =
+    let short : length c.args.line.now ≤ 8192 = omega arith in
+    let is : read_line c.args.line.now ≡ Ok c.in-Ok.request = c.in-Ok.ensures.reading in
+    may_line c.args.line.now c.in-Ok.request c.step.result short is c.step.ensures.may
+
+pub returns-in-Err-BadLine-clause-may : goal.returns-in-Err-BadLine-clause-may
+returns-in-Err-BadLine-clause-may g c =
+    let short : length c.args.line.now ≤ 8192 = omega arith in
+    let R : LineError → Type 0 = λ e. ReadsAs (read_line c.args.line.now) (Err e) in
+    let is : read_line c.args.line.now ≡ Err c.in-Err-BadLine.at = subst R c.in-Err-BadLine.field-0-is c.in-Err-BadLine.ensures.reading in
+    may_bad c.args.line.now c.in-Err-BadLine.at c.refused-in-Err-BadLine.result short is c.refused-in-Err-BadLine.ensures.frame

@@ -1,7 +1,8 @@
-use Rattle.std.proofs.Common.{ℤ, refl, sym, subst, arith}
+use Rattle.std.proofs.Common.{◌≡◌, ◌∙◌, ℤ, Some, refl, sym, ap, subst, arith}
 use Rattle.whole_number.specs.Range.{IsValue}
 use Rattle.whole_number.specs.SlotTimes.{EndsInTime}
 use Rattle.series_store.proofs.AskLemmas.{own_store, info_is, start_same}
+use Rattle.series_catalog.specs.declared.stored_series.StoredSeries.{StoredSeries}
 use Rattle.series_store.proofs.store.Store.info.Goals as goal
 
 pub returns-clause-step : goal.returns-clause-step
@@ -43,3 +44,16 @@ returns-clause-few g c = omega (arith, c.requires, c.args.self.now.catalog.few)
 
 pub returns-clause-proper : goal.returns-clause-proper
 returns-clause-proper g c = (c.args.self.now.fits c.args.id c.series-series.result.now c.series-series.ensures).span
+
+pub returns-clause-stored : goal.returns-clause-stored
+returns-clause-stored g c = λ series there.
+    let one = c.series-series.result.now in
+    let is = c.args.self.now.fits c.args.id one c.series-series.ensures in
+    let both : Some one ≡ Some series = sym c.series-series.ensures ∙ there in
+    let same : one ≡ series = cc in
+    record {
+      start = start_same one.start is.start ∙ ap (λ (s : StoredSeries). s.start) same;
+      step = ap (λ (s : StoredSeries). s.step) same;
+      scale = ap (λ (s : StoredSeries). s.scale) same;
+      slots = ap (λ (s : StoredSeries). s.tree.slots) same;
+    }

@@ -1,8 +1,9 @@
 use Rattle.std.proofs.Common.{◌≡◌, ℕ, Some, sym, ap, subst, ◌∙◌}
 use Rattle.std.specs.List.{slice_get}
 use Rattle.series_book.specs.declared.one_series.Series.{Series}
-use Rattle.series_store.specs.Asking.{IsInfo}
+use Rattle.series_store.specs.Asking.{IsInfo, IsNamedAt}
 use Rattle.series_store.proofs.AskLemmas.{own_store, same_id, none_so}
+use Rattle.series_store.proofs.NameLemmas.{place_named, place_none}
 use Rattle.series_store.proofs.store.Store.series.Goals as goal
 
 pub returns-in_err-id-clause-info : goal.returns-in_err-id-clause-info
@@ -19,3 +20,11 @@ returns-clause-info g c = λ total book fit told stands.
       sym same ∙ sym c.in_ok-id.ensures.id ∙ ap (λ n. Some n) (sym c.info.ensures.id),
       subst P (sym c.info.ensures.id) (λ series there. c.info.ensures.info total book series fit told stands there),
     )
+
+pub returns-in_err-id-clause-named : goal.returns-in_err-id-clause-named
+returns-in_err-id-clause-named g c = none_so c.from_residual.result _ _ c.from_residual.ensures (place_none c.args.name.now c.args.self.now.catalog.series.items (sym c.in_err-id.ensures.id))
+
+pub returns-clause-named : goal.returns-clause-named
+returns-clause-named g c =
+    let P : ℕ → Type 0 = λ n. IsNamedAt c.args.self.now.catalog.series.items c.args.name.now n in
+    subst P (sym c.info.ensures.id) (place_named c.args.name.now c.args.self.now.catalog.series.items _ (sym c.in_ok-id.ensures.id))

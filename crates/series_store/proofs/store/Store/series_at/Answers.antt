@@ -1,7 +1,8 @@
-use Rattle.std.proofs.Common.{arith, ◌∙◌}
+use Rattle.std.proofs.Common.{◌≡◌, ◌∙◌, Some, sym, ap, arith}
 use Rattle.std.proofs.lemmas.Option.{slice_get_past}
 use Rattle.series_store.proofs.AskLemmas.{own_store, kept_as, start_same}
 use Rattle.series_store.proofs.BookCountLemmas.{some_at}
+use Rattle.series_catalog.specs.declared.stored_series.StoredSeries.{StoredSeries}
 use Rattle.series_store.proofs.store.Store.series_at.Goals as goal
 
 pub returns-then-from-len-clause-books : goal.returns-then-from-len-clause-books
@@ -19,5 +20,18 @@ returns-clause-books g c = λ total book fit told stands.
       there = it.1;
       name = kept.record_is.name;
       axis = record { start = start_same c.info-info.result.start c.info-info.ensures.start ∙ info.start; step = info.step; slots = info.slots };
+      scale = info.scale;
+    }
+
+pub returns-clause-stored : goal.returns-clause-stored
+returns-clause-stored g c = λ one there.
+    let info = c.info-info.ensures.stored one there in
+    let both : Some c.series.result.now ≡ Some one = sym c.series.ensures ∙ there in
+    let same : c.series.result.now ≡ one = cc in
+    record {
+      name = ap (λ (s : StoredSeries). s.name) same;
+      start = start_same c.info-info.result.start c.info-info.ensures.start ∙ info.start;
+      step = info.step;
+      slots = info.slots;
       scale = info.scale;
     }

@@ -1,6 +1,7 @@
 use Rattle.std.proofs.Common.{◌≤◌, length, refl, arith}
 use Rattle.line_runs.specs.Given.{Pause}
 use Rattle.chart_service.specs.Shown as shown
+use Rattle.served_lines.proofs.KeepLemmas.{none_spelled}
 use Rattle.served_lines.proofs.OtherLemmas.{group_leaves, group_stops, pause_does}
 use Rattle.served_lines.proofs.line_work.TurnsVecEditLineWorkServiceAnswerEnd.pause.Goals as goal
 
@@ -14,7 +15,7 @@ returns-clause-does g c = λ stand stands.
     (g.P.Streams.sent (shown.pages it)) next.kept.ghost_name c.settle.ensures.same_reference next.kept.now next.edits.items (shown.IsTold
     new)
     (shown.view new) (shown.sessions new) (g.P.Streams.sent (shown.pages new))
-    c.settle.result stand stands c.settle.ensures.gives c.settle.ensures.done
+    c.settle.result stand stands (none_spelled next.edits.items c.settle.ensures.none) c.settle.ensures.gives c.settle.ensures.done
 
 pub returns-clause-stops : goal.returns-clause-stops
 returns-clause-stops g c = λ stand stands.
