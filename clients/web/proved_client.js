@@ -17,6 +17,7 @@ const KINDS = ["", "done", "refused", "opened", "closed", "view", "rows", "live"
 const [MORE, FRAME, BAD, MISSING, MISFIT, UNKNOWN, MEMORY] = Array.from({ length: 7 }, (_, code) => code);
 const HANDLE = 8; // bytes
 const ANSWER = 96;
+const [LOW, HIGH] = [64, 72]; // where the least and the greatest value stand in an answer
 const LEAST_ROOM = 65536;
 
 /** A number where it is exact, as in chart_client.js. */
@@ -61,6 +62,21 @@ export class BitPicture {
   }
 }
 
+/** The values of columns from 0 on, as the module tells them: an answer for each. They are read where they are asked for. */
+class ColumnValues {
+  constructor(bytes) {
+    this.answers = new DataView(bytes.buffer);
+  }
+
+  get(x) {
+    const at = ANSWER * x;
+    if (!(at >= 0 && at < this.answers.byteLength) || this.answers.getUint32(at, true) !== FRAME) {
+      return undefined;
+    }
+    return [this.answers.getBigInt64(at + LOW, true), this.answers.getBigInt64(at + HIGH, true)];
+  }
+}
+
 export class ProvedClient {
   constructor(module) {
     this.calls = new WebAssembly.Instance(module, {}).exports;
@@ -97,18 +113,10 @@ export class ProvedClient {
 
   /** The least and the greatest value of each column of the picture drawn last that has any. */
   values(w) {
-    const found = new Map();
-    const [handle, answer, { chart_column: column }] = [BigInt(this.handle), BigInt(this.answer), this.calls];
-    const view = new DataView(this.calls.memory.buffer, this.answer, ANSWER); // chart_column takes no memory
-    guarded(() => {
-      for (let x = 0; x < w; x += 1) {
-        column(handle, x, answer);
-        if (view.getUint32(0, true) === FRAME) {
-          found.set(x, [view.getBigInt64(64, true), view.getBigInt64(72, true)]);
-        }
-      }
-    });
-    return found;
+    const size = ANSWER * w;
+    const at = this.buffer(size);
+    this.require(this.call("chart_columns", BigInt(at), BigInt(w)));
+    return new ColumnValues(this.bytes(at, size).slice());
   }
 
   /** The cover of the view that `next` gave and that isn't drawn yet, after so many of its coefficients. */

@@ -39,6 +39,7 @@ def load(path):
         "cover": ([c_void_p, c_uint32, POINTER(Answer)], None),
         "picture": ([c_void_p, c_void_p, c_size_t], c_bool),
         "column": ([c_void_p, c_uint32, POINTER(Answer)], None),
+        "columns": ([c_void_p, c_void_p, c_size_t], c_bool),
     }
     for name, (taken, given) in shapes.items():
         call = getattr(calls, f"chart_{name}")
@@ -82,6 +83,18 @@ class ByHand:
         return view.cover(self.shown, taken)
 
 
+class ColumnValues:
+    """The least and the greatest value of each column from 0 on that has any, by an answer of the library for each."""
+
+    def __init__(self, answers):
+        self.answers = answers
+
+    def get(self, x):
+        if not 0 <= x < len(self.answers) or self.answers[x].code != FRAME:
+            return None
+        return self.answers[x].lo, self.answers[x].hi
+
+
 class Proved:
     """The proved client, over a stream. One that has raised `Stopped` takes nothing more."""
 
@@ -122,13 +135,9 @@ class Proved:
 
     def values(self, w):
         """The least and the greatest value of each column of the picture drawn last that has any."""
-        call, handle, answer, found = self.calls.chart_column, byref(self.handle), self.answer, {}
-        told = byref(answer)
-        for x in range(w):
-            call(handle, x, told)
-            if answer.code == FRAME:
-                found[x] = answer.lo, answer.hi
-        return found
+        answers = (Answer * w)()
+        require(self.calls.chart_columns(byref(self.handle), answers, w))
+        return ColumnValues(answers)
 
     def cover(self, view, taken):
         """The cover of a view that isn't drawn yet, once so many of its coefficients are taken."""

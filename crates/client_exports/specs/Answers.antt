@@ -1,6 +1,7 @@
 -- What an answer's numbers tell.
-use Rattle.std.specs.Prelude.{ℕ, ◌≡◌, length, Bool, false, if◌then◌else◌, List, ◌++◌, Option, None, Some, Result, Ok, Err}
+use Rattle.std.specs.Prelude.{ℕ, ◌≡◌, ◌<◌, ◌^◌, length, get_or, Bool, false, if◌then◌else◌, List, ◌++◌, Option, None, Some, Result, Ok, Err}
 use Rattle.om3_coeff.specs.declared.span.Span.{Span}
+use Rattle.m4_groups.specs.declared.row.Row.{Row}
 use Rattle.chart_frames.specs.declared.frame.Frame.{Frame}
 use Rattle.chart_frames.specs.declared.frame.Frame.TheVariants as frame
 use Rattle.chart_frames.specs.declared.frame.ViewFrame.{ViewFrame}
@@ -78,6 +79,14 @@ TellsDrawn (Err fault.NoMemory) a = a.code ≡ 6
 abbrev pub TellsSpan : Option Span → Answer → Type 0
 TellsSpan None a = a.code ≡ 0
 TellsSpan (Some span) a = (a.code ≡ 1) × (a.lo ≡ span.min) × (a.hi ≡ span.max)
+
+-- the same of a column by its number; one of 2^32 or more isn't looked for
+abbrev pub TellsColumn : List Row → ℕ → Answer → Type 0
+TellsColumn rows x a = x < 2 ^ 32 → TellsSpan (span_in rows x) a
+
+-- each answer tells the column of its place
+abbrev pub TellColumns : List Row → List Answer → Type 0
+TellColumns rows answers = (x : ℕ) (d : Answer) → x < length answers → TellsColumn rows x (get_or answers x d)
 
 -- A frame is taken in hand, which the answer tells.
 pub record Nexted (old : State) (a : Answer) (new : State) : Type 0 where

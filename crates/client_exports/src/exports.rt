@@ -2,7 +2,7 @@
 
 ghost use Rattle.std.specs.Prelude.{◌≡◌, ◌≢◌, None, IfSome, IsSome, true, false, length};
 ghost use Rattle.client_exports.specs.Steps.{IsFresh};
-ghost use Rattle.client_exports.specs.Answers.{Answers, Feeds, Nexted, Drawn, Covered, Spanned};
+ghost use Rattle.client_exports.specs.Answers.{Answers, Feeds, Nexted, Drawn, Covered, Spanned, TellColumns};
 
 use crate::answer::Answer;
 use crate::handle::Handle;
@@ -121,4 +121,21 @@ pub extern "C" fn chart_column(alloc: Global, handle: &mut Handle, column: u32, 
     };
     *answer = Answer::of_span(boxed.span_of(column));
     handle.put(alloc, boxed);
+}
+
+/// Tells of each column from 0 on, as many as there is room for, what `chart_column` tells of it, in one call. Where
+/// the handle is closed nothing is written.
+#[unsafe(no_mangle)]
+pub extern "C" fn chart_columns(alloc: Global, handle: &mut Handle, out: &mut [Answer]) -> bool
+    ensures kept { handle.new.value ≡ handle.old.value }
+    ensures told { result ≡ true → IsSome handle.old.value × IfSome handle.old.value (λ stream. TellColumns stream.columns out.new) }
+    ensures unwritten { result ≡ false → out.new ≡ out.old }
+    ensures closed { result ≡ false → handle.old.value ≡ None }
+{
+    let Some(boxed) = handle.take(alloc) else {
+        return false;
+    };
+    boxed.tell_columns(out);
+    handle.put(alloc, boxed);
+    true
 }

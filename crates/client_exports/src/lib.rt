@@ -3,7 +3,7 @@
 //! A caller holds a `Handle`: eight bytes, 0 where it is closed. It feeds the bytes of a stream in pieces. `chart_next`
 //! takes the next frame in hand and tells its numbers, `chart_cover` draws a cover of it, and `chart_draw` has the client
 //! accept it and draws its picture. What was drawn last is copied out by `chart_picture`, as the bytes of a PBM, and
-//! `chart_column` tells the least and the greatest value of a column of the last picture.
+//! `chart_column` tells the least and the greatest value of a column of the last picture, `chart_columns` those of many.
 //!
 //! No call asks for more than its types say: that the handle's bytes are as the last call left them, that the bytes of
 //! a slice are there, and that one call is made at a time. A call of a closed handle says so.

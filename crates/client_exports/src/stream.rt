@@ -1,3 +1,4 @@
+use crate::answer::Answer;
 use crate::cover::cover_of;
 use crate::fault::Fault;
 use chart_client::{Client, ColumnSpans};
@@ -34,6 +35,7 @@ impl Stream {
     ghost use Rattle.std.specs.Prelude.{◌≡◌, ◌++◌, None, length, IfOk, OnOk, OnErr};
     ghost use Rattle.chart_client.specs.Spanning.{span_in};
     ghost use Rattle.client_exports.specs.Steps.{IsFresh, Hands, Draws, DrawsColumns, Covers};
+    ghost use Rattle.client_exports.specs.Answers.{TellsColumn, TellColumns};
 
     /// A stream before any byte.
     pub(crate) fn new(alloc: Global) -> Result<Stream, AllocError>
@@ -135,5 +137,24 @@ impl Stream {
         ensures { result ≡ span_in self.now.columns column }
     {
         self.columns.span_of(column)
+    }
+
+    /// Tells of each column from 0 on the least and the greatest value.
+    pub(crate) fn tell_columns(&self, out: &mut [Answer])
+        ensures { TellColumns self.now.columns out.new }
+    {
+        for x in 0..out.len() {
+            out[x] = self.told_of(x);
+        }
+    }
+
+    // The least and the greatest value of a column, where it can be one.
+    fn told_of(&self, x: usize) -> Answer
+        ensures { TellsColumn self.now.columns x result }
+    {
+        match u32::try_from(x) {
+            Ok(column) => Answer::of_span(self.span_of(column)),
+            Err(_) => Answer::coded(0),
+        }
     }
 }
