@@ -236,15 +236,22 @@ abbrev pub is_padded : ℕ → List ℕ → Bool
 is_padded size bytes = is_name (take size bytes) && list_all is_blank (drop size bytes)
 
 -- a name's length, and the name in 31 bytes
+unfoldable pub padded_field : ℕ → Format → Format
+padded_field size next = field 31 (λ n. is_padded size (number_bytes 31 n)) (λ n. next)
+
 unfoldable pub name_fields : Format → Format
-name_fields next = field 1 (within 1 31) (λ size. field 31 (λ n. is_padded size (number_bytes 31 n)) (λ n. next))
+name_fields next = field 1 (within 1 31) (λ size. padded_field size next)
 
 unfoldable pub scale_field : Format → Format
 scale_field next = field 1 (λ scale. nat_le scale 9) (λ scale. next)
 
--- what a catalog says of one series: its name and scale, its slots, and its least and greatest stored value
+-- a series' scale and slots, and its least and greatest stored value
+unfoldable pub facts_fields : Format → Format
+facts_fields next = scale_field (axis_fields (λ slots. stored_fields slots next))
+
+-- what a catalog says of one series
 unfoldable pub listed_fields : Format → Format
-listed_fields next = name_fields (scale_field (axis_fields (λ slots. stored_fields slots next)))
+listed_fields next = name_fields (facts_fields next)
 
 -- so many series
 unfoldable pub series_list : ℕ → Format
@@ -255,13 +262,22 @@ series_list (suc count) = listed_fields (series_list count)
 unfoldable pub listed_count_fields : ℕ → (ℕ → Format) → Format
 listed_count_fields length next = field 2 (λ count. 11 + 70 * count == length) next
 
--- the pages there are, those in use, and all series
+-- the pages there are, those in use, and the number of series
+unfoldable pub pages_fields : ℕ → (ℕ → Format) → Format
+pages_fields length next = word_field (λ total. word_field (λ used. listed_count_fields length next))
+
 unfoldable pub catalog_fields : ℕ → Format
-catalog_fields length = word_field (λ total. word_field (λ used. listed_count_fields length series_list))
+catalog_fields length = pages_fields length series_list
 
 -- whether values are left, and the time from which to ask for them, 0 where none are
+unfoldable pub next_time_field : ℕ → Format → Format
+next_time_field more next = signed (λ t. is_time t && (more == 1 || is_zero t)) (λ t. next)
+
+unfoldable pub more_field : (ℕ → Format) → Format
+more_field next = field 1 (λ more. nat_le more 1) next
+
 unfoldable pub next_fields : Format → Format
-next_fields next = field 1 (λ more. nat_le more 1) (λ more. signed (λ t. is_time t && (more == 1 || is_zero t)) (λ t. next))
+next_fields next = more_field (λ more. next_time_field more next)
 
 -- the numbers of runs and of values: each run has a value, and both are as the length says
 abbrev pub are_counts : ℕ → ℕ → ℕ → Bool
@@ -297,10 +313,16 @@ unfoldable pub values_list : ℕ → Format
 values_list zero = stop
 values_list (suc count) = value_field (λ v. values_list count)
 
--- the series, where more values are, the runs of slots, and the values in these slots
+-- the series, where more values are, and the numbers of runs and of values
+unfoldable pub asked_fields : ℕ → (ℕ → ℕ → Format) → Format
+asked_fields length next = series_fields (next_fields (counts_fields length next))
+
+-- the runs of slots, and the values in these slots
+unfoldable pub stored_values : ℕ → ℕ → Format
+stored_values runs values = runs_fields 0 MOST_SLOTS values runs (values_list values)
+
 unfoldable pub values_fields : ℕ → Format
-values_fields length =
-    series_fields (next_fields (counts_fields length (λ runs values. runs_fields 0 MOST_SLOTS values runs (values_list values))))
+values_fields length = asked_fields length stored_values
 
 -- the number of clears, the pages in use, and whether clears are left
 unfoldable pub swept_fields : Format

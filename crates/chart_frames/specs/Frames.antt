@@ -236,12 +236,16 @@ pub record FitsOpened (session cache : ℕ) : Type 0 where
   pub low : 1 ≤ cache
   pub high : cache ≤ 131072
 
+-- a series' scale and slots, and its least and greatest stored value
+pub record FitFacts (scale : ℕ) (start : ℤ) (step slots has : ℕ) (rmin rmax : ℤ) : Type 0 where
+  pub decimals : scale ≤ 9
+  pub axis : IsAxis start step slots
+  pub stored : IsStored slots has rmin rmax
+
 -- what a catalog says of one series
 pub record FitsListed (s : ListedSeries) : Type 0 where
   pub named : IsTrue (is_name s.name)
-  pub decimals : s.scale ≤ 9
-  pub axis : IsAxis s.start s.step s.slots
-  pub stored : IsStored s.slots s.has s.rmin s.rmax
+  pub facts : FitFacts s.scale s.start s.step s.slots s.has s.rmin s.rmax
 
 pub record FitsCatalog (c : CatalogFrame) : Type 0 where
   pub pages : c.total < 2 ^ 32

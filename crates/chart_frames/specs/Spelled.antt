@@ -72,14 +72,13 @@ unfoldable pub name_before : List ℕ → List ℕ → List ℕ
 name_before name tail = number_bytes 1 (length name) ++ (number_bytes 31 (name_number name) ++ tail)
 
 -- what a catalog says of a series behind its name, and what follows
-unfoldable pub facts_before : ListedSeries → List ℕ → List ℕ
-facts_before s tail =
-    number_bytes 1 s.scale ++ (signed_bytes s.start ++ (number_bytes 4 s.step ++ (number_bytes 8 s.slots
-    ++ (number_bytes 1 s.has ++ two_before s.rmin s.rmax tail))))
+unfoldable pub facts_before : ℕ → ℤ → ℕ → ℕ → ℕ → ℤ → ℤ → List ℕ → List ℕ
+facts_before scale start step slots has rmin rmax tail =
+    number_bytes 1 scale ++ (signed_bytes start ++ (number_bytes 4 step ++ (number_bytes 8 slots ++ (number_bytes 1 has ++ two_before rmin rmax tail))))
 
 -- what a catalog says of a series, and what follows
 abbrev pub listed_before : ListedSeries → List ℕ → List ℕ
-listed_before s tail = name_before s.name (facts_before s tail)
+listed_before s tail = name_before s.name (facts_before s.scale s.start s.step s.slots s.has s.rmin s.rmax tail)
 
 abbrev pub series_before : List ListedSeries → List ℕ → List ℕ
 series_before [] tail = tail
@@ -103,8 +102,8 @@ values_before [] tail = tail
 values_before (v ∷ vs) tail = signed_bytes v ++ values_before vs tail
 
 -- the series and where more values are, and what follows
-unfoldable pub asked_before : ValuesFrame → List ℕ → List ℕ
-asked_before v tail = number_bytes 2 v.series ++ (number_bytes 1 (number_of_flag v.more) ++ (signed_bytes v.next ++ tail))
+unfoldable pub asked_before : ℕ → ℕ → ℤ → List ℕ → List ℕ
+asked_before series more next tail = number_bytes 2 series ++ (number_bytes 1 more ++ (signed_bytes next ++ tail))
 
 -- the numbers of runs and of values, and what follows
 unfoldable pub counts_before : ℕ → ℕ → List ℕ → List ℕ
@@ -115,7 +114,7 @@ abbrev pub report_before : Report → List ℕ → List ℕ
 report_before (Catalog c) tail = framed (11 + 70 * length c.series) 8 (catalog_before c.total c.used (length c.series) (series_before c.series tail))
 report_before (Values v) tail =
     framed (16 + (16 * length v.runs + 8 * length v.values)) 9
-    (asked_before v (counts_before (length v.runs) (length v.values) (runs_before v.runs (values_before v.values tail))))
+    (asked_before v.series (number_of_flag v.more) v.next (counts_before (length v.runs) (length v.values) (runs_before v.runs (values_before v.values tail))))
 report_before (Swept clears used more) tail =
     framed 8 10 (number_bytes 2 clears ++ (number_bytes 4 used ++ (number_bytes 1 (number_of_flag more) ++ tail)))
 

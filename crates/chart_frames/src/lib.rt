@@ -14,6 +14,7 @@
 //! it needs, is left to the layers above.
 #![tactic(auto)]
 
+mod catalog_reading;
 mod coefficients;
 mod decoder;
 mod encoding;
@@ -23,14 +24,15 @@ mod frame;
 mod heads;
 mod item_stop;
 pub mod laws;
+mod lengths;
 mod limits;
 mod opening;
 mod place;
 mod report_encoding;
 mod report_lists;
-mod report_reading;
 mod reports;
 mod rows;
+mod values_reading;
 
 pub use decoder::Decoder;
 pub use encoding::encode;
