@@ -232,7 +232,7 @@ kind_fill length kind h =
     (λ h. pick (length - 1) (eqb kind 7) _ _ _ _ h (λ e. let is = eqb-true length 6 e in (omega (arith, is), λ session _. (omega (arith, is), λ flag _. omega (arith, is))))
     (λ h. pick (length - 1) (eqb kind 8) _ _ _ _ h (λ e. catalog_fill length (leb-true 11 length (and_parts (leb 11 length) _ e).0))
     (λ h. pick (length - 1) (eqb kind 9) _ _ _ _ h (λ e. values_fill length (values_long length e))
-    (λ h. let is = eqb-true length 8 (last_pick (eqb kind 10) (eqb length 8) h) in (omega (arith, is), λ clears _. (omega (arith, is), λ used _. (omega (arith, is), λ more _. omega (arith, is))))))))))))))
+    (λ h. let is = eqb-true length 8 (last_pick (eqb kind 10) (eqb length 8) h) in (omega (arith, is), λ clears _. (omega (arith, is), λ used _. (omega (arith, is), λ more _. omega (arith, is)))))))))))))
 
 length_some : (length kind : ℕ) → is_length length ≡ true → 1 ≤ length
 length_some zero kind h = absurd (cc (h))

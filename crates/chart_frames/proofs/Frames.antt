@@ -1,17 +1,17 @@
 -- Frames and their spellings.
-use Rattle.std.proofs.Common.{◌≡◌, ℕ, ℤ, zero, suc, ◌+◌, ◌-◌, ◌*◌, ◌/◌, ◌%◌, ◌^◌, ◌<◌, ◌≤◌, Bool, true, false, not, ◌||◌, cond, eqb, List, [], ◌∷◌, ◌++◌, length, get_or, drop, Option, Some, None, Ok, refl, sym, ap, ◌∙◌, subst, arith, append_assoc}
-use Rattle.std.specs.Int.{w64, cast_signed}
+use Rattle.std.proofs.Common.{◌≡◌, ℕ, ℤ, zero, suc, ◌+◌, ◌-◌, ◌*◌, ◌/◌, ◌%◌, ◌^◌, ◌<◌, ◌≤◌, Bool, true, false, not, ◌||◌, cond, eqb, List, [], ◌∷◌, ◌++◌, length, get_or, drop, Option, Some, None, Ok, refl, sym, ap, ◌∙◌, subst, arith}
 use Rattle.om3_coeff.specs.declared.key.Key.{Key}
 use Rattle.om3_coeff.specs.declared.coef.Coef.{Coef}
 use Rattle.om3_coeff.specs.Keys.{height, IsNode}
 use Rattle.m4_groups.specs.declared.row.Row.{Row}
-use Rattle.whole_number.specs.Range.{IsValue}
 use Rattle.chart_frames.specs.declared.frame.Frame.{Frame}
 use Rattle.chart_frames.specs.declared.frame.Frame.TheVariants.{Done, Refused, Opened, Closed, View, Rows, Live}
 use Rattle.chart_frames.specs.declared.frame.Frame.TheVariants as frames
+use Rattle.chart_frames.specs.declared.reports.Report.{Report}
+use Rattle.chart_frames.specs.declared.reports.Report.TheVariants.{Catalog, Values, Swept}
 use Rattle.chart_frames.specs.declared.frame.ViewFrame.{ViewFrame}
 use Rattle.chart_frames.specs.declared.frame.RowsFrame.{RowsFrame}
-use Rattle.chart_frames.specs.Format.{Format, stop, field, number_bytes, spell, after, Meets, IsEnd}
+use Rattle.chart_frames.specs.Format.{Format, stop, spell, after, Meets, IsEnd}
 use Rattle.chart_frames.specs.Reading.{read}
 use Rattle.chart_frames.specs.Fields.{session_fields, side_field, side_fields, series_fields, window_fields, range_fields, axis_fields, slots_field, has_field, rmin_field, rmax_field, stored_fields, count_fields, key_field, difference_field, coef_fields, coefs_fields, place_fields, source_fields, view_fields, row_count_fields, column_field, value_field, at_most_field, at_least_field, between_field, row_fields, rows_fields, head_fields, done_fields, refused_fields, opened_fields, flag_fields, live_fields, kind_fields, length_field, kind_field, frame_fields}
 use Rattle.chart_frames.specs.Frames.{unsigned, key_number, flags_of, coefs_numbers, all_rows_numbers, view_numbers, rows_numbers, numbers_of, report_numbers, spelling, Fits, IsCoef, FitsCoef, FitCoefs, FitsViewHead, FitsView, FitsRow, FitRows, FitsRowsHead, FitsRows}
@@ -20,7 +20,7 @@ use Rattle.chart_frames.specs.Items.{last_key, last_column}
 use Rattle.chart_frames.proofs.FormatLaws.{spell_before, spelled_before, passed_all, read_again, one_reading}
 use Rattle.chart_frames.proofs.Items.{coefs_fields-end, rows_fields-end}
 use Rattle.chart_frames.proofs.Orders.{index_bound, level_of-number, index_of-number}
-use Rattle.chart_frames.proofs.Reports.{from_signed, number_of, value_round, report_meets, report_ends, report_spelled, report_from, report_back}
+use Rattle.chart_frames.proofs.ReportNumbers.{from_signed, number_of, value_round, report_meets, report_ends, report_spelled, report_from, report_back}
 use Rattle.chart_frames.proofs.Meets.{round, view_numbers_meet, view_numbers_after, rows_numbers_meet, rows_numbers_after, done_meets, refused_meets, opened_meets, closed_meets, live_meets}
 
 -- ---- the numbers meet the format
@@ -186,7 +186,7 @@ frame_from ns =
     (cond (eqb (number_of ns 1) 4) (Closed (number_of ns 2))
     (cond (eqb (number_of ns 1) 5) (View (view_from ns))
     (cond (eqb (number_of ns 1) 6) (Rows (rows_frame_from ns))
-    (cond (eqb (number_of ns 1) 7) (Live (number_of ns 2) (eqb (number_of ns 3) 1)) (report_from ns)))))))
+    (cond (eqb (number_of ns 1) 7) (Live (number_of ns 2) (eqb (number_of ns 3) 1)) (frames.Report (report_from ns))))))))
 
 abbrev key_at : ℕ → ℕ → Key
 key_at level index = record { level = level; index = index }
@@ -279,7 +279,9 @@ frame_back (View v) h = ap View (view_back v h)
 frame_back (Rows r) h = ap Rows (rows_frame_back r h)
 frame_back (Live session true) h = refl
 frame_back (Live session false) h = refl
-frame_back (frames.Report r) h = report_back r h
+frame_back (frames.Report (Catalog c)) h = ap (λ (r : Report). frames.Report r) (report_back (Catalog c) h)
+frame_back (frames.Report (Values v)) h = ap (λ (r : Report). frames.Report r) (report_back (Values v) h)
+frame_back (frames.Report (Swept clears used more)) h = ap (λ (r : Report). frames.Report r) (report_back (Swept clears used more) h)
 
 -- two frames at the front of the same bytes are one, and so is what follows
 pub same_frame : (f g : Frame) (x y : List ℕ) → Fits f → Fits g → spelling f ++ x ≡ spelling g ++ y → (f ≡ g) × (x ≡ y)

@@ -5,7 +5,7 @@ pub mod Orders
 pub mod Items
 pub mod Admits
 pub mod Meets
-pub mod Reports
+pub mod ReportNumbers
 pub mod Fills
 pub mod Frames
 pub mod Places

@@ -1,10 +1,10 @@
 -- Reports that were read, part by part.
-use Rattle.std.proofs.Common.{◌≡◌, ℕ, ℤ, zero, suc, pos, ◌+◌, ◌-◌, ◌*◌, ◌/◌, ◌%◌, ◌^◌, ◌<◌, ◌≤◌, inl, inr, Bool, true, false, ◌&&◌, ◌||◌, cond, leb, eqb, List, [], ◌∷◌, ◌++◌, length, get_or, take, drop, Result, Ok, Err, refl, sym, ap, ◌∙◌, subst, arith, append_assoc, length-append}
-use Rattle.std.specs.Prelude.{All, nat_le}
+use Rattle.std.proofs.Common.{◌≡◌, ℕ, ℤ, zero, suc, pos, ◌+◌, ◌-◌, ◌*◌, ◌/◌, ◌%◌, ◌^◌, ◌<◌, ◌≤◌, inl, inr, Bool, true, false, cond, leb, eqb, List, [], ◌∷◌, ◌++◌, length, take, drop, Result, Err, refl, sym, ap, ◌∙◌, subst, arith, append_assoc, length-append}
+use Rattle.std.specs.Prelude.{All}
 use Rattle.std.specs.Bool.{IsTrue}
 use Rattle.std.specs.List.{list_all}
-use Rattle.std.proofs.lemmas.Bool.{and_parts, and_from, or_cases, leb-true, eqb-true}
-use Rattle.std.proofs.lemmas.List.{take-append-drop, append-nil}
+use Rattle.std.proofs.lemmas.Bool.{and_parts, or_cases, leb-true, eqb-true}
+use Rattle.std.proofs.lemmas.List.{take-append-drop, length-take-le, append-nil}
 use Rattle.std.proofs.lemmas.List.Elements.{All-push}
 use Rattle.series_book.specs.Names.{is_name}
 use Rattle.whole_number.specs.Range.{IsValue, IsTime}
@@ -16,16 +16,17 @@ use Rattle.chart_frames.specs.declared.item_stop.ItemStop.TheVariants as stops
 use Rattle.chart_frames.specs.declared.reports.ListedSeries.{ListedSeries}
 use Rattle.chart_frames.specs.declared.reports.Run.{Run}
 use Rattle.chart_frames.specs.declared.values_reading.Room.{Room}
-use Rattle.chart_frames.specs.Format.{Format, stop, field, number_bytes, number_in}
+use Rattle.chart_frames.specs.Format.{Format, number_bytes}
 use Rattle.chart_frames.specs.Reading.{read}
 use Rattle.chart_frames.specs.Fields.{is_catalog_length, is_blank, is_padded, padded_field, listed_fields, series_list, are_counts, lesser, run_fields, runs_fields, value_field, values_list}
-use Rattle.chart_frames.specs.Frames.{number_of_flag, Fits, FitsListed, FitsRun, FitRuns}
+use Rattle.chart_frames.specs.Frames.{number_of_flag, name_number, Fits, FitsListed, FitRuns}
 use Rattle.chart_frames.specs.Spelled.{signed_bytes, framed, listed_before, series_before, catalog_before, run_before, runs_before, values_before, asked_before, counts_before, frame_before}
 use Rattle.chart_frames.specs.Items.{Fails}
 use Rattle.chart_frames.specs.ReportParts.{catalog_frame, values_frame, PushesListed, room_behind, runs_in, PushesRun, PushesValue}
 use Rattle.chart_frames.proofs.Numbers.{IsBytes, number_bytes_at}
-use Rattle.chart_frames.proofs.FormatLaws.{read_there}
-use Rattle.chart_frames.proofs.Reports.{lesser_within}
+use Rattle.chart_frames.proofs.Names.{padded_spelled}
+use Rattle.chart_frames.proofs.FormatLaws.{read_there, read_short}
+use Rattle.chart_frames.proofs.ReportNumbers.{lesser_within}
 
 -- reading all is reading what follows, so it ends for the same cause
 pub fails_on : (e : ItemStop) (r s : Result (List ℕ) Stop) → r ≡ s → Fails e s → Fails e r
@@ -42,10 +43,34 @@ padded_read size next bytes fits long =
     read_there 31 (λ n. is_padded size (number_bytes 31 n)) (λ n. next) bytes long
     ∙ ap (λ (p : List ℕ). cond (is_padded size p) (read next (drop 31 bytes)) (Err (Bad (length bytes)))) (number_bytes_at 31 bytes fits long)
 
-pub padded_by : (size : ℕ) (front name blank : List ℕ) (a b : Bool) → name ≡ take size front → blank ≡ drop size front → is_name name ≡ a → list_all is_blank blank ≡ b → is_padded size front ≡ (a && b)
-padded_by size front name blank a b p q r s =
-    ap (λ (x : List ℕ). is_name x && list_all is_blank (drop size front)) (sym p) ∙ ap (λ (x : List ℕ). is_name name && list_all is_blank x) (sym q)
-    ∙ ap (λ (x : Bool). x && list_all is_blank blank) r ∙ ap (λ (x : Bool). a && x) s
+pub padded_short : (size : ℕ) (next : Format) (bytes : List ℕ) → length bytes < 31 → read (padded_field size next) bytes ≡ Err More
+unfolding padded_field
+padded_short size next bytes short = read_short 31 (λ n. is_padded size (number_bytes 31 n)) (λ n. next) bytes short
+
+pub padded_bad : (size : ℕ) (next : Format) (bytes front : List ℕ) → IsBytes bytes → 31 ≤ length bytes → front ≡ take 31 bytes → false ≡ is_padded size front
+    → read (padded_field size next) bytes ≡ Err (Bad (length bytes))
+padded_bad size next bytes front fits long is bad =
+    padded_read size next bytes fits long
+    ∙ ap (λ (b : Bool). cond b (read next (drop 31 bytes)) (Err (Bad (length bytes)))) (sym (bad ∙ ap (is_padded size) is))
+
+pub padded_good : (size : ℕ) (next : Format) (bytes front rest : List ℕ) → IsBytes bytes → 31 ≤ length bytes → front ≡ take 31 bytes → rest ≡ drop 31 bytes → true ≡ is_padded size front
+    → read (padded_field size next) bytes ≡ read next rest
+padded_good size next bytes front rest fits long is rest_is good =
+    padded_read size next bytes fits long
+    ∙ ap (λ (b : Bool). cond b (read next (drop 31 bytes)) (Err (Bad (length bytes)))) (sym (good ∙ ap (is_padded size) is)) ∙ ap (read next) (sym rest_is)
+
+pub padded_taken : (size : ℕ) (bytes front rest name : List ℕ) → size ≤ 31 → 31 ≤ length bytes → front ≡ take 31 bytes → rest ≡ drop 31 bytes → name ≡ take size front → true ≡ is_padded size front
+    → IsTrue (is_name name) × (length name ≡ size) × (bytes ≡ number_bytes 31 (name_number name) ++ rest)
+padded_taken size bytes front rest name few long is rest_is name_is good =
+    let parts = and_parts (is_name (take size front)) (list_all is_blank (drop size front)) (sym good) in
+    let named : IsTrue (is_name name) = ap is_name name_is ∙ parts.0 in
+    let whole : length front ≡ 31 = ap length is ∙ length-take-le 31 bytes long in
+    let split : front ≡ name ++ drop size front = sym (take-append-drop size front) ∙ ap (λ (p : List ℕ). p ++ drop size front) (sym name_is) in (
+      named,
+      ap length name_is ∙ length-take-le size front (omega (arith, few, whole)),
+      sym (take-append-drop 31 bytes) ∙ ap (λ (p : List ℕ). p ++ drop 31 bytes) (sym is) ∙ ap (λ (p : List ℕ). front ++ p) (sym rest_is)
+          ∙ ap (λ (p : List ℕ). p ++ rest) (sym (padded_spelled front name (drop size front) whole split named parts.1)),
+    )
 
 -- ---- series
 

@@ -1,6 +1,6 @@
 -- Parts of reports that were read.
-use Rattle.std.specs.Prelude.{ℕ, ℤ, zero, suc, ◌≡◌, ◌+◌, ◌-◌, ◌++◌, List, [], ◌∷◌, length, All, Bool}
-use Rattle.whole_number.specs.Range.{IsValue, IsTime}
+use Rattle.std.specs.Prelude.{ℕ, ℤ, suc, ◌≡◌, ◌+◌, ◌-◌, ◌++◌, List, [], ◌∷◌, Bool}
+use Rattle.whole_number.specs.Range.{IsValue}
 use Rattle.chart_frames.specs.declared.frame.Frame.{Frame}
 use Rattle.chart_frames.specs.declared.frame.Frame.TheVariants as frames
 use Rattle.chart_frames.specs.declared.reports.ListedSeries.{ListedSeries}

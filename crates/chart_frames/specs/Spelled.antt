@@ -9,9 +9,7 @@ use Rattle.chart_frames.specs.declared.frame.Frame.TheVariants as frames
 use Rattle.chart_frames.specs.declared.frame.ViewFrame.{ViewFrame}
 use Rattle.chart_frames.specs.declared.frame.RowsFrame.{RowsFrame}
 use Rattle.chart_frames.specs.declared.reports.ListedSeries.{ListedSeries}
-use Rattle.chart_frames.specs.declared.reports.CatalogFrame.{CatalogFrame}
 use Rattle.chart_frames.specs.declared.reports.Run.{Run}
-use Rattle.chart_frames.specs.declared.reports.ValuesFrame.{ValuesFrame}
 use Rattle.chart_frames.specs.declared.reports.Report.{Report}
 use Rattle.chart_frames.specs.declared.reports.Report.TheVariants.{Catalog, Values, Swept}
 use Rattle.chart_frames.specs.Format.{number_bytes}

@@ -4,7 +4,7 @@ ghost use Rattle.std.specs.List.{list_all};
 ghost use Rattle.series_book.specs.Names.{is_name};
 ghost use Rattle.chart_frames.specs.Format.{Format, number_bytes};
 ghost use Rattle.chart_frames.specs.Reading.{Reads, read};
-ghost use Rattle.chart_frames.specs.Fields.{is_blank, is_catalog_length, word_field, padded_field, name_fields, scale_field, facts_fields, listed_fields, series_list, listed_count_fields, pages_fields, catalog_fields};
+ghost use Rattle.chart_frames.specs.Fields.{is_blank, is_padded, is_catalog_length, word_field, padded_field, name_fields, scale_field, facts_fields, listed_fields, series_list, listed_count_fields, pages_fields, catalog_fields};
 ghost use Rattle.chart_frames.specs.Frames.{name_number, Fits, FitFacts, FitsListed};
 ghost use Rattle.chart_frames.specs.Spelled.{framed, name_before, facts_before, listed_before, series_before, catalog_before, frame_before};
 ghost use Rattle.chart_frames.specs.Items.{Fails};
@@ -35,8 +35,17 @@ fn are_blank(bytes: &[u8]) -> bool
     bytes.iter().all(|byte| is_blank(*byte))
 }
 
+// Whether the first bytes, so many, are a name, and those behind them 0.
+fn is_padded(size: u8, front: &[u8]) -> bool
+    requires { size ≤ length front.now }
+    ensures { result ≡ is_padded size front.now }
+{
+    let (name, blank) = front.split_at(size as usize);
+    let clear = are_blank(blank);
+    is_name(name) && clear
+}
+
 // A name of so many bytes, with 0 behind it.
-#[tactic(auto, unfolding(crate::specs::Fields::padded_field))]
 fn padded_at(size: u8, bytes: &[u8]) -> Result<(&[u8], &[u8]), Stop>
     requires { size ≤ 31 }
     ensures reads { (next : Format) → Reads result (read (padded_field size next) bytes.now) (λ x. read next x.1.now) }
@@ -46,12 +55,10 @@ fn padded_at(size: u8, bytes: &[u8]) -> Result<(&[u8], &[u8]), Stop>
         return Err(Stop::More);
     }
     let (front, rest) = bytes.split_at(NAME_BYTES);
-    let (name, blank) = front.split_at(size as usize);
-    let padded = are_blank(blank);
-    if !is_name(name) || !padded {
+    if !is_padded(size, front) {
         return Err(Stop::Bad(bytes.len()));
     }
-    Ok((name, rest))
+    Ok((&front[..size as usize], rest))
 }
 
 // A name, as its length and 31 bytes.
@@ -161,10 +168,10 @@ fn push_listed<'a>(
     ensures err { IfErr result (λ e. (next : Format) → Fails e (read (listed_fields next) bytes.now)) }
 {
     match listed_at(alloc, bytes) {
-        Ok((listed, rest)) => match series.push(listed) {
-            Ok(()) => Ok(rest),
-            Err(_) => Err(ItemStop::NoMemory),
-        },
+        Ok((listed, rest)) => {
+            series.push(listed)?;
+            Ok(rest)
+        }
         Err(stop) => Err(stop),
     }
 }
@@ -228,14 +235,7 @@ fn head_at(length: u32, bytes: &[u8]) -> Result<(CatalogHead, &[u8]), Stop>
     let (total, rest) = any_word_at(bytes)?;
     let (used, rest) = any_word_at(rest)?;
     let (count, rest) = listed_count_at(length, rest)?;
-    Ok((
-        CatalogHead {
-            total,
-            used,
-            count,
-        },
-        rest,
-    ))
+    Ok((CatalogHead { total, used, count }, rest))
 }
 
 fn catalog_of(head: CatalogHead, series: Vec<ListedSeries>) -> Frame

@@ -14,6 +14,7 @@
 //! it needs, is left to the layers above.
 #![tactic(auto)]
 
+mod admitting;
 mod catalog_reading;
 mod coefficients;
 mod decoder;
@@ -24,7 +25,6 @@ mod frame;
 mod heads;
 mod item_stop;
 pub mod laws;
-mod lengths;
 mod limits;
 mod opening;
 mod place;

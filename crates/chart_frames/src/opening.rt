@@ -8,6 +8,7 @@ ghost use Rattle.chart_frames.specs.Spelled.{framed, frame_before, view_before, 
 ghost use Rattle.chart_frames.specs.Items.{Fails};
 ghost use Rattle.chart_frames.specs.Places.{Opens};
 
+use crate::admitting::{admits, is_length};
 use crate::catalog_reading::{any_word_at, catalog_at};
 use crate::fields::{Stop, byte_at, long_at, short_at, word_at};
 use crate::frame::{Frame, RowsFrame, ViewFrame};
@@ -16,7 +17,6 @@ use crate::heads::{
     sides_at, stored_at, window_at,
 };
 use crate::item_stop::ItemStop;
-use crate::lengths::{admits, is_length};
 use crate::limits::{MOST_CLEARS, MOST_COEFS, MOST_SLOTS};
 use crate::reports::Report;
 use crate::values_reading::values_at;

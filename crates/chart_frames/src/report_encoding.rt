@@ -1,5 +1,5 @@
 // The bytes of reports.
-ghost use Rattle.std.specs.Prelude.{◌≡◌, ◌≤◌, ◌+◌, ◌*◌, ◌++◌, ℕ, List, length, IsTrue, OnOk, All};
+ghost use Rattle.std.specs.Prelude.{◌≡◌, ◌≤◌, ◌+◌, ◌*◌, ◌++◌, ℕ, List, length, replicate, IsTrue, OnOk, All};
 ghost use Rattle.series_book.specs.Names.{is_name};
 ghost use Rattle.whole_number.specs.Range.{IsValue};
 ghost use Rattle.chart_frames.specs.Format.{number_bytes};
@@ -13,16 +13,23 @@ use crate::limits::NAME_BYTES;
 use crate::reports::{CatalogFrame, ListedSeries, Report, Run, ValuesFrame};
 use std::alloc::AllocError;
 
+// So many bytes of 0.
+fn put_blank(out: &mut Vec<u8>, count: usize) -> Result<(), AllocError>
+    requires { count ≤ 31 }
+    ensures { OnOk result (out.new.items ≡ out.old.items ++ replicate count 0) }
+{
+    let blank = [0; NAME_BYTES];
+    out.extend_from_slice(&blank[..count])
+}
+
 // A name's length, the name, and 0 up to 31 bytes.
-#[tactic(auto, unfolding(crate::specs::Spelled::name_before))]
 fn put_name(out: &mut Vec<u8>, name: &[u8]) -> Result<(), AllocError>
     requires { IsTrue (is_name name.now) }
     ensures { OnOk result ((tail : List ℕ) → out.new.items ++ tail ≡ out.old.items ++ name_before name.now tail) }
 {
     put_byte(out, name.len() as u8)?;
     out.extend_from_slice(name)?;
-    let blank = [0; NAME_BYTES];
-    out.extend_from_slice(&blank[name.len()..])
+    put_blank(out, NAME_BYTES - name.len())
 }
 
 // What a catalog says of a series behind its name.

@@ -16,7 +16,7 @@ use crate::frame::Frame;
 use crate::heads::{is_time, series_at};
 use crate::item_stop::ItemStop;
 use crate::limits::{
-    MOST_SLOTS, MOST_VALUES, RUN_BYTES, SLOTS_OF_VALUES, VALUES_LENGTH, VALUE_BYTES,
+    MOST_SLOTS, MOST_VALUES, RUN_BYTES, SLOTS_OF_VALUES, VALUE_BYTES, VALUES_LENGTH,
 };
 use crate::report_lists::{RunList, ValueList};
 use crate::reports::{Report, Run, ValuesFrame};
@@ -116,15 +116,19 @@ fn takes_of(behind: u16, left: u64, many: u64) -> bool
     if many == 0 {
         return false;
     }
-    if behind == 0 { many == left } else { many < left }
+    if behind == 0 {
+        many == left
+    } else {
+        many < left
+    }
 }
 
 /// Where the next run may begin and must have ended, and how many values are left.
 #[derive(Clone, Copy)]
 pub struct Room {
-    from: u64,
-    limit: u64,
-    left: u64,
+    pub from: u64,
+    pub limit: u64,
+    pub left: u64,
 }
 
 // A run before so many others.
@@ -229,11 +233,7 @@ fn push_value<'a>(values: &mut Vec<i64>, bytes: &'a [u8]) -> Result<&'a [u8], It
 }
 
 // Reads so many values.
-fn fill_values<'a>(
-    values: &mut Vec<i64>,
-    count: u16,
-    bytes: &'a [u8],
-) -> Result<&'a [u8], ItemStop>
+fn fill_values<'a>(values: &mut Vec<i64>, count: u16, bytes: &'a [u8]) -> Result<&'a [u8], ItemStop>
     requires { values.old.items ≡ [] }
     ensures ok { IfOk result (λ rest. (length values.new.items ≡ count) × All IsValue values.new.items × (bytes.now ≡ values_before values.new.items rest.now)) }
     ensures err { IfErr result (λ e. Fails e (read (values_list count) bytes.now)) }

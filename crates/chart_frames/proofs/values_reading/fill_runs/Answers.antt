@@ -1,4 +1,4 @@
-use Rattle.std.proofs.Common.{length, ap, refl, arith}
+use Rattle.std.proofs.Common.{◌≡◌, ◌-◌, length, ap, refl, arith}
 use Rattle.chart_frames.proofs.ReportReads.{runs_started, runs_step, runs_failed, runs_fit, runs_on}
 use Rattle.chart_frames.proofs.values_reading.fill_runs.Goals as goal
 
@@ -16,7 +16,7 @@ loop-k-preserved c =
 
 pub returns-clause-fits : goal.returns-clause-fits
 returns-clause-fits c =
-    let whole = omega (arith, c.loop-k.invariant.count, c.loop-k.auto.k-end) in
+    let whole : length c.loop-k.runs.items ≡ c.args.count = omega (arith, c.loop-k.invariant.count, c.loop-k.auto.k-end) in
     (runs_fit c.args.values c.args.count c.args.bytes.now c.loop-k.room c.loop-k.runs.items c.loop-k.rest.now whole c.loop-k.invariant.known, whole)
 
 pub returns-clause-takes : goal.returns-clause-takes

@@ -5,7 +5,7 @@ ghost use Rattle.chart_frames.specs.Fields.{is_view_length, is_rows_length, is_c
 use crate::limits::{
     CATALOG_LENGTH, EIGHT_LENGTH, LISTED_BYTES, LIVE_LENGTH, MOST_COEFS, MOST_ROWS,
     MOST_VALUES_LENGTH, ONE_VALUE_LENGTH, REFUSED_LENGTH, ROWS_LENGTH, SESSION_LENGTH,
-    SWEPT_LENGTH, VALUES_LENGTH, VALUE_BYTES, VIEW_LENGTH,
+    SWEPT_LENGTH, VALUE_BYTES, VALUES_LENGTH, VIEW_LENGTH,
 };
 use series_book::limits::MOST_SERIES;
 
@@ -37,9 +37,7 @@ fn is_values_length(length: u32) -> bool
     ensures { result ≡ is_values_length length }
 {
     length == VALUES_LENGTH
-        || (length >= ONE_VALUE_LENGTH
-            && length <= MOST_VALUES_LENGTH
-            && length % VALUE_BYTES == 0)
+        || (length >= ONE_VALUE_LENGTH && length <= MOST_VALUES_LENGTH && length % VALUE_BYTES == 0)
 }
 
 fn is_report_length(length: u32) -> bool

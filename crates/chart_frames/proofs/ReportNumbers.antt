@@ -1,9 +1,7 @@
 -- Reports: their numbers meet the format, are spelled so, and tell the report.
-use Rattle.std.proofs.Common.{◌≡◌, ℕ, ℤ, zero, suc, pos, ◌+◌, ◌-◌, ◌*◌, ◌%◌, ◌/◌, ◌^◌, ◌<◌, ◌≤◌, ◌⊎◌, inl, inr, Bool, true, false, ◌&&◌, ◌||◌, cond, ltb, leb, eqb, List, [], ◌∷◌, ◌++◌, length, get_or, take, drop, refl, sym, ap, ◌∙◌, subst, arith}
-use Rattle.std.specs.Prelude.{All}
-use Rattle.std.specs.Bool.{IsTrue}
+use Rattle.std.proofs.Common.{◌≡◌, ℕ, ℤ, zero, suc, ◌+◌, ◌-◌, ◌*◌, ◌%◌, ◌/◌, ◌<◌, ◌≤◌, ◌⊎◌, inl, inr, Bool, true, false, ◌&&◌, ◌||◌, cond, ltb, leb, eqb, List, [], ◌∷◌, ◌++◌, length, get_or, take, drop, refl, sym, ap, ◌∙◌, subst, arith}
 use Rattle.std.specs.Int.{w64, cast_signed}
-use Rattle.std.proofs.lemmas.Bool.{le-leb, lt-ltb, eq-eqb, and_from, leb-true, both_ways}
+use Rattle.std.proofs.lemmas.Bool.{le-leb, lt-ltb, eq-eqb, ne_eqb, and_from, leb-true, both_ways}
 use Rattle.std.proofs.lemmas.Bool.Decides.{leb_tells}
 use Rattle.whole_number.specs.Range.{IsValue, is_value, is_time}
 use Rattle.chart_frames.specs.declared.limits.TheConstants.{MOST_SLOTS}
@@ -13,9 +11,9 @@ use Rattle.chart_frames.specs.declared.reports.Run.{Run}
 use Rattle.chart_frames.specs.declared.reports.ValuesFrame.{ValuesFrame}
 use Rattle.chart_frames.specs.declared.reports.Report.{Report}
 use Rattle.chart_frames.specs.declared.reports.Report.TheVariants.{Catalog, Values, Swept}
-use Rattle.chart_frames.specs.Format.{Format, stop, field, number_bytes, Meets, after, IsEnd}
+use Rattle.chart_frames.specs.Format.{Format, field, number_bytes, Meets, after, IsEnd}
 use Rattle.chart_frames.specs.Fields.{within, is_zero, is_catalog_length, is_values_length, admits, length_field, kind_field, kind_fields, frame_fields, word_field, padded_field, name_fields, scale_field, axis_fields, slots_field, stored_fields, has_field, rmin_field, rmax_field, facts_fields, listed_fields, series_list, listed_count_fields, pages_fields, catalog_fields, series_fields, value_field, more_field, next_time_field, next_fields, are_counts, counts_fields, lesser, takes_of, run_fields, runs_fields, values_list, asked_fields, stored_values, values_fields, flag_fields, swept_fields}
-use Rattle.chart_frames.specs.Frames.{unsigned, number_of_flag, name_number, listed_numbers, series_numbers, runs_numbers, values_numbers, report_numbers, FitsListed, FitsCatalog, FitsRun, FitRuns, FitsValues, FitsReport}
+use Rattle.chart_frames.specs.Frames.{unsigned, number_of_flag, name_number, listed_numbers, series_numbers, runs_numbers, values_numbers, report_numbers, FitsListed, FitsCatalog, FitRuns, FitsValues, FitsReport}
 use Rattle.chart_frames.specs.Spelled.{framed, name_before, facts_before, listed_before, series_before, catalog_before, run_before, runs_before, values_before, asked_before, counts_before, report_before}
 use Rattle.chart_frames.proofs.FormatLaws.{spell_before}
 use Rattle.chart_frames.proofs.Names.{name_length, name_below, name_meets, name_back}
@@ -102,7 +100,7 @@ by_lesser true a b p q = (omega arith, p refl)
 by_lesser false a b p q = (omega (arith, q refl), omega arith)
 
 not_leb : (a b : ℕ) → leb a b ≡ false → b < a
-not_leb a b e = elim (leb_tells a b) [ inl yes ↦ absurd (both_ways (leb a b) e yes.0) | inr no ↦ no.1 ]
+not_leb a b e = elim (leb_tells a b) [ inl holds ↦ absurd (both_ways (leb a b) e holds.0) | inr lacks ↦ lacks.1 ]
 
 pub lesser_within : (a b : ℕ) → (lesser a b ≤ a) × (lesser a b ≤ b)
 lesser_within a b = by_lesser (leb a b) a b (leb-true a b) (not_leb a b)
@@ -114,9 +112,16 @@ by_least false a b m p q = q
 lesser_least : (a b m : ℕ) → m ≤ a → m ≤ b → m ≤ lesser a b
 lesser_least a b m p q = by_least (leb a b) a b m p q
 
+zero_or_more : (n : ℕ) → (n ≡ 0) ⊎ (0 < n)
+zero_or_more zero = inl refl
+zero_or_more (suc n) = inr (omega arith)
+
 takes_meets : (behind left many : ℕ) → 1 ≤ many → (behind ≡ 0 → many ≡ left) → (0 < behind → many < left) → takes_of behind left many ≡ true
-takes_meets zero left many some last more = and_from (leb 1 many) (eqb many left) (le-leb 1 many some) (eq-eqb many left (last refl))
-takes_meets (suc k) left many some last more = and_from (leb 1 many) (ltb many left) (le-leb 1 many some) (lt-ltb many left (more (omega arith)))
+takes_meets behind left many some last more =
+    and_from (leb 1 many) (cond (eqb behind 0) (eqb many left) (ltb many left)) (le-leb 1 many some) (elim (zero_or_more behind) [
+      | inl none ↦ ap (λ (b : Bool). cond b (eqb many left) (ltb many left)) (eq-eqb behind 0 none) ∙ eq-eqb many left (last none)
+      | inr any ↦ ap (λ (b : Bool). cond b (eqb many left) (ltb many left)) (ne_eqb behind 0 (λ e. omega (arith, e, any))) ∙ lt-ltb many left (more any)
+    ])
 
 run_takes : (from limit left count : ℕ) (rs : List Run) → FitRuns from limit (left - count) rs → 1 ≤ count → count ≤ left → takes_of (length rs) left count ≡ true
 run_takes from limit left count [] h some room = takes_meets 0 left count some (λ e. omega (arith, h, room)) (λ lt. absurd (omega (arith, lt)))
@@ -214,10 +219,6 @@ flag_none false e = refl
 counts_by : (runs values : ℕ) → (values ≡ 0) ⊎ (0 < values) → (0 < values → 1 ≤ runs) → (eqb values 0 || leb 1 runs) ≡ true
 counts_by runs values (inl none) some = or_left (eqb values 0) (leb 1 runs) (eq-eqb values 0 none)
 counts_by runs values (inr any) some = or_right (eqb values 0) (leb 1 runs) (le-leb 1 runs (some any))
-
-zero_or_more : (n : ℕ) → (n ≡ 0) ⊎ (0 < n)
-zero_or_more zero = inl refl
-zero_or_more (suc n) = inr (omega arith)
 
 counts_test : (runs values : ℕ) → values ≤ 4096 → runs ≤ values → (0 < values → 1 ≤ runs) → are_counts (16 + (16 * runs + 8 * values)) runs values ≡ true
 counts_test runs values most least some =
