@@ -109,6 +109,7 @@ module _ (one : OneReply) (pictures : ChartsHaveOnePicture) where
   same_drawing (frame.Opened number size) old new d e p q = ap picture_bytes (p ∙ sym q)
   same_drawing (frame.Closed number) old new d e p q = ap picture_bytes (p ∙ sym q)
   same_drawing (frame.Live number on) old new d e p q = ap picture_bytes (p ∙ sym q)
+  same_drawing (frame.Report report) old new d e p q = ap picture_bytes (p ∙ sym q)
   same_drawing (frame.View view) old new None e p q = absurd p
   same_drawing (frame.View view) old new (Some c) None p q = absurd q
   same_drawing (frame.View view) old new (Some c) (Some d) p q =
