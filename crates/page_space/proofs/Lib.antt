@@ -7,6 +7,7 @@ mod Leaving
 mod Starting
 mod Placing
 mod Caching
+mod Marking
 mod Taken
 mod Changing
 mod Reading

@@ -6,6 +6,7 @@ pub mod Causes
 pub mod Opened
 pub mod Firsts
 pub mod Places
+pub mod Marks
 pub mod Copies
 pub mod Beside
 pub mod Shown

@@ -6,6 +6,7 @@ ghost use Rattle.block_disk.specs.MemDisk.{blocks_of, put};
 ghost use Rattle.gate_pages.specs.Batch.{page_in};
 ghost use Rattle.gate_pages.specs.Entries.{entries};
 ghost use Rattle.page_space.specs.Copies.{place as place_of, copies_in, with_copy, renewed};
+ghost use Rattle.page_space.specs.Marks.{IsTreePage};
 
 use crate::layout::PLACES;
 use crate::page_cache::{Kept, PageCache};
@@ -87,7 +88,11 @@ impl PageCache {
         ensures { (q : ℕ) → copies_in self.new q ≡ with_copy p bytes.now (copies_in self.old) q }
     {
         put_block(self.bytes.as_mut_slice(), usize::from(copy), bytes);
-        self.places[at] = Some(Kept { page: p, copy });
+        self.places[at] = Some(Kept {
+            page: p,
+            copy,
+            level: 0,
+        });
     }
 
     /// Holds a page in a place that holds none: its copy comes behind the others.
@@ -101,7 +106,37 @@ impl PageCache {
         let Ok(()) = self.bytes.extend_from_slice(bytes) else {
             unreachable!()
         };
-        self.places[at] = Some(Kept { page: p, copy });
+        self.places[at] = Some(Kept {
+            page: p,
+            copy,
+            level: 0,
+        });
+    }
+
+    /// Notes that the copy of a page that it holds is a tree page of this page level.
+    pub(crate) fn note(&mut self, p: u32, level: u8)
+        requires { (bytes : List ℕ) → copies_in self.old p ≡ Some bytes → IsTreePage level bytes }
+        ensures { (q : ℕ) → copies_in self.new q ≡ copies_in self.old q }
+    {
+        let at = place(p);
+        let Some(kept) = self.places[at] else {
+            return;
+        };
+        if kept.page != p {
+            return;
+        }
+        self.places[at] = Some(Kept { level, ..kept });
+    }
+
+    /// Whether it was noted that the copy of a page is a tree page of this page level.
+    pub(crate) fn is_noted(&self, p: u32, level: u8) -> bool
+        requires { 1 ≤ level }
+        ensures { IsTrue result → (bytes : List ℕ) → copies_in self.now p ≡ Some bytes → IsTreePage level bytes }
+    {
+        let Some(kept) = self.places[place(p)] else {
+            return false;
+        };
+        kept.page == p && kept.level == level
     }
 
     /// Gives each page that it holds its new bytes, where the batch has such.

@@ -8,7 +8,8 @@
 //!
 //! Invariant of a space: its numbers keep the rules of page 0, and while the pages are sound, page 0
 //! spells them, and what the cache has of a page is that page. Invariant of a transaction: its page 0
-//! spells its numbers. What the pages of the catalog and the pages given out hold is for the layers above.
+//! spells its numbers. What the pages of the catalog and the pages given out hold is for the layers above,
+//! but that the cache notes of which page level a copy was found to be a tree page.
 #![tactic(auto)]
 
 mod cache_calls;
@@ -26,6 +27,7 @@ mod space_streams;
 mod superblock;
 mod superblock_page;
 mod taking;
+mod tree_pages;
 mod txn;
 mod txn_calls;
 

@@ -1,11 +1,12 @@
 //! The calls of a space, but those that take a page.
-ghost use Rattle.std.specs.Prelude.{◌≡◌, ◌≢◌, ◌≤◌, ◌<◌, ◌+◌, ◌==◌, ◌↔◌, ℕ, List, Some, None, is_some, length, if◌then◌else◌, IfOk, OnOk, OnErr, IsOk, IsTrue};
+ghost use Rattle.std.specs.Prelude.{◌≡◌, ◌≢◌, ◌≤◌, ◌<◌, ◌+◌, ◌==◌, ◌↔◌, ℕ, List, Some, None, is_some, length, if◌then◌else◌, IfOk, OnOk, OnErr, IsOk, IsTrue, IsFalse};
 ghost use Rattle.block_disk.specs.Blocks.{IsBlock};
 ghost use Rattle.block_disk.specs.Counts.{HasRisen};
 ghost use Rattle.block_disk.specs.View.{Image};
 ghost use Rattle.page_space.specs.Changing.{StandsAs, KeepsStanding, KeepsStandingOff, Frees, StandsWith};
 ghost use Rattle.page_space.specs.Copies.{renewed};
 ghost use Rattle.page_space.specs.Layout.{superblock_page, freed_page, IsGiven, in_use, with_head, with_series};
+ghost use Rattle.page_space.specs.Marks.{IsTreePage, IsNoTreePage};
 ghost use Rattle.page_space.specs.Shown as shown;
 ghost use Rattle.page_space.specs.Spaces.{Stands};
 ghost use Rattle.page_space.specs.Transactions.{held, held_page, HasRoom, OnlyFirst};
@@ -14,6 +15,7 @@ use crate::freed_page::write_freed;
 use crate::layout::FIRST;
 use crate::space::Space;
 use crate::superblock::Superblock;
+use crate::tree_pages::is_tree_page;
 use crate::txn::Txn;
 use block_disk::BLOCK;
 use gate_pages::{DiskFault, Pages};
@@ -108,6 +110,38 @@ impl<P: Pages> Space<P> {
         self.pages.get(p, out)?;
         self.cache.keep(p, out);
         Ok(())
+    }
+
+    /// Reads a page as `get` does, and tells whether it is a tree page of this page level that keeps its layout. While
+    /// the page is held, that is looked for once.
+    pub fn get_tree(&mut self, p: u32, level: u8, out: &mut [u8]) -> Result<bool, DiskFault>
+        requires sound { shown.IsSound self.old }
+        requires p_in_total { p < shown.total self.old }
+        requires some { 1 ≤ level }
+        requires whole { IsBlock out.old }
+        ensures tree { IfOk result (λ is. IsTrue is → IsTreePage level out.new) }
+        ensures no_tree { IfOk result (λ is. IsFalse is → IsNoTreePage level out.new) }
+        // else as get does
+        ensures page { shown.IsTold self.old → OnOk result (out.new ≡ shown.image self.old p) }
+        ensures reads { shown.ReadsOne self.old self.new }
+        ensures goes_on { shown.TimeGoesOn self.old self.new }
+        ensures superblock { shown.numbers self.new ≡ shown.numbers self.old }
+        ensures cause { OnErr result (HasRisen (shown.view self.old).faults (shown.view self.new).faults) }
+        ensures quiet { OnOk result ((shown.view self.new).faults ≡ (shown.view self.old).faults) }
+        ensures hit { shown.Holds self.old p → IsOk result × (shown.pages self.new ≡ shown.pages self.old) }
+        ensures kept { OnOk result (shown.copies self.new p ≡ Some out.new) }
+        ensures others { shown.KeepsCopiesOff p self.old self.new }
+        ensures none { OnErr result ((q : ℕ) → shown.copies self.new q ≡ shown.copies self.old q) }
+    {
+        self.get(p, out)?;
+        if self.cache.is_noted(p, level) {
+            return Ok(true);
+        }
+        if !is_tree_page(out, level) {
+            return Ok(false);
+        }
+        self.cache.note(p, level);
+        Ok(true)
     }
 
     /// A transaction over the pages as they are. It holds page 0 alone.

@@ -53,19 +53,6 @@ fn next_page(page: &HeldPage, total: u32, child: u8) -> Result<u32, NodeError>
     Ok(number)
 }
 
-/// Whether a page keeps its layout and is of this page level.
-fn is_sound(bytes: &[u8], level: usize) -> bool
-    requires whole { IsBlock bytes.now }
-    ensures keeps { IsTrue result → KeepsLayout bytes.now }
-    ensures level { IsTrue result → level_at bytes.now ≡ level }
-    ensures bad { result ≡ false → IsBadPage bytes.now level }
-{
-    match PageView::new(bytes) {
-        Ok(page) => usize::from(page.level()) == level,
-        Err(_) => false,
-    }
-}
-
 /// Reads a page of this page level into a buffer.
 fn read_page<P: Pages>(
     space: &mut Space<P>,
@@ -75,6 +62,8 @@ fn read_page<P: Pages>(
 ) -> Result<(), NodeError>
     requires sound { shown.IsSound space.old }
     requires number { number < shown.total space.old }
+    requires some { 1 ≤ level }
+    requires few { level ≤ 5 }
     ensures reads { walk.ReadsOne space.old space.new }
     ensures over { walk.Stays space.old space.new }
     ensures count { shown.count space.new ≡ shown.count space.old }
@@ -84,10 +73,10 @@ fn read_page<P: Pages>(
     ensures quiet { OnOk result ((shown.view space.new).faults ≡ (shown.view space.old).faults) }
     ensures quiet_err { IfErr result (λ e. e ≢ NodeError.DiskFault → (shown.view space.new).faults ≡ (shown.view space.old).faults) }
 {
-    let Ok(()) = space.get(number, page.bytes.as_mut_slice()) else {
+    let Ok(is_tree_page) = space.get_tree(number, level as u8, page.bytes.as_mut_slice()) else {
         return Err(NodeError::DiskFault);
     };
-    if !is_sound(page.bytes.as_slice(), level) {
+    if !is_tree_page {
         return Err(NodeError::Damaged { page: number });
     }
     page.number = number;

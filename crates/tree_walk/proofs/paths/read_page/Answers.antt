@@ -34,69 +34,69 @@ reads_shown before after told told' old new same reads = record {
   writes = reads.writes;
 }
 
-pub returns-then-not-is_sound-clause-cause : goal.returns-then-not-is_sound-clause-cause
-returns-then-not-is_sound-clause-cause g c = (
+pub returns-then-not-is_tree_page-clause-cause : goal.returns-then-not-is_tree_page-clause-cause
+returns-then-not-is_tree_page-clause-cause g c = (
   refl,
   λ told.
       let bytes = c.args.page.now.bytes in
-      let same : length c.get.new.out ≡ length bytes.items = c.get.auto.out ∙ ap length c.as_mut_slice.ensures.value in
-      let page = c.as_slice.ensures.value ∙ all_of c.get.new.out bytes.items bytes.len same bytes.ok.0 ∙ c.in-Ok.ensures.page told in
+      let same : length c.get_tree.new.out ≡ length bytes.items = c.get_tree.auto.out ∙ ap length c.as_mut_slice.ensures.value in
       let P : List ℕ → Type 0 = λ l. IsBadPage l c.args.level in
-      subst P page (c.is_sound.ensures.bad c.if-not-is_sound.true),
+      subst P (c.in-Ok.ensures.page told) (c.in-Ok.ensures.no_tree c.if-not-is_tree_page.true),
 )
 
 pub returns-in_default-clause-reads : goal.returns-in_default-clause-reads
 returns-in_default-clause-reads g c =
     let old = c.args.space.now in
-    let new = c.get.new.self in
-    reads_shown (shown.numbers old) (shown.numbers new) (shown.IsTold old) (shown.IsTold new) (shown.view old) (shown.view new) c.get.ensures.superblock c.get.ensures.reads
+    let new = c.get_tree.new.self in
+    reads_shown (shown.numbers old) (shown.numbers new) (shown.IsTold old) (shown.IsTold new) (shown.view old) (shown.view new) c.get_tree.ensures.superblock c.get_tree.ensures.reads
 
 pub returns-in_default-clause-over : goal.returns-in_default-clause-over
-returns-in_default-clause-over g c = record { superblock = c.get.ensures.superblock; goes_on = c.get.ensures.goes_on }
+returns-in_default-clause-over g c = record { superblock = c.get_tree.ensures.superblock; goes_on = c.get_tree.ensures.goes_on }
 
 pub returns-in_default-clause-count : goal.returns-in_default-clause-count
-returns-in_default-clause-count g c = c.get.ensures.reads.size
+returns-in_default-clause-count g c = c.get_tree.ensures.reads.size
 
-pub returns-then-not-is_sound-clause-reads : goal.returns-then-not-is_sound-clause-reads
-returns-then-not-is_sound-clause-reads g c =
+pub returns-then-not-is_tree_page-clause-reads : goal.returns-then-not-is_tree_page-clause-reads
+returns-then-not-is_tree_page-clause-reads g c =
     let old = c.args.space.now in
-    let new = c.get.new.self in
-    reads_shown (shown.numbers old) (shown.numbers new) (shown.IsTold old) (shown.IsTold new) (shown.view old) (shown.view new) c.get.ensures.superblock c.get.ensures.reads
+    let new = c.get_tree.new.self in
+    reads_shown (shown.numbers old) (shown.numbers new) (shown.IsTold old) (shown.IsTold new) (shown.view old) (shown.view new) c.get_tree.ensures.superblock c.get_tree.ensures.reads
 
-pub returns-then-not-is_sound-clause-over : goal.returns-then-not-is_sound-clause-over
-returns-then-not-is_sound-clause-over g c = record { superblock = c.get.ensures.superblock; goes_on = c.get.ensures.goes_on }
+pub returns-then-not-is_tree_page-clause-over : goal.returns-then-not-is_tree_page-clause-over
+returns-then-not-is_tree_page-clause-over g c = record { superblock = c.get_tree.ensures.superblock; goes_on = c.get_tree.ensures.goes_on }
 
-pub returns-then-not-is_sound-clause-count : goal.returns-then-not-is_sound-clause-count
-returns-then-not-is_sound-clause-count g c = c.get.ensures.reads.size
+pub returns-then-not-is_tree_page-clause-count : goal.returns-then-not-is_tree_page-clause-count
+returns-then-not-is_tree_page-clause-count g c = c.get_tree.ensures.reads.size
 
 pub returns-clause-reads : goal.returns-clause-reads
 returns-clause-reads g c =
     let old = c.args.space.now in
-    let new = c.get.new.self in
-    reads_shown (shown.numbers old) (shown.numbers new) (shown.IsTold old) (shown.IsTold new) (shown.view old) (shown.view new) c.get.ensures.superblock c.get.ensures.reads
+    let new = c.get_tree.new.self in
+    reads_shown (shown.numbers old) (shown.numbers new) (shown.IsTold old) (shown.IsTold new) (shown.view old) (shown.view new) c.get_tree.ensures.superblock c.get_tree.ensures.reads
 
 pub returns-clause-over : goal.returns-clause-over
-returns-clause-over g c = record { superblock = c.get.ensures.superblock; goes_on = c.get.ensures.goes_on }
+returns-clause-over g c = record { superblock = c.get_tree.ensures.superblock; goes_on = c.get_tree.ensures.goes_on }
 
 pub returns-clause-count : goal.returns-clause-count
-returns-clause-count g c = c.get.ensures.reads.size
+returns-clause-count g c = c.get_tree.ensures.reads.size
 
 pub returns-clause-held : goal.returns-clause-held
 returns-clause-held g c =
     let bytes = c.args.page.now.bytes in
-    let same : length c.get.new.out ≡ length bytes.items = c.get.auto.out ∙ ap length c.as_mut_slice.ensures.value in
-    let page = c.as_slice.ensures.value ∙ all_of c.get.new.out bytes.items bytes.len same bytes.ok.0 in
+    let same : length c.get_tree.new.out ≡ length bytes.items = c.get_tree.auto.out ∙ ap length c.as_mut_slice.ensures.value in
+    let page = all_of c.get_tree.new.out bytes.items bytes.len same bytes.ok.0 in
+    let is = c.in-Ok.ensures.tree c.if-not-is_tree_page.false in
     record {
-      below = omega (arith, c.requires.number, ap (λ (one : Superblock). one.total) c.get.ensures.superblock);
-      keeps = subst (λ (l : List ℕ). KeepsLayout l) c.as_slice.ensures.value (c.is_sound.ensures.keeps c.if-not-is_sound.false);
-      level_is = subst (λ (l : List ℕ). level_at l ≡ c.args.level) c.as_slice.ensures.value (c.is_sound.ensures.level c.if-not-is_sound.false);
+      below = omega (arith, c.requires.number, ap (λ (one : Superblock). one.total) c.get_tree.ensures.superblock);
+      keeps = subst (λ (l : List ℕ). KeepsLayout l) (sym page) is.keeps;
+      level_is = subst (λ (l : List ℕ). level_at l ≡ c.args.level) (sym page) is.level_is;
       as_told = λ told.
-          let was = c.get.ensures.reads.was_told told in
-          sym c.as_slice.ensures.value ∙ page ∙ c.in-Ok.ensures.page was ∙ sym (ap (λ (pages : Image). pages c.args.number) (c.get.ensures.reads.image was));
+          let was = c.get_tree.ensures.reads.was_told told in
+          page ∙ c.in-Ok.ensures.page was ∙ sym (ap (λ (pages : Image). pages c.args.number) (c.get_tree.ensures.reads.image was));
     }
 
 pub returns-clause-quiet : goal.returns-clause-quiet
 returns-clause-quiet g c = c.in-Ok.ensures.quiet
 
-pub returns-then-not-is_sound-clause-quiet_err : goal.returns-then-not-is_sound-clause-quiet_err
-returns-then-not-is_sound-clause-quiet_err g c = λ other. c.in-Ok.ensures.quiet
+pub returns-then-not-is_tree_page-clause-quiet_err : goal.returns-then-not-is_tree_page-clause-quiet_err
+returns-then-not-is_tree_page-clause-quiet_err g c = λ other. c.in-Ok.ensures.quiet

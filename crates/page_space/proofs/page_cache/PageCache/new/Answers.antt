@@ -6,6 +6,7 @@ use Rattle.page_space.specs.Copies.{place, copy_at, copies_at}
 use Rattle.page_space.specs.declared.page_cache.Kept.{Kept}
 use Rattle.page_space.specs.Places.{filled}
 use Rattle.page_space.proofs.Caching.{place_below, empty_at}
+use Rattle.page_space.proofs.Marking.{marked_none}
 use Rattle.page_space.proofs.Placing.{filled_none, kept_none}
 use Rattle.page_space.proofs.page_cache.PageCache.new.Goals as goal
 
@@ -26,3 +27,8 @@ pub invariant_of-result-clause-kept : goal.invariant_of-result-clause-kept
 invariant_of-result-clause-kept c =
     let empty : c.in_ok-places.places.items ≡ replicate 4096 None = c.in_ok-places.ensures.items_if_clones_equal (λ y same. search rules) in
     kept_none c.in_ok-places.places.items (λ at. ap (λ l. get_or l at None) empty ∙ empty_at 4096 at)
+
+pub invariant_of-result-clause-marked : goal.invariant_of-result-clause-marked
+invariant_of-result-clause-marked c =
+    let empty : c.in_ok-places.places.items ≡ replicate 4096 None = c.in_ok-places.ensures.items_if_clones_equal (λ y same. search rules) in
+    marked_none c.in_ok-places.places.items c.in_ok-bytes.bytes.items (λ at. ap (λ l. get_or l at None) empty ∙ empty_at 4096 at)
