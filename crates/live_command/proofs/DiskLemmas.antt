@@ -32,10 +32,10 @@ use Rattle.store_commands.specs.Codes.{too_small, unopened}
 use Rattle.store_commands.specs.Status.{opening_end}
 use Rattle.store_commands.specs.Traffic.{IsLong, Traffic, WasRead}
 use Rattle.zoom_session.specs.declared.session.Session.{Session}
-use Rattle.live_command.specs.Doing.{Goes, IsCause, Side}
+use Rattle.hosted_lines.specs.Doing.{Goes, IsCause, Side}
 use Rattle.live_command.specs.Ended.{IsLiveCause, LeavesLived, LiveEnds, ReadsFrom, ReadsLiving, SyncsLiving, begun_live}
 use Rattle.live_command.specs.Ending.{IsServeCause, Served}
-use Rattle.live_command.specs.Reads.{ReadsLines}
+use Rattle.hosted_lines.specs.Reads.{ReadsLines}
 use Rattle.live_command.specs.Running.{EndsSo, IsAhead, SendsAll}
 use Rattle.live_command.specs.Syncs.{SyncsLines}
 use Rattle.live_command.proofs.ReadLemmas.{none_read}

@@ -18,7 +18,7 @@ use Rattle.chart_world.specs.Lines.{split_lines, text_of, without_return, lines}
 use Rattle.drawn_replies.specs.Mirrors.{Mirrors, mirrored, DrawsTheBook, OnlyLacksMemory}
 use Rattle.drawn_replies.specs.Pictures.{AcceptsAll, NoneRejected}
 use Rattle.live_command.specs.Drawn.{IsFirst, ArePictured, PicturesLines}
-use Rattle.live_command.specs.Lives.{Event, answer, push, Lives, LivesBy, lines_in}
+use Rattle.hosted_lines.specs.Lives.{Event, answer, push, Lives, LivesBy, lines_in}
 use Rattle.live_service.specs.Following.{CanFollow, FollowsWell, ShowsView}
 use Rattle.live_service.specs.LiveReplies.{LiveState, LiveReplied, Pushed}
 use Rattle.zoom_session.specs.declared.session.Session.{Session}
@@ -41,11 +41,11 @@ pub record Following : Type 0 where
 -- ---- lines of an input
 
 -- a line has at most 8,192 bytes, or isn't told
-abbrev IsShort : Option (List ℕ) → Type 0
+abbrev pub IsShort : Option (List ℕ) → Type 0
 IsShort None = ⊤
 IsShort (Some text) = length text ≤ 8192
 
-abbrev AreShort : List (Option (List ℕ)) → Type 0
+abbrev pub AreShort : List (Option (List ℕ)) → Type 0
 AreShort [] = ⊤
 AreShort (line ∷ later) = IsShort line × AreShort later
 
@@ -73,7 +73,7 @@ short_told (part ∷ parts) =
       | false ↦ later
     ]
 
-are_short : (input : List ℕ) → AreShort (told input)
+pub are_short : (input : List ℕ) → AreShort (told input)
 unfolding lines
 are_short input = short_told (split_lines input)
 
@@ -97,18 +97,18 @@ text_is : (text : List ℕ) (test : Bool) → nat_lt 8192 (length text) ≡ test
 text_is text true test few = absurd (grind (arith, nat_tests, test, few))
 text_is text false test few = refl
 
-answered_well : Following → (line : Option (List ℕ)) (frame : Frame) (old new : LiveState) → IsShort line → FollowsWell old → LiveReplied line frame old new → FollowsWell new
+pub answered_well : Following → (line : Option (List ℕ)) (frame : Frame) (old new : LiveState) → IsShort line → FollowsWell old → LiveReplied line frame old new → FollowsWell new
 answered_well f None frame old new short well r = long_well frame old new well r
 answered_well f (Some text) frame old new short well r =
     let L : Option (List ℕ) → Type 0 = λ o. LiveReplied o frame old new in
     f.line_well text frame old new well (subst L (sym (text_is text (nat_lt 8192 (length text)) refl short)) r)
 
-first_well : (live : LiveState) → IsFirst live → FollowsWell live
+pub first_well : (live : LiveState) → IsFirst live → FollowsWell live
 first_well live first =
     let N : List ℕ → Type 0 = λ l. All (CanFollow live.state.sessions) l in
     record { followed = subst N (sym first.followed) (no_number live.state.sessions); pending = subst N (sym first.pending) (no_number live.state.sessions) }
 
-first_mirrors : (live : LiveState) → IsFirst live → Mirrors live.state.sessions []
+pub first_mirrors : (live : LiveState) → IsFirst live → Mirrors live.state.sessions []
 first_mirrors live first = ap (λ ss. map mirrored ss) (sym first.sessions)
 
 -- ---- all frames

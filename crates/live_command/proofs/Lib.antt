@@ -1,9 +1,6 @@
-pub mod EventLemmas
-pub mod LineLemmas
 pub mod RunLemmas
 pub mod ReadLemmas
 pub mod SyncLemmas
-pub mod GoesLemmas
 pub mod FaultLemmas
 pub mod LiveShown
 pub mod DiskLemmas

@@ -16,9 +16,9 @@ use Rattle.live_service.specs.LiveReplies.{LiveState}
 use Rattle.run_ends.specs.declared.ending.End.{End}
 use Rattle.series_book.specs.declared.one_series.Series.{Series}
 use Rattle.stored_book.specs.Standing.{StandsForBook}
-use Rattle.live_command.specs.Doing.{DoesLines, Held, LinesDone, LinesRead, held_with}
-use Rattle.live_command.specs.Reads.{ReadsBy, ReadsLines}
-use Rattle.live_command.proofs.EventLemmas.{reads_more, reads_none}
+use Rattle.hosted_lines.specs.Doing.{DoesLines, Held, LinesDone, LinesRead, held_with}
+use Rattle.hosted_lines.specs.Reads.{ReadsBy, ReadsLines}
+use Rattle.hosted_lines.proofs.EventLemmas.{reads_more, reads_none}
 
 -- the lines so far have read so many blocks, from one number to another
 pub record Read (input : List ℕ) (bytes : Option (List ℕ)) (given total : ℕ) (old : LiveState) (image : Image) (held : Held) (from to : ℕ) : Type 0 where

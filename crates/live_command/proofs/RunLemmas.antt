@@ -27,10 +27,10 @@ use Rattle.series_book.specs.declared.one_series.Series.{Series}
 use Rattle.stored_book.specs.Standing.{StandsForBook}
 use Rattle.store_commands.specs.Sides.{CountsSent}
 use Rattle.store_commands.specs.Books.{Stands}
-use Rattle.live_command.specs.Doing.{AreFirst, DoesLines, Held, LinesDone, LinesMoment, LinesStop, held_with}
-use Rattle.live_command.specs.Lives.{LivesBy, spelled}
+use Rattle.hosted_lines.specs.Doing.{AreFirst, DoesLines, Held, LinesDone, LinesMoment, LinesStop, held_with}
+use Rattle.hosted_lines.specs.Lives.{LivesBy, spelled}
 use Rattle.live_command.specs.Running.{EndsSo, FirstLines, IsAhead, SendsAll, SendsFirst, SendsTaken}
-use Rattle.live_command.proofs.EventLemmas.{by_more, by_none, length_more, sent_then}
+use Rattle.hosted_lines.proofs.EventLemmas.{by_more, by_none, length_more, sent_then}
 
 -- the lines so far are answered, all pushes behind them made, and their frames sent
 pub record Going (input : List ℕ) (bytes : Option (List ℕ)) (given total : ℕ) (old : LiveState) (image : Image) (held : Held) (before now : Option (List ℕ)) : Type 0 where

@@ -3,7 +3,7 @@ use Rattle.std.specs.Prelude.{ℕ, ◌≡◌, List, [], ◌∷◌, Option}
 use Rattle.line_raster.specs.Canvas.{Canvas}
 use Rattle.chart_frames.specs.declared.frame.Frame.{Frame}
 use Rattle.drawn_replies.specs.Mirrors.{IsPictureOf}
-use Rattle.live_command.specs.Lives.{Event, answer, push, lines_in}
+use Rattle.hosted_lines.specs.Lives.{Event, answer, push, lines_in}
 use Rattle.live_service.specs.Following.{ShowsView}
 use Rattle.live_service.specs.LiveReplies.{LiveState, LiveReplied, Pushed}
 

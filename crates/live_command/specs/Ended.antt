@@ -18,7 +18,7 @@ use Rattle.run_ends.specs.Statuses.{block_of}
 use Rattle.run_ends.specs.declared.ending.End.{End}
 use Rattle.run_ends.specs.declared.ending.End.TheVariants.{Done, NoMemory, ReadFault, SendFault, DiskFault, DamagedBlock, DamagedPage}
 use Rattle.run_ends.specs.declared.ending.End.TheVariants.{InputTooLong, TooSmall}
-use Rattle.live_command.specs.Reads.{ReadsLines}
+use Rattle.hosted_lines.specs.Reads.{ReadsLines}
 use Rattle.live_command.specs.Syncs.{SyncsLines}
 use Rattle.live_command.specs.Running.{EndsSo, IsAhead, SendsAll, SendsLines, SendsPart, SendsSome, SendsTaken, SendsWithin}
 

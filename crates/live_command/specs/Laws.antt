@@ -8,7 +8,7 @@ use Rattle.chart_service.specs.State.{IsSound}
 use Rattle.drawn_replies.specs.Mirrors.{Mirrors}
 use Rattle.drawn_replies.specs.Pictures.{AcceptsAll}
 use Rattle.live_command.specs.Drawn.{IsFirst, PicturesLines}
-use Rattle.live_command.specs.Lives.{LivesBy}
+use Rattle.hosted_lines.specs.Lives.{LivesBy}
 use Rattle.live_service.specs.LiveReplies.{LiveState}
 
 -- The drawings of all frames of a run are the pictures of the book: of each line's frame as it is at that line, of each push as it is behind the edit.

@@ -12,7 +12,7 @@ use Rattle.run_ends.specs.declared.ending.End.{End}
 use Rattle.run_ends.specs.declared.ending.End.TheVariants.{Done, NoMemory, ReadFault, SendFault, DiskFault, InputTooLong}
 use Rattle.series_book.specs.declared.one_series.Series.{Series}
 use Rattle.store_commands.specs.InputLines.{Unended}
-use Rattle.live_command.specs.Lives.{LivesBy, spelled}
+use Rattle.hosted_lines.specs.Lives.{LivesBy, spelled}
 
 -- Some first lines of the input are answered by these frames, in the order of the input, and all pushes behind each line
 -- but the last are made before the next line is answered; of those behind the last one some first are.

@@ -8,7 +8,6 @@
 //! The words of the command line are for the layer above.
 #![tactic(auto)]
 
-mod answering;
 mod command;
 pub mod laws;
 mod serving;

@@ -5,13 +5,14 @@ ghost use Rattle.chart_world.specs.Reading.{IsReadUp, unread_input};
 ghost use Rattle.live_service.specs.Shown as its;
 ghost use Rattle.live_view.specs.Live as follows;
 ghost use Rattle.run_ends.specs.Faults.{end_fault};
-ghost use Rattle.live_command.specs.Doing.{Goes, IsCause, side_of};
+ghost use Rattle.hosted_lines.specs.Doing.{Goes, IsCause, side_of};
 ghost use Rattle.live_command.specs.Syncs.{SyncsLines};
-ghost use Rattle.live_command.specs.Shown.{AreAnswered, EndsOn, HoldsSound, LastsFor, ReadsFew, pages};
+ghost use Rattle.hosted_lines.specs.Shown.{HoldsSound, pages};
+ghost use Rattle.live_command.specs.Shown.{AreAnswered, EndsOn, LastsFor, ReadsFew};
 
-use crate::answering::{answer_line, refuse_line};
 use chart_world::{LineAnswer, Lines};
 use gate_pages::PageWorld;
+use hosted_lines::{answer_line, refuse_line};
 use live_service::ServiceStepper;
 use live_view::Live;
 use run_ends::{End, input_end};

@@ -1,11 +1,10 @@
 -- Edits that a live service does together, by the relations of its stepper and over a plain book.
-use Rattle.std.proofs.Common.{◌≡◌, ◌≢◌, ◌∙◌, ◌+◌, ◌*◌, ◌≤◌, ℕ, List, [], ◌∷◌, length, Option, Result, Ok, Err, refl, ap, sym, subst}
-use Rattle.std.specs.Prelude.{All}
-use Rattle.block_disk.specs.View.{Image, View, Passes}
+use Rattle.std.proofs.Common.{◌≡◌, ◌∙◌, ◌+◌, ◌*◌, ◌≤◌, ℕ, List, [], ◌∷◌, length, Option, refl, ap}
+use Rattle.block_disk.specs.View.{Image}
 use Rattle.block_disk.specs.declared.streams.Streams.{Ghosts as StreamGhosts}
 use Rattle.block_disk.proofs.Passing.{passes_weaker}
 use Rattle.chart_frames.specs.declared.frame.Frame.{Frame}
-use Rattle.chart_service.specs.EditGroups.{AnswersSome, RepliesToEdits}
+use Rattle.chart_service.specs.EditGroups.{AnswersSome}
 use Rattle.chart_service.specs.Shown as shown
 use Rattle.chart_service.specs.State.{State}
 use Rattle.chart_service.specs.Stepping.{state_of}
@@ -13,13 +12,13 @@ use Rattle.chart_service.specs.Syncing.{group_syncs}
 use Rattle.chart_service.specs.declared.failure.ServiceError.{ServiceError}
 use Rattle.gate_pages.specs.Pages.{GoesOn, Quiet}
 use Rattle.gate_pages.specs.declared.pages.Pages.{Ghosts}
-use Rattle.live_service.specs.LiveReplies.{GroupReplied, LiveState, changed_by, changed_in}
+use Rattle.live_service.specs.LiveReplies.{GroupReplied, changed_by, changed_in}
 use Rattle.live_service.specs.Shown as its
 use Rattle.live_service.specs.Shown.{DoesSome, live_of}
 use Rattle.live_service.specs.Steps.{AnswersEdits, DoesTogether, LosesEdits}
 use Rattle.live_service.specs.declared.stepper.ServiceStepper.{ServiceStepper}
 use Rattle.live_service.proofs.Replying.{changes_in}
-use Rattle.live_view.specs.Groups.{AreChanged, ArePushedTo, followers_of}
+use Rattle.live_view.specs.Groups.{AreChanged, followers_of}
 use Rattle.live_view.specs.Live as follows
 use Rattle.live_view.specs.Meaning.{name_of}
 use Rattle.live_view.specs.declared.live.Live.{Live}

@@ -1,10 +1,10 @@
 -- One edit that is done as a group is the line that spells it, and groups have one answer and keep what can follow.
-use Rattle.std.proofs.Common.{◌≡◌, ◌∙◌, ◌≤◌, ℕ, Bool, true, false, List, [], ◌∷◌, length, Option, None, Some, Result, Ok, Err, if◌then◌else◌, refl, ap, sym, subst, arith}
+use Rattle.std.proofs.Common.{◌≡◌, ◌∙◌, ◌≤◌, ℕ, Bool, false, List, [], ◌∷◌, length, Option, None, Some, Result, Ok, Err, if◌then◌else◌, refl, ap, sym, subst, arith}
 use Rattle.std.specs.Prelude.{All, nat_lt, ◌↔◌}
 use Rattle.std.proofs.lemmas.Bool.Decides.{nat_tests}
 use Rattle.chart_frames.specs.declared.frame.Frame.{Frame}
 use Rattle.chart_service.specs.EditGroups.{RepliesToEdits, SpellsEdit}
-use Rattle.chart_service.specs.Replies.{Edits, Replies, RepliesTo}
+use Rattle.chart_service.specs.Replies.{Edits, RepliesTo}
 use Rattle.chart_service.specs.State.{State}
 use Rattle.chart_service.specs.Stepping.{RepliedTo}
 use Rattle.live_service.specs.Following.{CanFollow, FollowsWell}
@@ -13,11 +13,9 @@ use Rattle.live_service.proofs.OneAnswer.{OneRequest, same_live}
 use Rattle.live_view.proofs.GroupLemmas.{group-all, group-of-one}
 use Rattle.live_view.proofs.SpellingLemmas.{request-asks-nothing}
 use Rattle.live_view.specs.Groups.{followers_of}
-use Rattle.live_view.specs.Lines.{live_line}
 use Rattle.live_view.specs.Meaning.{meaning_in, meaning_of, name_of}
 use Rattle.live_view.specs.Replies.{ended, followers, still_followed}
 use Rattle.live_view.specs.declared.live_lines.LiveLine.{LiveLine}
-use Rattle.live_view.specs.declared.live_lines.LiveLine.TheVariants.{Other as OtherLine}
 use Rattle.live_view.specs.declared.meaning.Meaning.{Meaning}
 use Rattle.live_view.specs.declared.meaning.Meaning.TheVariants.{Edit as EditOf, Other}
 use Rattle.request_lines.specs.Requests.{read_line}

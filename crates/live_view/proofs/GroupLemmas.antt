@@ -1,6 +1,6 @@
 -- To whom edits push that are done together.
 use Rattle.std.proofs.Common.{◌≡◌, ◌∙◌, ℕ, Bool, true, false, ◌||◌, ◌==◌, List, [], ◌∷◌, ◌++◌, refl, ap, sym, subst, append_assoc, Option, None, Some}
-use Rattle.std.specs.Prelude.{All, Contains, filter, is_some, IsTrue, ◌↔◌}
+use Rattle.std.specs.Prelude.{All, filter, is_some, IsTrue}
 use Rattle.std.specs.List.Sorted.{IsStrictlyIncreasing}
 use Rattle.std.proofs.lemmas.List.{append-nil}
 use Rattle.std.proofs.lemmas.List.Kept.{IsStrictlyIncreasing-filter}
@@ -11,7 +11,7 @@ use Rattle.zoom_session.specs.declared.session.Session.{Session}
 use Rattle.zoom_session.specs.declared.view_spec.ViewSpec.{ViewSpec}
 use Rattle.zoom_session.specs.Sessions.{session_of, last_of}
 use Rattle.live_view.specs.declared.meaning.Meaning.TheVariants.{Edit as EditOf}
-use Rattle.live_view.specs.Groups.{AddsChanged, AreChanged, followers_of, is_one, shows_one}
+use Rattle.live_view.specs.Groups.{AddsChanged, followers_of, shows_one}
 use Rattle.live_view.specs.Meaning.{name_of}
 use Rattle.live_view.specs.Replies.{Changes, followers, shows}
 use Rattle.live_view.specs.Sessions.{HaveViews, has_view}

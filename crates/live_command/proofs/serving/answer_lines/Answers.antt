@@ -5,14 +5,16 @@ use Rattle.chart_world.specs.StandsLaws.{stands_beside, stands_first}
 use Rattle.chart_world.specs.Reading.{Reading, input_length, unread}
 use Rattle.live_service.specs.Shown as its
 use Rattle.chart_service.proofs.Outcomes.{ok_err}
-use Rattle.live_command.proofs.GoesLemmas.{cause_later, goes_further, goes_nowhere, goes_streams, held_same}
+use Rattle.hosted_lines.specs.GoesLaws.{cause_later, goes_further, goes_nowhere, goes_streams, held_same}
 use Rattle.live_command.proofs.ReadLemmas.{FarRead, far_read_first, far_read_kept, far_read_line, reads_far, reads_stopped}
 use Rattle.chart_service.specs.Serving.{end_of, unless_empty}
 use Rattle.chart_service.specs.Syncing.{edits_of}
-use Rattle.live_command.proofs.SyncLemmas.{FarSynced, far_synced_first, far_synced_kept, far_synced_line, none_syncs, syncs_far}
+use Rattle.hosted_lines.proofs.SyncLemmas.{none_syncs}
+use Rattle.live_command.proofs.SyncLemmas.{FarSynced, far_synced_first, far_synced_kept, far_synced_line, syncs_far}
 use Rattle.live_command.proofs.RunLemmas.{Far, all_on, far_first, far_kept, far_line, fault_on, lasts_on_first, lasts_on_line, lasts_on_take, line_stops}
-use Rattle.live_command.specs.Doing.{held_by, side_of}
-use Rattle.live_command.specs.Shown.{EndsOn, pages}
+use Rattle.hosted_lines.specs.Doing.{held_by, side_of}
+use Rattle.hosted_lines.specs.Shown.{pages}
+use Rattle.live_command.specs.Shown.{EndsOn}
 use Rattle.chart_service.specs.Faulting.{serve_fault}
 use Rattle.run_ends.specs.Faults.{end_fault}
 use Rattle.run_ends.specs.declared.ending.End.{End}

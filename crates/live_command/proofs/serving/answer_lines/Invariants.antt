@@ -7,8 +7,8 @@ use Rattle.live_view.specs.Live as follows
 use Rattle.live_command.proofs.ReadLemmas.{FarRead}
 use Rattle.live_command.proofs.SyncLemmas.{FarSynced}
 use Rattle.live_command.proofs.RunLemmas.{Far, LastsOn}
-use Rattle.live_command.specs.Doing.{Goes, held_by, side_of}
-use Rattle.live_command.specs.Shown.{pages}
+use Rattle.hosted_lines.specs.Doing.{Goes, held_by, side_of}
+use Rattle.hosted_lines.specs.Shown.{pages}
 use Rattle.live_command.proofs.serving.answer_lines.Given as goal
 
 -- the lines given so far are answered, and all pushes behind them made

@@ -4,8 +4,8 @@ use Rattle.live_command.proofs.ReadLemmas.{reads_nothing}
 use Rattle.live_command.proofs.SyncLemmas.{syncs_nothing}
 use Rattle.live_command.proofs.RunLemmas.{lasts_on_first, no_memory_on}
 use Rattle.run_ends.specs.declared.ending.End.{End}
-use Rattle.live_command.specs.Doing.{IsCause, held_by, side_of}
-use Rattle.live_command.specs.Shown.{pages}
+use Rattle.hosted_lines.specs.Doing.{IsCause, held_by, side_of}
+use Rattle.hosted_lines.specs.Shown.{pages}
 use Rattle.live_command.proofs.serving.serve_live.Goals as goal
 
 pub returns-in_default-clause-ends : goal.returns-in_default-clause-ends

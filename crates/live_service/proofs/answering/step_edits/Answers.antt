@@ -1,6 +1,4 @@
-use Rattle.std.proofs.Common.{◌≡◌, ◌≢◌, ◌∙◌, Err, refl, ap, subst, inr}
-use Rattle.block_disk.specs.View.{Image}
-use Rattle.chart_service.specs.Shown as shown
+use Rattle.std.proofs.Common.{Err, refl, ap, subst, inr}
 use Rattle.chart_service.specs.Stepping.{state_of}
 use Rattle.chart_service.specs.declared.failure.ServiceError.{ServiceError}
 use Rattle.live_view.specs.Live as follows

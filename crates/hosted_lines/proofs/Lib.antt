@@ -1,0 +1,13 @@
+pub mod EventLemmas
+pub mod FaultLemmas
+pub mod SyncLemmas
+pub mod LineLemmas
+pub mod RowLemmas
+pub mod HostLemmas
+pub mod SpelledLemmas
+pub mod GroupLemmas
+pub mod WorkLemmas
+pub mod TurnLemmas
+pub mod FrontLemmas
+pub mod EndLemmas
+pub mod SendLemmas

@@ -1,0 +1,53 @@
+use Rattle.std.proofs.Common.{◌∙◌, List, length, ap, sym, subst}
+use Rattle.block_disk.specs.View.{Beside}
+use Rattle.chart_frames.specs.declared.frame.Frame.{Frame}
+use Rattle.gate_pages.proofs.Moving.{sent_same}
+use Rattle.live_service.specs.LiveReplies.{GroupReplied}
+use Rattle.hosted_lines.specs.Doing.{held_by, held_with}
+use Rattle.hosted_lines.specs.GoesLaws.{held_same}
+use Rattle.hosted_lines.specs.Lives.{spelled}
+use Rattle.hosted_lines.specs.Shown.{pages}
+use Rattle.hosted_lines.proofs.GroupLemmas.{group_sends, group_unmade}
+use Rattle.hosted_lines.proofs.SpelledLemmas.{sound_edits}
+use Rattle.hosted_lines.proofs.settling.answer_group.Goals as goal
+
+pub returns-in-Ok-clause-does : goal.returns-in-Ok-clause-does
+returns-in-Ok-clause-does g c = λ lines spell total book told stands sound.
+    let view = g.P.Pages.view in
+    let sent = g.P.Streams.sent in
+    let w = g.met.P.PageWorld in
+    let old = c.args.live.now in
+    let mid = c.step_edits.new.live in
+    let new = c.send_frames.new.live in
+    let at = pages old in
+    let between = pages mid in
+    let at' = pages new in
+    let frames : List Frame = c.as_slice.result.now in
+    let e = c.in-Ok.ensures in
+    let made = c.send_frames.ensures in
+    let n = length (spelled frames) in
+    let sends = made.beside.changed.store_is.pages_are in
+    let reply = e.reply total book told stands in
+    let F : List Frame → Type 0 = λ f. GroupReplied c.args.edits.now f (held_with total book (held_by old)) (held_with total reply.book (held_by mid)) in
+    let replied = subst F (sym c.as_slice.ensures.value) reply.so in
+    let passes = e.moments total book told stands in
+    group_sends lines c.args.edits.now total book (held_by old) spell c.requires.few c.requires.idle
+    frames (held_by mid) (held_by new) (held_same _ _ _ _ _ _ made.beside.changed.sessions made.beside.followed_same made.beside.pending_same) reply.book replied
+    (sound_edits c.args.edits.now frames _ _ replied.replied sound) (view at) (view between) (view at') (sent at) (sent between) (sent at') reply.stands passes (sent_same (view at) (view between) _ passes)
+    (sym (w.beside_sent between) ∙ ap (λ (b : Beside). b.sent) e.moves.beside ∙ w.beside_sent at)
+    (e.reads total book told stands) (e.syncs total book told stands) (w.send_keeps n between at' sends) c.send_frames.result made.whole made.stops (g.met.P.Pages.rests between (e.sound (λ is. cc))) (w.send_passes n between at' sends) (w.send_counts n between at' sends)
+
+pub returns-in-Err-clause-does : goal.returns-in-Err-clause-does
+returns-in-Err-clause-does g c = λ lines spell total book told stands sound.
+    let view = g.P.Pages.view in
+    let sent = g.P.Streams.sent in
+    let w = g.met.P.PageWorld in
+    let old = c.args.live.now in
+    let mid = c.step_edits.new.live in
+    let at = pages old in
+    let between = pages mid in
+    let e = c.in-Err.ensures in
+    group_unmade lines c.args.edits.now total book (held_by old) spell c.requires.few c.requires.idle c.in-Err.error c.step_end.result (held_by mid) (view at) (view between) (sent at) (sent between) c.step_end.ensures
+    (e.standing total book told stands) (λ other. e.left total book told stands (λ is. other (cc)))
+    (sym (w.beside_sent between) ∙ ap (λ (b : Beside). b.sent) e.moves.beside ∙ w.beside_sent at)
+    (e.moments total book told stands) (e.reads total book told stands) (e.syncs total book told stands)

@@ -1,0 +1,31 @@
+use Rattle.std.proofs.Common.{◌≡◌, [], length, sym, arith}
+use Rattle.std.proofs.lemmas.Grind.{common_steps}
+use Rattle.std.proofs.lemmas.List.{append-nil}
+use Rattle.hosted_lines.specs.Doing.{held_by, held_with}
+use Rattle.hosted_lines.specs.Shown.{pages}
+use Rattle.hosted_lines.proofs.HostLemmas.{host_then, lines_so, live_does, none_hosts}
+use Rattle.hosted_lines.proofs.SpelledLemmas.{spell_none}
+use Rattle.hosted_lines.proofs.settling.do_group.Goals as goal
+
+pub returns-then-is_empty-clause-does : goal.returns-then-is_empty-clause-does
+returns-then-is_empty-clause-does g c = λ lines spell total book told stands sound.
+    let at = pages c.args.live.now in
+    let held = held_by c.args.live.now in
+    let none : length c.args.edits.now ≡ 0 = grind (arith, common_steps) in
+    lines_so [] lines total (held_with total book held) _ (g.P.Pages.view at) (g.P.Pages.view at) held (g.P.Streams.sent at) (g.P.Streams.sent at) (sym (spell_none lines c.args.edits.now none spell))
+    (none_hosts _ total book held (g.P.Pages.view at) (g.P.Streams.sent at) stands sound)
+
+pub returns-in-Ok-clause-does : goal.returns-in-Ok-clause-does
+returns-in-Ok-clause-does g c = λ lines spell total book told stands sound.
+    let view = g.P.Pages.view in
+    let sent = g.P.Streams.sent in
+    let w = g.met.P.PageWorld in
+    let old = c.args.live.now in
+    let mid = c.answer_group.new.live in
+    let new = c.send_pushes.new.live in
+    let first = c.in-Ok.ensures.does lines spell total book told stands sound in
+    let second = c.send_pushes.ensures.does total first.done.book (c.in-Ok.ensures.goes.is_told told) first.done.stands first.done.sound in
+    lines_so _ lines total (held_with total book (held_by old)) c.send_pushes.result (view (pages old)) (view (pages new)) (held_by new) (sent (pages old)) (sent (pages new)) (append-nil lines)
+    (host_then lines [] total (held_with total book (held_by old)) (held_by mid) (held_by new) (view (pages old)) (view (pages mid)) (view (pages new)) (sent (pages old)) (sent (pages mid)) (sent (pages new)) first.done
+    (w.counts_sent (pages old)) (w.counts_sent (pages mid)) first.moments c.send_pushes.result
+    (live_does [] total (held_with total first.done.book (held_by mid)) c.send_pushes.result (view (pages mid)) (view (pages new)) (held_by new) (sent (pages mid)) (sent (pages new)) c.send_pushes.ensures.syncs second))

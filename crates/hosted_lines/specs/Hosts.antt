@@ -1,0 +1,92 @@
+-- The run of a host over lines: what is answered, done together and pushed, one after the other.
+use Rattle.std.specs.Prelude.{ℕ, ◌≡◌, ◌+◌, ◌*◌, ◌≤◌, List, [], ◌∷◌, ◌++◌, length, Option}
+use Rattle.chart_frames.specs.declared.frame.Frame.{Frame}
+use Rattle.chart_service.specs.EditGroups.{SpellEdits}
+use Rattle.chart_service.specs.ReadingBlocks.{ReadsLine}
+use Rattle.chart_service.specs.Serving.{most_ahead}
+use Rattle.chart_service.specs.Syncing.{edit_of, edits_of, group_syncs}
+use Rattle.live_service.specs.LiveReplies.{GroupReplied, LiveReplied, LiveState, Pushed, ReadsPush}
+use Rattle.series_book.specs.declared.edits.Edit.{Edit}
+
+-- What a host does: it answers a line, which is its text or nothing where that is too long; it does the edits that some lines
+-- spell, together; or it makes a push.
+pub data Event : Type 0 where
+  answer : Option (List ℕ) → Event
+  group : List (Option (List ℕ)) → Event
+  push : Event
+
+-- one of them, and those behind it
+pub record OneThen {X : Type 0} (one : List Frame → X → X → Type 0) (others : X → List Frame → Type 0) (old : X) (frames : List Frame) : Type 0 where
+  pub first : List Frame
+  pub between : X
+  pub happens : one first old between
+  pub more : List Frame
+  pub later : others between more
+  pub frames_are : frames ≡ first ++ more
+
+-- events that happen so, one after the other, each with its frames
+abbrev pub InRow : {X : Type 0} → (Event → List Frame → X → X → Type 0) → X → List Event → List Frame → X → Type 0
+InRow {X} happens old [] frames new = (frames ≡ []) × (new ≡ old)
+InRow {X} happens old (event ∷ later) frames new = OneThen (happens event) (λ between more. InRow happens between later more new) old frames
+
+-- a line is answered by its frame, where no push is pending
+pub record AnswersLine (line : Option (List ℕ)) (frames : List Frame) (old new : LiveState) : Type 0 where
+  pub frame : Frame
+  pub frames_are : frames ≡ frame ∷ []
+  pub idle : old.pending ≡ []
+  pub replied : LiveReplied line frame old new
+
+-- edits are done together that lines spell, at most so many, where no push is pending
+pub record DoesGroup (lines : List (Option (List ℕ))) (frames : List Frame) (old new : LiveState) : Type 0 where
+  pub edits : List Edit
+  pub spell : SpellEdits lines edits
+  pub few : length lines ≤ most_ahead
+  pub idle : old.pending ≡ []
+  pub replied : GroupReplied edits frames old new
+
+-- a push is made
+pub record MakesPush (frames : List Frame) (old new : LiveState) : Type 0 where
+  pub frame : Frame
+  pub frames_are : frames ≡ frame ∷ []
+  pub pushed : Pushed frame old new
+
+-- what an event does
+abbrev pub Happens : Event → List Frame → LiveState → LiveState → Type 0
+Happens (answer line) frames old new = AnswersLine line frames old new
+Happens (group lines) frames old new = DoesGroup lines frames old new
+Happens push frames old new = MakesPush frames old new
+
+-- the lines that are answered
+abbrev pub lines_in : List Event → List (Option (List ℕ))
+lines_in [] = []
+lines_in (answer line ∷ later) = line ∷ lines_in later
+lines_in (group lines ∷ later) = lines ++ lines_in later
+lines_in (push ∷ later) = lines_in later
+
+-- ---- what it costs
+
+-- a state, and how often blocks were read and the disk was synced until then
+pub record Counted : Type 0 where
+  pub live : LiveState
+  pub reads : ℕ
+  pub syncs : ℕ
+
+-- how many blocks an event reads at most, where there is a bound
+abbrev pub ReadsBy : Event → LiveState → ℕ → ℕ → Type 0
+ReadsBy (answer line) old from to = ReadsLine line old.state from to
+ReadsBy (group lines) old from to = to ≤ from + 96 * length lines
+ReadsBy push old from to = ReadsPush old.pending old.state from to
+
+-- how often it syncs the disk at most: a group as its edits are committed together
+abbrev pub SyncsBy : Event → LiveState → ℕ → ℕ → Type 0
+SyncsBy (answer line) old from to = to ≤ from + 4 * length (edit_of line)
+SyncsBy (group lines) old from to = to ≤ from + group_syncs old.state.total old.state.book (edits_of lines)
+SyncsBy push old from to = to ≡ from
+
+pub record Costs (event : Event) (old : LiveState) (reads reads' syncs syncs' : ℕ) : Type 0 where
+  pub reads_few : ReadsBy event old reads reads'
+  pub syncs_few : SyncsBy event old syncs syncs'
+
+pub record HappensFor (event : Event) (frames : List Frame) (old new : Counted) : Type 0 where
+  pub happens : Happens event frames old.live new.live
+  pub costs : Costs event old.live old.reads new.reads old.syncs new.syncs

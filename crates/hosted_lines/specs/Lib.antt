@@ -1,0 +1,11 @@
+pub mod Lives
+pub mod Reads
+pub mod Shown
+pub mod Doing
+pub mod GoesLaws
+pub mod Hosts
+pub mod Hosting
+pub mod Working
+pub mod WorkLaws
+pub mod Running
+pub mod Served

@@ -1,6 +1,0 @@
-use Rattle.std.proofs.Common.{length}
-use Rattle.live_view.specs.Live as follows
-use Rattle.live_command.proofs.answering.+send_pushes.Given as goal
-
-abbrev pub decreases-send_pushes : goal.decreases-send_pushes
-decreases-send_pushes g l = length (follows.pending l.live.now)
