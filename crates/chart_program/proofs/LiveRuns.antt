@@ -5,7 +5,7 @@ use Rattle.std.proofs.Common.{◌≡◌, ℕ, ◌+◌, true, false, List, [], �
 use Rattle.std.proofs.lemmas.Slice.Eq.{bytes_eq-Decides}
 use Rattle.chart_frames.specs.declared.frame.Frame.{Frame}
 use Rattle.chart_service.specs.Replies.{own_zoom}
-use Rattle.live_command.specs.Lives.{Event, answer, push, lines_in, Lives, LivesBy}
+use Rattle.hosted_lines.specs.Lives.{Event, answer, push, lines_in, Lives, LivesBy}
 use Rattle.live_service.specs.LiveReplies.{LiveState, LiveReplied, RepliesTo, Pushed}
 use Rattle.live_view.specs.Lines.{session_alone, follows, unfollows, tokens_ask, live_line}
 use Rattle.live_view.specs.declared.live_lines.LiveLine.{LiveLine}
