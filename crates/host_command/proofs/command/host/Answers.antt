@@ -1,0 +1,83 @@
+use Rattle.std.proofs.Common.{◌∙◌, ap, subst, sym}
+use Rattle.block_disk.specs.View.{Beside}
+use Rattle.chart_world.specs.FaultLaws.{counts_no_disk, counts_then}
+use Rattle.run_ends.specs.Faults.{end_fault}
+use Rattle.run_ends.specs.Statuses.{status_of}
+use Rattle.run_ends.specs.declared.ending.End.{End}
+use Rattle.series_store.specs.Shown as stored
+use Rattle.store_commands.proofs.TurnedAway.{away_never}
+use Rattle.store_commands.proofs.WorldLemmas.{away_over, traffic_over, unopened_over}
+use Rattle.store_commands.specs.Faulting.{counts_unopened_end}
+use Rattle.store_commands.specs.Traffic.{Traffic, traffic}
+use Rattle.host_command.specs.Ended.{HostEnds}
+use Rattle.host_command.proofs.DiskLemmas.{costs_on, costs_unopened, host_ends, unopened_ends}
+use Rattle.host_command.proofs.command.host.Goals as goal
+
+pub returns-in-Ok-clause-ends : goal.returns-in-Ok-clause-ends
+returns-in-Ok-clause-ends g c =
+    let view = g.W.Disk.view in
+    let left = g.W.Streams.left in
+    let sent = g.W.Streams.sent in
+    let reads = g.W.Streams.read_faults in
+    let sends = g.W.Streams.send_faults in
+    let w = g.met.W.World in
+    let first = c.args.world in
+    let opened = stored.pages c.in-Ok.store in
+    let start = opened.disk in
+    let new = c.serve_store.result.1 in
+    let end = c.serve_store.result.0 in
+    let e = c.in-Ok.ensures in
+    let all = host_ends (view first) (view start) (view new) (traffic left sent reads sends start new) e.opens e.quiet opened.count end e.count c.serve_store.ensures.serves in
+    let same = traffic_over view left sent reads sends w.beside_left w.beside_sent w.beside_read_faults w.beside_send_faults first start new e.opens.beside_is in
+    let T : Traffic → Type 0 = λ t. HostEnds (view first) (view new) t end in
+    subst T same all
+
+pub returns-in-Err-clause-ends : goal.returns-in-Err-clause-ends
+returns-in-Err-clause-ends g c =
+    let view = g.W.Disk.view in
+    let left = g.W.Streams.left in
+    let sent = g.W.Streams.sent in
+    let old = c.args.world in
+    let back = c.in-Err.field-0 in
+    let e = c.in-Err.ensures in
+    unopened_ends (view old) (view back.value) (traffic left sent g.W.Streams.read_faults g.W.Streams.send_faults old back.value) back.cause c.opening_end.result c.opening_end.ensures
+    (unopened_over view left sent g.met.W.World.beside_left g.met.W.World.beside_sent old back.value back.cause e.opens.beside_is e.opens e.cause e.a_store)
+
+pub returns-in-Ok-clause-away : goal.returns-in-Ok-clause-away
+returns-in-Ok-clause-away g c = away_never _ _ c.in-Ok.ensures.large
+
+pub returns-in-Err-clause-away : goal.returns-in-Err-clause-away
+returns-in-Err-clause-away g c =
+    away_over g.W.Disk.view g.W.Streams.left g.W.Streams.sent g.met.W.World.beside_left g.met.W.World.beside_sent c.args.world c.in-Err.field-0.value c.in-Err.field-0.cause c.in-Err.ensures.opens.beside_is (status_of c.opening_end.result) (ap (λ (e : End). status_of e) c.opening_end.ensures) c.in-Err.ensures.cause
+
+pub returns-in-Ok-clause-costs : goal.returns-in-Ok-clause-costs
+returns-in-Ok-clause-costs g c =
+    let view = g.W.Disk.view in
+    let left = g.W.Streams.left in
+    let old = c.args.world in
+    let opened = stored.pages c.in-Ok.store in
+    let start = opened.disk in
+    let new = c.serve_store.result.1 in
+    let w = g.met.W.World in
+    costs_on opened.count (view old) (view start) (view new) (left start) (left old) c.in-Ok.ensures.count c.in-Ok.ensures.opens
+    (sym (w.beside_left start) ∙ ap (λ (b : Beside). b.left) c.in-Ok.ensures.opens.beside_is ∙ w.beside_left old) c.serve_store.ensures.costs
+
+pub returns-in-Err-clause-costs : goal.returns-in-Err-clause-costs
+returns-in-Err-clause-costs g c =
+    let view = g.W.Disk.view in
+    costs_unopened (view c.args.world) (view c.in-Err.field-0.value) (g.W.Streams.left c.args.world) c.in-Err.ensures.opens
+
+pub returns-in-Ok-clause-faults : goal.returns-in-Ok-clause-faults
+returns-in-Ok-clause-faults g c =
+    let view = g.W.Disk.view in
+    let old = view c.args.world in
+    let start = view (stored.pages c.in-Ok.store).disk in
+    let e = c.in-Ok.ensures in
+    counts_then (end_fault c.serve_store.result.0) old start (view c.serve_store.result.1) (counts_no_disk old start e.opens.beside_is e.quiet) c.serve_store.ensures.faults
+
+pub returns-in-Err-clause-faults : goal.returns-in-Err-clause-faults
+returns-in-Err-clause-faults g c =
+    let view = g.W.Disk.view in
+    let back = c.in-Err.field-0 in
+    let e = c.in-Err.ensures in
+    counts_unopened_end back.cause c.opening_end.result (view c.args.world) (view back.value) c.opening_end.ensures e.opens.beside_is e.cause e.quiet_err

@@ -1,0 +1,96 @@
+use Rattle.std.proofs.Common.{◌≡◌, ◌≢◌, ◌∙◌, ℕ, List, ap, sym, subst}
+use Rattle.std.specs.Prelude.{IfSome, IsTrue}
+use Rattle.chart_service.specs.Shown as shown
+use Rattle.run_ends.specs.Faults.{end_fault}
+use Rattle.run_ends.specs.declared.ending.End.TheVariants.{DiskFault}
+use Rattle.chart_service.specs.declared.service.Service.{Service}
+use Rattle.gate_pages.specs.GatePages.{IsClosed}
+use Rattle.live_service.specs.Shown as its
+use Rattle.series_book.specs.declared.one_series.Series.{Series}
+use Rattle.series_store.specs.Shown as stored
+use Rattle.store_commands.proofs.Held.{RestsNew, rests_new}
+use Rattle.store_commands.specs.Traffic.{traffic}
+use Rattle.store_commands.specs.TrafficLaws.{was_read}
+use Rattle.store_commands.proofs.Stores.{store_disk, store_sound}
+use Rattle.host_command.specs.Ended.{CostsFrom}
+use Rattle.live_command.specs.Ended.{begun_live}
+use Rattle.host_command.specs.Ending.{Served}
+use Rattle.live_command.proofs.DiskLemmas.{begins_so}
+use Rattle.host_command.proofs.DiskLemmas.{costs_from, served_by}
+use Rattle.live_command.proofs.LiveShown.{begun_service, ended_store}
+use Rattle.chart_world.specs.Faults.{CountsFault}
+use Rattle.host_command.proofs.command.serve_service.Goals as goal
+
+pub returns-clause-serves : goal.returns-clause-serves
+returns-clause-serves g c =
+    let view = g.W.Disk.view in
+    let left = g.W.Streams.left in
+    let sent = g.W.Streams.sent in
+    let reads = g.W.Streams.read_faults in
+    let sends = g.W.Streams.send_faults in
+    let service = c.args.service in
+    let start = c.new-live.result in
+    let after = c.host_lines-end.new.live in
+    let end = c.host_lines-end.result in
+    let made = c.host_lines-end.ensures in
+    let pages = shown.pages (its.service start) in
+    let end_pages = shown.pages (its.service after) in
+    let disk = pages.disk in
+    let new = end_pages.disk in
+    let store = c.into_store.result in
+    let is_service = begun_service start c.new.result service c.new-live.ensures.stepper c.new.ensures in
+    let is_store = ended_store after c.into_stepper.result c.into_service-service.result store c.into_stepper.ensures c.into_service-service.ensures c.into_store.ensures in
+    let same_disk = c.disk_of.ensures.disk ∙ store_disk store (its.service after).store is_store in
+    let closed : end ≢ DiskFault → IsClosed (view new) = λ other.
+    let P : g.row.W.Denot → Type 0 = λ d. IsClosed (view d) in
+    subst P same_disk (c.disk_of.ensures.rests (subst IsTrue (sym (store_sound store (its.service after).store is_store)) (made.sound other))) in
+    let alone = ap (λ (s : Service _ _). s.sessions) is_service ∙ c.requires.alone in
+    let begins : (total : ℕ) (book : List Series) → its.state start total book ≡ begun_live total book =
+    λ total book. begins_so total book (its.service start).sessions start.followed.items start.pending.items alone c.new-live.ensures.none c.new-live.ensures.idle in
+    let R : Service _ _ → Type 0 = λ s. RestsNew (shown.pages s).count (view (shown.pages s).disk) in
+    let rests : RestsNew pages.count (view disk) = subst R (sym is_service) (rests_new (shown.pages service).count (view (shown.pages service).disk) (stored.numbers service.store) ((shown.pages service).at_rest c.requires.sound) (service.store.space.spelled c.requires.sound)) in
+    let all = served_by pages.count end_pages.count pages.sound end_pages.sound (view disk) (view new) (traffic left sent reads sends disk new) made.goes rests (its.state start) begins
+    end (λ done. was_read (left disk) (left new) (made.within done) (made.whole done)) made.long made.cause made.ends made.crash closed in
+    let D : g.row.W.Denot → Type 0 = λ d. Served pages.count (view disk) (view d) (traffic left sent reads sends disk d) end in
+    let S : Service _ _ → Type 0 = λ s. Served (shown.pages s).count (view (shown.pages s).disk) (view c.disk_of.result) (traffic left sent reads sends (shown.pages s).disk c.disk_of.result) end in
+    subst S is_service (subst D (sym same_disk) all)
+
+pub returns-clause-costs : goal.returns-clause-costs
+returns-clause-costs g c =
+    let view = g.W.Disk.view in
+    let left = g.W.Streams.left in
+    let service = c.args.service in
+    let start = c.new-live.result in
+    let after = c.host_lines-end.new.live in
+    let made = c.host_lines-end.ensures in
+    let pages = shown.pages (its.service start) in
+    let end_pages = shown.pages (its.service after) in
+    let disk = pages.disk in
+    let new = end_pages.disk in
+    let store = c.into_store.result in
+    let is_service = begun_service start c.new.result service c.new-live.ensures.stepper c.new.ensures in
+    let is_store = ended_store after c.into_stepper.result c.into_service-service.result store c.into_stepper.ensures c.into_service-service.ensures c.into_store.ensures in
+    let same_disk = c.disk_of.ensures.disk ∙ store_disk store (its.service after).store is_store in
+    let alone = ap (λ (s : Service _ _). s.sessions) is_service ∙ c.requires.alone in
+    let begins : (total : ℕ) (book : List Series) → its.state start total book ≡ begun_live total book =
+    λ total book. begins_so total book (its.service start).sessions start.followed.items start.pending.items alone c.new-live.ensures.none c.new-live.ensures.idle in
+    let R : Service _ _ → Type 0 = λ s. RestsNew (shown.pages s).count (view (shown.pages s).disk) in
+    let rests : RestsNew pages.count (view disk) = subst R (sym is_service) (rests_new (shown.pages service).count (view (shown.pages service).disk) (stored.numbers service.store) ((shown.pages service).at_rest c.requires.sound) (service.store.space.spelled c.requires.sound)) in
+    let D : g.row.W.Denot → Type 0 = λ d. IfSome (left disk) (λ input. CostsFrom pages.count (view disk) (view d) input (view disk).reads (view disk).syncs) in
+    let S : Service _ _ → Type 0 = λ s. IfSome (left (shown.pages s).disk) (λ input. CostsFrom (shown.pages s).count (view (shown.pages s).disk) (view c.disk_of.result) input (view (shown.pages s).disk).reads (view (shown.pages s).disk).syncs) in
+    subst S is_service (subst D (sym same_disk) (costs_from pages.count (view disk) (view new) rests (left disk) (its.state start) begins made.costs))
+
+pub returns-clause-faults : goal.returns-clause-faults
+returns-clause-faults g c =
+    let view = g.W.Disk.view in
+    let service = c.args.service in
+    let start = c.new-live.result in
+    let after = c.host_lines-end.new.live in
+    let fault = end_fault c.host_lines-end.result in
+    let store = c.into_store.result in
+    let is_service = begun_service start c.new.result service c.new-live.ensures.stepper c.new.ensures in
+    let is_store = ended_store after c.into_stepper.result c.into_service-service.result store c.into_stepper.ensures c.into_service-service.ensures c.into_store.ensures in
+    let same_disk = c.disk_of.ensures.disk ∙ store_disk store (its.service after).store is_store in
+    let D : g.row.W.Denot → Type 0 = λ d. CountsFault fault (view (shown.pages (its.service start)).disk) (view d) in
+    let S : Service _ _ → Type 0 = λ s. CountsFault fault (view (shown.pages s).disk) (view c.disk_of.result) in
+    subst S is_service (subst D (sym same_disk) c.host_lines-end.ensures.faults)

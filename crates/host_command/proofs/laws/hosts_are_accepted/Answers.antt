@@ -1,0 +1,19 @@
+use Rattle.live_command.proofs.Drawing.{Laws}
+use Rattle.host_command.proofs.Drawing.{Requests, hosts_accepted}
+use Rattle.host_command.proofs.laws.hosts_are_accepted.Goals as goal
+
+requests : goal.After-clients_draw_pushes → Requests
+requests c = record { draws = c.clients_draw_requests.ensures.draws; accepts = c.clients_draw_requests.ensures.accepts }
+
+laws : goal.After-clients_draw_pushes → Laws
+laws c = record {
+  line_draws = c.clients_draw_lines.ensures.draws;
+  line_accepts = c.clients_draw_lines.ensures.accepts;
+  line_sound = c.clients_draw_lines.ensures.sound;
+  push_draws = c.clients_draw_pushes.ensures.draws;
+  push_accepts = c.clients_draw_pushes.ensures.accepts;
+  push_book = c.clients_draw_pushes.ensures.book;
+}
+
+pub returns : goal.returns
+returns c = hosts_accepted (requests c) (laws c)

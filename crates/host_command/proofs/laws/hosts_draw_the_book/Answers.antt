@@ -1,0 +1,29 @@
+use Rattle.live_command.proofs.Drawing.{Laws, Following}
+use Rattle.host_command.proofs.Drawing.{Groups, Requests, hosts_drawn}
+use Rattle.host_command.proofs.laws.hosts_draw_the_book.Goals as goal
+
+requests : goal.After-pushes_show_views → Requests
+requests c = record { draws = c.clients_draw_requests.ensures.draws; accepts = c.clients_draw_requests.ensures.accepts }
+
+laws : goal.After-pushes_show_views → Laws
+laws c = record {
+  line_draws = c.clients_draw_lines.ensures.draws;
+  line_accepts = c.clients_draw_lines.ensures.accepts;
+  line_sound = c.clients_draw_lines.ensures.sound;
+  push_draws = c.clients_draw_pushes.ensures.draws;
+  push_accepts = c.clients_draw_pushes.ensures.accepts;
+  push_book = c.clients_draw_pushes.ensures.book;
+}
+
+following : goal.After-pushes_show_views → Following
+following c = record {
+  line_well = c.followed_sessions_can_follow.ensures.lines;
+  push_well = c.followed_sessions_can_follow.ensures.pushes;
+  push_shows = c.pushes_show_views.ensures;
+}
+
+groups : goal.After-pushes_show_views → Groups
+groups c = record { well = c.followed_sessions_can_follow.ensures.groups }
+
+pub returns : goal.returns
+returns c = hosts_drawn (requests c) (laws c) (following c) (groups c)

@@ -1,0 +1,17 @@
+-- What is done over a store on a disk. Private contracts are stated by these words.
+use Rattle.std.specs.Prelude.{ℕ, IfSome}
+use Rattle.block_disk.specs.View.{Honest, View}
+use Rattle.gate_pages.specs.Pages.{GoesOn}
+use Rattle.run_ends.specs.declared.ending.End.{End}
+use Rattle.store_commands.specs.Traffic.{Traffic}
+use Rattle.live_command.specs.Ending.{IsServeCause}
+use Rattle.host_command.specs.Ended.{DoesHost, LeavesHosted}
+
+-- The lines of the input were answered over a disk, all of them or some first ones.
+pub record Served (count : ℕ) (old new : View) (t : Traffic) (end : End) : Type 0 where
+  pub cause : IsServeCause end count old new t
+  pub does : DoesHost count old new t end
+  pub crash : IfSome t.left (λ input. IfSome t.sent (λ bytes. LeavesHosted count input old new))
+  -- reads give what a crash may leave, where they did
+  pub honest : Honest old → Honest new
+  pub goes_on : GoesOn old new

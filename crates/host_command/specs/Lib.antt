@@ -1,0 +1,4 @@
+pub mod Ended
+pub mod Ending
+pub mod Drawn
+pub mod Laws

@@ -1,0 +1,37 @@
+//! What a client draws of a host's run. The functions do nothing: their contracts are the laws.
+ghost use Rattle.std.specs.Prelude.{ℕ, List, Option};
+ghost use Rattle.chart_frames.specs.declared.frame.Frame.{Frame};
+ghost use Rattle.chart_service.specs.State.{IsSound};
+ghost use Rattle.drawn_replies.specs.Pictures.{NoneRejected};
+ghost use Rattle.hosted_lines.specs.Running.{HostedBy};
+ghost use Rattle.live_command.specs.Drawn.{IsFirst};
+ghost use Rattle.live_service.specs.LiveReplies.{LiveState};
+ghost use Rattle.host_command.specs.Laws.{HostsDrawTheBook};
+
+use drawn_replies::laws::clients_draw_requests;
+use live_service::laws::{
+    clients_draw_lines, clients_draw_pushes, followed_sessions_can_follow, pushes_show_views,
+};
+
+/// A client that is sent all frames of a run draws the pictures of the book: of each line's frame as the book is at
+/// that line, of the edits of a group nothing, and of each push, which always shows a view, as the book is behind the
+/// group.
+pub fn hosts_draw_the_book()
+    ensures { HostsDrawTheBook }
+{
+    clients_draw_requests();
+    clients_draw_lines();
+    clients_draw_pushes();
+    followed_sessions_can_follow();
+    pushes_show_views();
+}
+
+/// Nothing but want of memory keeps it from accepting one of them.
+pub fn hosts_are_accepted()
+    ensures { (lines : List (Option (List ℕ))) (frames : List Frame) (old new : LiveState) →
+        IsSound old.state → IsFirst old → HostedBy lines frames old new → NoneRejected frames }
+{
+    clients_draw_requests();
+    clients_draw_lines();
+    clients_draw_pushes();
+}
