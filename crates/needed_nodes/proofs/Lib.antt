@@ -10,6 +10,7 @@ pub mod StoredEnds
 pub mod EndLaws
 pub mod ColumnLaws
 pub mod OrderLaws
+pub mod LevelLaws
 pub mod PickLaws
 pub mod PairLaws
 pub mod PointLaws

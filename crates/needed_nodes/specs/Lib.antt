@@ -7,4 +7,5 @@ pub mod Entering
 pub mod Ends
 pub mod Columns
 pub mod Ordering
+pub mod Levels
 pub mod Exploring

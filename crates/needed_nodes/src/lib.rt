@@ -17,6 +17,7 @@ mod columns;
 mod ends;
 mod finding;
 pub mod laws;
+mod level;
 mod ordering;
 mod scan_of;
 mod spanning;

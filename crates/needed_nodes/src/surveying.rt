@@ -70,7 +70,7 @@ pub fn survey<N: Nodes>(
 {
     let explored = explore(alloc, nodes, axis, grid, lo, hi)?;
     let mut keys = explored.keys;
-    sort_keys(&mut keys)?;
+    sort_keys(alloc, &mut keys)?;
     Ok(Findings {
         needed: Coefs::from_vec(keys),
         rows: Rows::from_vec(explored.rows),
@@ -111,7 +111,7 @@ pub fn needed<N: Nodes>(
 {
     let explored = explore(alloc, nodes, axis, grid, lo, hi)?;
     let mut keys = explored.keys;
-    sort_keys(&mut keys)?;
+    sort_keys(alloc, &mut keys)?;
     Ok(Coefs::from_vec(keys))
 }
 

@@ -1,0 +1,36 @@
+use om3_coeff::{Coef, Key};
+use std::alloc::{AllocError, Global};
+
+/// Keys of one level, in the order in which they were found.
+#[derive(Drop)]
+pub(crate) struct Level {
+    pub(crate) keys: Vec<(Key, Coef)>,
+}
+
+impl Level {
+    ghost use Rattle.std.specs.Prelude.{◌≡◌, ◌++◌, [], ◌∷◌, OnOk, IsPermutation};
+
+    /// A level without a key. It takes no memory.
+    pub(crate) fn new(alloc: Global) -> Level
+        ensures { result.keys.items ≡ [] }
+    {
+        Level {
+            keys: Vec::new(alloc),
+        }
+    }
+
+    /// Adds a key behind the others.
+    pub(crate) fn add(&mut self, entry: (Key, Coef)) -> Result<(), AllocError>
+        ensures { OnOk result (self.new.keys.items ≡ self.old.keys.items ++ entry ∷ []) }
+    {
+        self.keys.push(entry)?;
+        Ok(())
+    }
+
+    /// Puts its keys in order, from left to right. Those of each of two walks are already.
+    pub(crate) fn sort(&mut self) -> Result<(), AllocError>
+        ensures { IsPermutation self.old.keys.items self.new.keys.items }
+    {
+        self.keys.sort_by_key(|entry| entry.0.index)
+    }
+}
