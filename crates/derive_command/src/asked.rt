@@ -5,13 +5,13 @@ use plain_chart::ValueRange;
 
 /// What a request asks for.
 #[derive(Clone, Copy)]
-pub(crate) struct Asked {
+pub struct Asked {
     /// The id of the first series.
-    pub(crate) x: u16,
+    pub x: u16,
     /// The id of the second one.
-    pub(crate) y: u16,
-    pub(crate) sum: Sum,
-    pub(crate) grid: Grid,
+    pub y: u16,
+    pub sum: Sum,
+    pub grid: Grid,
     /// None is from the least to the greatest sum.
-    pub(crate) range: Option<ValueRange>,
+    pub range: Option<ValueRange>,
 }

@@ -21,7 +21,7 @@ use series_pair::shift_of;
 use series_store::Store;
 
 /// What a request asks for, or the first refusal that stands against it. Whether a sum is too large isn't tested yet.
-pub(crate) fn asked_of<P: Pages>(
+pub fn asked_of<P: Pages>(
     store: &Store<P>,
     request: &Request,
 ) -> Result<Asked, DeriveRefusal>

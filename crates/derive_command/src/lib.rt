@@ -21,9 +21,11 @@ mod request_work;
 mod requests;
 mod tokens;
 
+pub use asked::Asked;
+pub use asking::asked_of;
 pub use command::derive;
 pub use derive_refusal::DeriveRefusal;
 pub use drawing::draw_lines;
 pub use request::Request;
 pub use request_error::RequestError;
-pub use requests::request_of;
+pub use requests::{GREATEST_FACTOR, request_of};

@@ -20,7 +20,7 @@ use std::alloc::Global;
 use whole_number::{integer, natural};
 
 /// The greatest size of a factor.
-const GREATEST_FACTOR: u128 = 1_000_000_000;
+pub const GREATEST_FACTOR: u128 = 1_000_000_000;
 
 /// The request that a line spells: `NAME NAME A B W H T0 T1 RANGE`. `NoRequest` comes exactly where it spells none.
 pub fn request_of(alloc: Global, line: &[u8]) -> Result<Request, RequestError>

@@ -7,7 +7,7 @@ use Rattle.om3_coeff.specs.Walks.{IsFirstStored, IsLastStored}
 use Rattle.m4_groups.specs.declared.row.Row.{Row}
 use Rattle.whole_number.specs.Range.{IsValue}
 use Rattle.derived_chart.specs.declared.searches.Best.TheVariants.{Least, Greatest}
-use Rattle.derived_chart.specs.Rows.{AreValues, IsRowIn}
+use Rattle.derived_chart.specs.Rows.{AreValues, IsOrdered, IsRowIn}
 use Rattle.derived_chart.specs.Searches.{IsBestOf}
 
 -- a value is what it is passed as
@@ -63,3 +63,15 @@ row_found sums p q column first (Some x) (Some m) (Some n) f l h g k first_is le
       greatest = subst (IsStored sums p q) (sym g_is) at_high;
       none_above = λ i v from to holds. omega (arith, ints, g_is, high.1 i v from to holds);
     }
+
+-- the values of the row of a column are in order
+row_ordered : (sums : List (Option ℤ)) (p q : ℕ) (r : Row) → IsRowIn sums p q r → IsOrdered r
+row_ordered sums p q r is = record {
+  first_low = is.none_below is.first_at r.first is.first.0 is.first.1 is.first.2;
+  first_high = is.none_above is.first_at r.first is.first.0 is.first.1 is.first.2;
+  last_low = is.none_below is.last_at r.last is.last.0 is.last.1 is.last.2;
+  last_high = is.none_above is.last_at r.last is.last.0 is.last.1 is.last.2;
+}
+
+pub ordered_in : (sums : List (Option ℤ)) (p q : ℕ) (r s : Row) → (IsOrdered r → s ≡ r) → IsRowIn sums p q r → IsRowIn sums p q s
+ordered_in sums p q r s same is = let P : Row → Type 0 = λ x. IsRowIn sums p q x in subst P (sym (same (row_ordered sums p q r is))) is

@@ -27,7 +27,7 @@ use Rattle.std.specs.Prelude.{Result, Ok, Err, IfErr, IsErrAnd}
 use Rattle.om3_coeff.specs.declared.errors.NodeError.{NodeError}
 use Rattle.derived_chart.specs.declared.derived_error.DerivedError.{DerivedError}
 use Rattle.derived_chart.specs.declared.derived_error.DerivedError.TheVariants.{TooLarge, Node, NoMemory}
-use Rattle.derived_chart.specs.Rows.{IsAnswer, IsCause, IsRowCause, IsFirstTooLarge, IsRowIn, AreColumn, IsRowOf, AreShown, AreRowsBelow, AreColumnValues}
+use Rattle.derived_chart.specs.Rows.{IsAnswer, IsCause, IsRowCause, IsFirstTooLarge, IsOrdered, IsRowIn, AreColumn, IsRowOf, AreShown, AreRowsBelow, AreColumnValues}
 use Rattle.derived_chart.specs.Searches.{IsFirstLarge}
 use Rattle.derived_chart.proofs.PointLemmas.{IsEarlier, IsKept, kept_rise, kept_slots, kept_slot, slot_kept}
 
@@ -252,7 +252,7 @@ pub none_below : (axis : Axis) (g : Grid) (sums : List (Option ℤ)) → AreRows
 none_below axis g sums = record { each = All-nil (IsRowOf axis g sums); every = λ c i v less own holds. absurd (omega (arith, less)) }
 
 pub none_shown : (w : ℕ) → AreShown w 0 []
-none_shown w = record { rising = λ i j d less short. absurd (omega arith); drawable = All-nil (IsDrawable w); below = All-nil (λ r. r.column < 0) }
+none_shown w = record { rising = λ i j d less short. absurd (omega arith); drawable = All-nil (IsDrawable w); ordered = All-nil IsOrdered; below = All-nil (λ r. r.column < 0) }
 
 below_next : (c n : ℕ) → c < n + 1 → (c < n) ⊎ (c ≡ n)
 below_next c n less = elim (cases_lt c n) [
@@ -291,10 +291,11 @@ column_with axis g sums n from to rows r own same row below =
           ]);
     }
 
-pub shown_with : (w n : ℕ) (rows : List Row) (r : Row) → n < w → r.column ≡ n → IsDrawable (n + 1) r → AreShown w n rows → AreShown w (n + 1) (rows ++ r ∷ [])
-shown_with w n rows r drawn same drawable shown = record {
+pub shown_with : (w n : ℕ) (rows : List Row) (r : Row) → n < w → r.column ≡ n → IsDrawable (n + 1) r → IsOrdered r → AreShown w n rows → AreShown w (n + 1) (rows ++ r ∷ [])
+shown_with w n rows r drawn same drawable order shown = record {
   rising = all_pairs_push (λ r s. r.column < s.column) rows r shown.rising (λ k d less. omega (arith, shown.below k d less, same));
   drawable = All-push (IsDrawable w) rows r shown.drawable (record { column = omega (arith, drawn, same); order = drawable.order; first = drawable.first; least = drawable.least; greatest = drawable.greatest; last = drawable.last });
+  ordered = All-push IsOrdered rows r shown.ordered order;
   below =
       All-push (λ r. r.column < n + 1) rows r (All-weaker (λ r. r.column < n) (λ r. r.column < n + 1) (λ r less. omega (arith, less)) rows shown.below) (omega (arith, same));
 }

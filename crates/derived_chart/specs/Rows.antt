@@ -60,6 +60,13 @@ pub record IsRowIn (sums : List (Option ℤ)) (p q : ℕ) (r : Row) : Type 0 whe
   pub greatest : IsStored sums p q r.greatest
   pub none_above : (i : ℕ) (v : ℤ) → p ≤ i → i < q → Holds sums i v → v ≤ℤ r.greatest
 
+-- the first and the last value of a row lie between its least and its greatest one
+pub record IsOrdered (r : Row) : Type 0 where
+  pub first_low : r.least ≤ℤ r.first
+  pub first_high : r.first ≤ℤ r.greatest
+  pub last_low : r.least ≤ℤ r.last
+  pub last_high : r.last ≤ℤ r.greatest
+
 -- the row of these slots, or nothing where no sum stands there
 abbrev pub IsRowIfAny : List (Option ℤ) → ℕ → ℕ → Option Row → Type 0
 IsRowIfAny sums p q None = IsClear sums p q
@@ -88,6 +95,7 @@ pub record IsRowOf (axis : Axis) (g : Grid) (sums : List (Option ℤ)) (r : Row)
 pub record AreShown (w n : ℕ) (rows : List Row) : Type 0 where
   pub rising : AreRising rows
   pub drawable : All (IsDrawable w) rows
+  pub ordered : All IsOrdered rows
   pub below : All (λ r. r.column < n) rows
 
 -- they are those of the columns below n

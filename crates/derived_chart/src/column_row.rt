@@ -2,7 +2,7 @@
 ghost use Rattle.std.specs.Prelude.{◌≡◌, ◌≢◌, ℤ, ◌+◌, ◌<◌, ◌≤◌, ◌^◌, List, Option, IfOk, IfErr, OnOk, IfSome, ℕ, false, ◌≤ℤ◌};
 ghost use Rattle.whole_number.specs.Range.{IsValue};
 ghost use Rattle.m4_groups.specs.Heights.{IsDrawable};
-ghost use Rattle.derived_chart.specs.Rows.{AreFound, AreValues, IsRowIn, IsRowIfAny};
+ghost use Rattle.derived_chart.specs.Rows.{AreFound, AreValues, IsOrdered, IsRowIn, IsRowIfAny};
 ghost use Rattle.derived_chart.specs.Sums.{AreSums, IsSmall};
 
 use crate::ends::{first_sum, last_sum};
@@ -29,6 +29,7 @@ pub(crate) fn row_of_column<T: TwoTrees>(
     ensures row { (xs ys sums : List (Option ℤ)) → T.are trees.old xs ys → AreSums sum xs ys sums → AreValues sums p q → IfOk result (IsRowIfAny sums p q) }
     ensures column { IfOk result (λ row. IfSome row (λ r. r.column ≡ column)) }
     ensures drawable { IfOk result (λ row. IfSome row (IsDrawable (column + 1))) }
+    ensures ordered { IfOk result (λ row. IfSome row IsOrdered) }
     ensures fit { (T.view trees.new).fit }
     ensures goes { T.goes trees.old trees.new }
     ensures cause { IfErr result (T.causes trees.old trees.new) }
@@ -41,7 +42,8 @@ pub(crate) fn row_of_column<T: TwoTrees>(
     let last = last_sum(trees, sum, p, q)?;
     let least = best_sum(trees, sum, p, q, Best::Least)?;
     let greatest = best_sum(trees, sum, p, q, Best::Greatest)?;
-    Ok(Some(row_of(column, &first, &last, &least, &greatest)))
+    let row = row_of(column, &first, &last, &least, &greatest);
+    Ok(Some(ordered(&row)))
 }
 
 /// The row by what was found of a column: its first sum with its slot, the last one, the least and the greatest, which are
@@ -65,6 +67,38 @@ fn row_of(
         least: low,
         greatest: at_least(&high, &low),
         last: last_or(last, &first.1),
+    }
+}
+
+/// The row with its first and its last value between its least and its greatest one, where sums of a column lie.
+fn ordered(row: &Row) -> Row
+    ensures ordered { row.now.least ≤ℤ row.now.greatest → IsOrdered result }
+    ensures drawable { (w : ℕ) → IsDrawable w row.now → IsDrawable w result }
+    ensures column { result.column ≡ row.now.column }
+    ensures same { IsOrdered row.now → result ≡ row.now }
+{
+    Row {
+        column: row.column,
+        first: between(&row.first, &row.least, &row.greatest),
+        least: row.least,
+        greatest: row.greatest,
+        last: between(&row.last, &row.least, &row.greatest),
+    }
+}
+
+/// The value, or the end that it passes.
+fn between(value: &i64, low: &i64, high: &i64) -> i64
+    ensures same { low.now ≤ℤ value.now → value.now ≤ℤ high.now → result ≡ value.now }
+    ensures low { low.now ≤ℤ high.now → low.now ≤ℤ result }
+    ensures high { low.now ≤ℤ high.now → result ≤ℤ high.now }
+    ensures value { IsValue value.now → IsValue low.now → IsValue high.now → IsValue result }
+{
+    if *value < *low {
+        *low
+    } else if *high < *value {
+        *high
+    } else {
+        *value
     }
 }
 

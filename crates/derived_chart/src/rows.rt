@@ -4,7 +4,7 @@ ghost use Rattle.m4_groups.specs.Heights.{IsDrawable};
 ghost use Rattle.m4_groups.specs.Rows.{AreRising};
 ghost use Rattle.plain_chart.specs.Samples.{kept};
 ghost use Rattle.derived_chart.specs.Lists.{sums_of};
-ghost use Rattle.derived_chart.specs.Rows.{IsAnswer, IsCause, IsRowCause, AreShown, AreRowsBelow, ForColumnSums};
+ghost use Rattle.derived_chart.specs.Rows.{IsAnswer, IsCause, IsRowCause, AreShown, AreRowsBelow, ForColumnSums, IsOrdered};
 ghost use Rattle.derived_chart.specs.Sums.{IsSmall};
 ghost use Rattle.derived_chart.specs.declared.derived_error.DerivedError.TheVariants.{Node};
 ghost use Rattle.om3_coeff.specs.declared.errors.NodeError.TheVariants.{DiskFault};
@@ -38,6 +38,7 @@ pub fn derived_rows<T: TwoTrees>(
     ensures rows { (xs ys : List (Option ℤ)) → T.are trees.old xs ys → IsAnswer grid (kept grid axis (sums_of sum xs ys)) result }
     ensures rising { IfOk result AreRising }
     ensures drawable { IfOk result (All (IsDrawable grid.w)) }
+    ensures ordered { IfOk result (All IsOrdered) }
     ensures fit { (T.view trees.new).fit }
     ensures goes { T.goes trees.old trees.new }
     ensures cause { IfErr result (IsCause (T.causes trees.old trees.new)) }

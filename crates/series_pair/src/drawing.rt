@@ -2,7 +2,7 @@
 ghost use Rattle.std.specs.Prelude.{◌≡◌, ◌<◌, ◌≤◌, ℕ, List, false, length, All, IfErr, IfOk, IfSome};
 ghost use Rattle.chart_grid.specs.declared.grid.Grid.{Grid};
 ghost use Rattle.chart_world.specs.Faults.{CountsFault, fault_in};
-ghost use Rattle.derived_chart.specs.Rows.{IsCause};
+ghost use Rattle.derived_chart.specs.Rows.{IsCause, IsOrdered};
 ghost use Rattle.derived_chart.specs.Sums.{IsSmall};
 ghost use Rattle.m4_groups.specs.Heights.{IsDrawable};
 ghost use Rattle.m4_groups.specs.Rows.{AreRising, AreRowsOf};
@@ -88,6 +88,7 @@ fn rows_of_pair<P: Pages>(
     ensures answer { shown.ForBook pair.old.store.now (λ total book. AreShifted book pair.old.x pair.old.y sum.shift → AreRowsAnswer book pair.old.x pair.old.y sum.a sum.b grid result) }
     ensures rising { IfOk result AreRising }
     ensures drawable { IfOk result (All (IsDrawable grid.w)) }
+    ensures ordered { IfOk result (All IsOrdered) }
     ensures cause { IfErr result (λ e. IsChartCause e (shown.IsTold pair.new.store.now) (shown.total pair.old.store.now) (shown.view pair.old.store.now) (shown.view pair.new.store.now)) }
     ensures same_reference { pair.new.store.ghost_name ≡ pair.old.store.ghost_name }
     ensures goes { GoesPair pair.old pair.new }
@@ -122,6 +123,7 @@ pub fn rows_of_sum<P: Pages>(
     ensures answer { shown.ForBook store.old (λ total book. AreShifted book x y sum.shift → AreRowsAnswer book x y sum.a sum.b grid result) }
     ensures rising { IfOk result AreRising }
     ensures drawable { IfOk result (All (IsDrawable grid.w)) }
+    ensures ordered { IfOk result (All IsOrdered) }
     ensures cause { IfErr result (λ e. IsChartCause e (shown.IsTold store.new) (shown.total store.old) (shown.view store.old) (shown.view store.new)) }
     ensures looks { LooksOnly store.old store.new }
     ensures faults { CountsFault (fault_in sum_fault result) (shown.view store.old) (shown.view store.new) }
@@ -131,7 +133,7 @@ pub fn rows_of_sum<P: Pages>(
 }
 
 /// The range that a chart of these rows shows: the one that is asked for, or from their least to their greatest value.
-fn shown_range(rows: &Rows, range: Option<ValueRange>) -> ValueRange
+pub fn shown_range(rows: &Rows, range: Option<ValueRange>) -> ValueRange
     requires { IfSome range MayShow }
     ensures shows { (g : Grid) (samples : List Sample) → AreRowsOf g (sample_points samples) rows.now → ShowsRange range (values_of samples) result }
     ensures may { (w : ℕ) → All (IsDrawable w) rows.now → MayShow result }

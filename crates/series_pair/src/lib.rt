@@ -15,6 +15,6 @@ mod store_pair;
 mod sum_error;
 mod two_trees;
 
-pub use drawing::{chart_of_sum, rows_of_sum};
+pub use drawing::{chart_of_sum, rows_of_sum, shown_range};
 pub use shifts::shift_of;
 pub use sum_error::SumError;

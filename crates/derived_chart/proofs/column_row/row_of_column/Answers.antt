@@ -1,5 +1,6 @@
-use Rattle.std.proofs.Common.{arith, false, subst, ◌∙◌}
+use Rattle.std.proofs.Common.{◌+◌, arith, false, subst, ◌∙◌}
 use Rattle.om3_coeff.specs.Walks.{IsFirstStored}
+use Rattle.derived_chart.proofs.FoundLemmas.{ordered_in}
 use Rattle.derived_chart.proofs.SumLemmas.{passed_on}
 use Rattle.derived_chart.proofs.column_row.row_of_column.Goals as goal
 
@@ -8,13 +9,13 @@ returns-clause-row g c = λ xs ys sums trees are small.
     let one = g.met.T.TwoTrees.still_are _ _ xs ys c.in_ok-first.ensures.goes trees in
     let two = g.met.T.TwoTrees.still_are _ _ xs ys c.in_ok-last.ensures.goes one in
     let three = g.met.T.TwoTrees.still_are _ _ xs ys c.in_ok-least.ensures.goes two in
-    c.row_of.ensures.row sums c.args.p c.args.q (record {
+    ordered_in sums c.args.p c.args.q c.row_of-row.result c.ordered.result c.ordered.ensures.same (c.row_of-row.ensures.row sums c.args.p c.args.q (record {
       small = small;
       first_is = subst (IsFirstStored sums c.args.p c.args.q) c.in-Some.is (c.in_ok-first.ensures.first xs ys sums trees are);
       last_is = c.in_ok-last.ensures.last xs ys sums one are;
       least_is = c.in_ok-least.ensures.best xs ys sums two are;
       greatest_is = c.in_ok-greatest.ensures.best xs ys sums three are;
-    })
+    }))
 
 pub returns-clause-goes : goal.returns-clause-goes
 returns-clause-goes g c =
@@ -57,7 +58,10 @@ pub returns-in_default-clause-row : goal.returns-in_default-clause-row
 returns-in_default-clause-row g c = λ xs ys sums trees are small. subst (IsFirstStored sums c.args.p c.args.q) c.in_default.is (c.in_ok-first.ensures.first xs ys sums trees are)
 
 pub returns-clause-column : goal.returns-clause-column
-returns-clause-column g c = c.row_of.ensures.column
+returns-clause-column g c = c.ordered.ensures.column ∙ c.row_of-row.ensures.column
 
 pub returns-clause-drawable : goal.returns-clause-drawable
-returns-clause-drawable g c = c.row_of.ensures.drawable
+returns-clause-drawable g c = c.ordered.ensures.drawable (c.args.column + 1) c.row_of-row.ensures.drawable
+
+pub returns-clause-ordered : goal.returns-clause-ordered
+returns-clause-ordered g c = c.ordered.ensures.ordered c.row_of-row.ensures.drawable.order

@@ -3,7 +3,7 @@ use Rattle.std.specs.Prelude.{IfSome, ◌≡◌}
 use Rattle.m4_groups.specs.Heights.{IsDrawable}
 use Rattle.m4_groups.specs.declared.row.Row.{Row}
 use Rattle.derived_chart.specs.declared.derived_error.DerivedError.TheVariants.{Node}
-use Rattle.derived_chart.specs.Rows.{IsRowCause, IsRowIfAny, AreShown, AreRowsBelow}
+use Rattle.derived_chart.specs.Rows.{IsOrdered, IsRowCause, IsRowIfAny, AreShown, AreRowsBelow}
 use Rattle.derived_chart.proofs.RowLemmas.{column_without, column_with, shown_with, passed_error}
 use Rattle.derived_chart.proofs.rows.add_column.Goals as goal
 
@@ -27,7 +27,8 @@ returns-clause-shown g c = λ shown.
     subst P (sym c.in_ok-push.ensures.items)
     (shown_with c.args.grid.w c.args.column c.args.rows.now.items c.in-Some.row c.requires.drawn
     (subst (λ o. IfSome o (λ r. r.column ≡ c.args.column)) c.in-Some.is c.in_ok-row.ensures.column)
-    (subst (λ o. IfSome o (IsDrawable (c.args.column + 1))) c.in-Some.is c.in_ok-row.ensures.drawable) shown)
+    (subst (λ o. IfSome o (IsDrawable (c.args.column + 1))) c.in-Some.is c.in_ok-row.ensures.drawable)
+    (subst (λ o. IfSome o IsOrdered) c.in-Some.is c.in_ok-row.ensures.ordered) shown)
 
 pub returns-in_err-row-clause-cause : goal.returns-in_err-row-clause-cause
 returns-in_err-row-clause-cause g c =

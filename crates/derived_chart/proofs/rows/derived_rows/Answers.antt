@@ -5,7 +5,7 @@ use Rattle.std.specs.Prelude.{All}
 use Rattle.m4_groups.specs.Heights.{IsDrawable}
 use Rattle.m4_groups.specs.Rows.{AreRowsOf}
 use Rattle.derived_chart.specs.declared.derived_error.DerivedError.TheVariants.{Node}
-use Rattle.derived_chart.specs.Rows.{IsCause, IsFirstTooLarge}
+use Rattle.derived_chart.specs.Rows.{IsCause, IsFirstTooLarge, IsOrdered}
 use Rattle.plain_chart.specs.Samples.{kept, sample_points}
 use Rattle.derived_chart.specs.Lists.{sums_of}
 use Rattle.derived_chart.specs.Searches.{IsFirstLarge}
@@ -75,3 +75,6 @@ pub returns-in_err-large-clause-cause : goal.returns-in_err-large-clause-cause
 returns-in_err-large-clause-cause g c =
     passed_error c.from_residual.result (Node c.in_err-large.field-0.0) (IsCause (g.T.TwoTrees.causes c.args.trees.now c.first_large_sum.new.trees)) c.from_residual.ensures.1
     (g.met.T.TwoTrees.causes_behind _ _ _ c.in_err-large.field-0.0 c.slots_of_first-slots.ensures.goes c.slots_of_first-slots.ensures.quiet c.in_err-large.ensures.cause)
+
+pub returns-clause-ordered : goal.returns-clause-ordered
+returns-clause-ordered g c = let P : List Row → Type 0 = λ rows. All IsOrdered rows in subst P (sym c.from_vec.ensures) c.in_ok-rows.ensures.shown.ordered
