@@ -21,10 +21,7 @@ use series_pair::shift_of;
 use series_store::Store;
 
 /// What a request asks for, or the first refusal that stands against it. Whether a sum is too large isn't tested yet.
-pub fn asked_of<P: Pages>(
-    store: &Store<P>,
-    request: &Request,
-) -> Result<Asked, DeriveRefusal>
+pub fn asked_of<P: Pages>(store: &Store<P>, request: &Request) -> Result<Asked, DeriveRefusal>
     requires a { IsFactor request.now.a }
     requires b { IsFactor request.now.b }
     ensures asked { shown.ForSoundBook store.now (λ total book. MatchResult result (IsAsked book request.now) (IsRefused book request.now)) }
