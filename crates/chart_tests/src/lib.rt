@@ -7,6 +7,8 @@ mod calls;
 #[cfg(test)]
 mod frames;
 #[cfg(test)]
+mod hosted;
+#[cfg(test)]
 mod keys;
 #[cfg(test)]
 mod loads;
