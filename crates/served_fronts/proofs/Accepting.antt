@@ -63,7 +63,7 @@ by_read : (total : ℕ) (book : List Series) (sessions : List OpenSession) (m : 
 by_read total book sessions m (Err at) reply fits says = refl
 by_read total book sessions m (Ok r) reply fits says = by_request total book sessions m r reply fits says
 
-concerned : (total : ℕ) (book : List Series) (sessions : List OpenSession) (m : ℕ) (line : Line) (reply : Reply) → FitsSaid total book sessions (said_by line) reply
+pub concerned : (total : ℕ) (book : List Series) (sessions : List OpenSession) (m : ℕ) (line : Line) (reply : Reply) → FitsSaid total book sessions (said_by line) reply
     → says_in m reply ≡ true → concerns m line ≡ true
 concerned total book sessions m None reply fits says = refl
 concerned total book sessions m (Some text) reply fits says = by_read total book sessions m (read_line text) reply fits says
@@ -173,7 +173,7 @@ OwnAccepted =
     → IsSound old → only m old.sessions ≡ [] → RepliesToAll old lines frames new → NoneRejected (filter (names m) frames)
 
 -- a frame of the session is no refusal
-never_crowded : (m : ℕ) (line : Line) (frame : Frame) (b : Bool) → names m frame ≡ true → NeverCrowded (if b then frame ∷ [] else [])
+pub never_crowded : (m : ℕ) (line : Line) (frame : Frame) (b : Bool) → names m frame ≡ true → NeverCrowded (if b then frame ∷ [] else [])
 never_crowded m line frame true named =
     All-cons (λ f. f ≢ refusal_frame TooManySessions) frame [] (λ is. not_both (names m frame) named (ap (names m) is))
     (All-nil (λ f. f ≢ refusal_frame TooManySessions))

@@ -1,20 +1,16 @@
 -- What `cover` sends of a front of the answers to lines.
-use Rattle.std.specs.Prelude.{slice_get, is_some, IsTrue, flat_map, nat_le, All, if◌then◌else◌}
+use Rattle.std.specs.Prelude.{slice_get, is_some, flat_map, nat_le, if◌then◌else◌}
 use Rattle.std.proofs.Common.{◌≡◌, ℕ, ℤ, ◌-◌, ◌<◌, ◌≤◌, ◌^◌, true, false, List, [], ◌∷◌, ◌++◌, length, map, take, Option, None, Some}
 use Rattle.std.proofs.Common.{refl, ap, sym, subst, ◌∙◌}
-use Rattle.series_book.specs.declared.one_series.Series.{Series}
 use Rattle.value_filter.specs.declared.steps.Step.{Step}
 use Rattle.view_keys.specs.Laws.{NeededKeysAreFew}
-use Rattle.zoom_session.specs.declared.session.Session.{Session}
 use Rattle.zoom_session.specs.declared.view_spec.ViewSpec.{ViewSpec}
-use Rattle.chart_grid.specs.declared.grid.Grid.{Grid}
 use Rattle.plain_chart.specs.declared.sample.Sample.{Sample}
-use Rattle.line_raster.specs.Canvas.{Canvas, black_at}
+use Rattle.line_raster.specs.Canvas.{Canvas}
 use Rattle.pbm_writer.specs.Picture.{picture}
 use Rattle.chart_frames.specs.declared.frame.Frame.{Frame}
 use Rattle.chart_frames.specs.declared.frame.Frame.TheVariants as frame
 use Rattle.chart_frames.specs.declared.frame.ViewFrame.{ViewFrame}
-use Rattle.chart_frames.specs.declared.frame.RowsFrame.{RowsFrame}
 use Rattle.chart_frames.specs.Frames.{Fits, spelling}
 use Rattle.chart_client.specs.declared.holding.Holding.{Holding}
 use Rattle.chart_service.specs.State.{State, IsSound}
@@ -26,7 +22,7 @@ use Rattle.draw_command.specs.Covers.{picture_bytes, AreCoversOf, SendsFrame, Se
 use Rattle.draw_command.specs.Laws.{CoversNarrow, CoversHoldThePicture}
 use Rattle.served_fronts.specs.Books.{Line}
 use Rattle.served_fronts.specs.Fronts.{whole_frames, Covers}
-use Rattle.served_fronts.specs.Answers.{Reply, Answer, bytes_of, whole_in, LiesIn, IsDrawing, IsCovered, HasCovers, AreCovers, FrontsAreCovered}
+use Rattle.served_fronts.specs.Answers.{Reply, Answer, bytes_of, whole_in, LiesIn, IsDrawing, IsCovered, HasCovers, AreCovers, SendsCovers}
 use Rattle.served_fronts.specs.Answers.Reply.{applied, opened, closed, shown, refused}
 use Rattle.served_fronts.proofs.Agreeing.{OneReply}
 use Rattle.served_fronts.proofs.Fronts.{OneFrame, Told, replies_fit}
@@ -42,7 +38,7 @@ pub record CoverLaws : Type 0 where
   pub hold : CoversHoldThePicture
 
 -- the series of a view agrees with what is held
-abbrev AgreesSo : Frame → Option Canvas → List Holding → Type 0
+abbrev pub AgreesSo : Frame → Option Canvas → List Holding → Type 0
 AgreesSo f d h = (view : ViewFrame) → f ≡ frame.View view → (c : Canvas) → d ≡ Some c → (list : List (Option ℤ)) × AgreesWith view h list
 
 -- no cover is sent for the frame
@@ -104,7 +100,7 @@ module _ (laws : CoverLaws) (every : ℕ) where
       rows_covered view samples (frame.Rows shows.0) c h h' bytes (λ covers none. none) is (subst S shows.1 s)
 
   -- any reply
-  said_covered : (reply : Reply) (f : Frame) (d : Option Canvas) (h h' : List Holding) (bytes : List ℕ) → Tells reply f → HasDrawing reply d
+  pub said_covered : (reply : Reply) (f : Frame) (d : Option Canvas) (h h' : List Holding) (bytes : List ℕ) → Tells reply f → HasDrawing reply d
       → Fits f → AgreesSo f d h → SendsFrame (Some every) f d h h' bytes → HasCovers reply bytes
   said_covered applied f d h h' bytes tells is fits agree s =
       let N : Frame → Type 0 = λ g. NoCover every g h in
@@ -133,7 +129,7 @@ module _ (laws : CoverLaws) (every : ℕ) where
       let agree = laws.agree line view old between h sound (subst R same replied) mirrors in
       (shown.0.slots, λ holding grid there on. agree holding grid shown.0 there on shown.1)
 
-  nothing_sent : (drawings : List (Option Canvas)) (h now : List Holding) (bytes : List ℕ)
+  pub nothing_sent : (drawings : List (Option Canvas)) (h now : List Holding) (bytes : List ℕ)
       → SendsFrames (Some every) [] drawings h now bytes → AreCovers [] bytes
   nothing_sent [] h now bytes s = s.1
   nothing_sent (d ∷ ds) h now bytes s = absurd s
@@ -175,7 +171,9 @@ module _ (laws : CoverLaws) (every : ℕ) where
 -- a front of the bytes of all answers
 pub fronts_covered : CoverLaws → OneFrame → Stay → Good → Accepted → (either : OneReading) (bound : NeededKeysAreFew) (told : Told)
     (one : OneReply) (lines : List Line) (frames : List Frame) (old new : State) (replied : RepliesToAll old lines frames new)
-    → IsSound old → old.sessions ≡ [] → FrontsAreCovered (answers_of either bound told one lines frames old new replied)
+    → IsSound old → old.sessions ≡ [] → (every n : ℕ) (left before now : Option (List ℕ)) → n ≤ 2 ^ 32
+    → Covers every (take n (bytes_of (answers_of either bound told one lines frames old new replied))) left before now
+    → SendsCovers (whole_in n (answers_of either bound told one lines frames old new replied)) before now
 fronts_covered laws frame_law stay good accepted either bound told one lines frames old new replied sound alone every n left before now
     few drew =
     let bytes = spelled either bound told one lines frames old new replied in

@@ -10,6 +10,7 @@ pub mod Stopped
 pub mod Showing
 pub mod Covering
 pub mod Owning
+pub mod OwnCovering
 pub mod Keeping
 pub mod Cutting
 pub mod Starts

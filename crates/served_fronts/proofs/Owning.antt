@@ -45,7 +45,7 @@ none_only n (s ∷ ss) none =
     ]) none
 
 module _ (either : OneReading) (bound : NeededKeysAreFew) (told : Told) (one : OneReply) where
-  abbrev all_of : (lines : List Line) (frames : List Frame) (old new : State) → RepliesToAll old lines frames new → List Answer
+  abbrev pub all_of : (lines : List Line) (frames : List Frame) (old new : State) → RepliesToAll old lines frames new → List Answer
   all_of lines frames old new replied = answers_of either bound told one lines frames old new replied
 
   abbrev own : ℕ → List Frame → List Frame
@@ -131,7 +131,7 @@ module _ (either : OneReading) (bound : NeededKeysAreFew) (told : Told) (one : O
             (rest_of l x ls (xs ++ behind) split) w later)
       ]) here whole)
 
-  own_spelled : (m : ℕ) (lines : List Line) (frames : List Frame) (old new : State) → (replied : RepliesToAll old lines frames new)
+  pub own_spelled : (m : ℕ) (lines : List Line) (frames : List Frame) (old new : State) → (replied : RepliesToAll old lines frames new)
       → bytes_of (said_in m (all_of lines frames old new replied)) ≡ flat_map spelling (own m frames)
   own_spelled m [] [] old new replied = refl
   own_spelled m [] (f ∷ fs) old new replied = absurd replied
@@ -150,15 +150,15 @@ module _ (either : OneReading) (bound : NeededKeysAreFew) (told : Told) (one : O
       ]))
 
   -- the lines from an opening on
-  record From (new : State) (opening : Answer) (behind : List Answer) : Type 0 where
-    lines : List Line
-    frames : List Frame
-    old : State
-    sound : IsSound old
-    replied : RepliesToAll old lines frames new
-    same : all_of lines frames old new replied ≡ opening ∷ behind
+  pub record From (new : State) (opening : Answer) (behind : List Answer) : Type 0 where
+    pub lines : List Line
+    pub frames : List Frame
+    pub old : State
+    pub sound : IsSound old
+    pub replied : RepliesToAll old lines frames new
+    pub same : all_of lines frames old new replied ≡ opening ∷ behind
 
-  from : (lines : List Line) (frames : List Frame) (old new : State) → (replied : RepliesToAll old lines frames new) → IsSound old
+  pub from : (lines : List Line) (frames : List Frame) (old new : State) → (replied : RepliesToAll old lines frames new) → IsSound old
       → (before : List Answer) (opening : Answer) (behind : List Answer) → all_of lines frames old new replied ≡ before ++ opening ∷ behind
       → From new opening behind
   from lines frames old new replied sound [] opening behind is =
@@ -170,7 +170,7 @@ module _ (either : OneReading) (bound : NeededKeysAreFew) (told : Told) (one : O
       from ls fs replied.0 new replied.2 replied.1.2 bs opening behind
       (rest_of _ b (all_of ls fs replied.0 new replied.2) (bs ++ opening ∷ behind) is)
 
-  closed_at : (m cache : ℕ) (lines : List Line) (frames : List Frame) (old new : State) → (replied : RepliesToAll old lines frames new)
+  pub closed_at : (m cache : ℕ) (lines : List Line) (frames : List Frame) (old new : State) → (replied : RepliesToAll old lines frames new)
       → (opening : Answer) (behind : List Answer) → all_of lines frames old new replied ≡ opening ∷ behind → opening.reply ≡ opened m cache
       → only m old.sessions ≡ []
   closed_at m cache [] [] old new replied opening behind is reply = absurd (some_frame opening behind (sym is))

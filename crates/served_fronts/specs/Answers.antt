@@ -311,11 +311,11 @@ pub record SendsCovers (answers : List Answer) (before now : Option (List ℕ)) 
   pub are : AreCovers answers covers
   pub sent : now ≡ sent_after covers before
 
--- Of any front of the bytes of answers, cut anywhere, `cover` sends the covers and the pictures of those that stand whole in it.
+-- Of any front of what a client gets, cut anywhere, `cover` sends the covers and the pictures of the answers that stand whole in it.
 abbrev pub FrontsAreCovered : List Answer → Type 0
 FrontsAreCovered answers =
-    (every n : ℕ) (left before now : Option (List ℕ)) → n ≤ 2 ^ 32 → Covers every (take n (bytes_of answers)) left before now
-    → SendsCovers (whole_in n answers) before now
+    (every : ℕ) (got : List Answer) (n : ℕ) (left before now : Option (List ℕ)) → Reach answers got → n ≤ 2 ^ 32
+    → Covers every (take n (bytes_of got)) left before now → SendsCovers (whole_in n got) before now
 
 -- What `serve` sends of answers: the bytes of each are a frame, and of each front of them `draw` sends the pictures, and `cover` the
 -- covers before them.

@@ -74,8 +74,8 @@ pub fn drawn_own_fronts_are_the_book()
 /// What is said to lines, in the words of books, sessions and views: a session is opened or closed, a view is shown with the
 /// samples that it keeps of the book as it is at its line, or there is no picture; for a view in an open session that has
 /// one of the causes of `CantShow` and `CantMove`. Of any front of the bytes of these answers, or of those of one session
-/// from one of its openings on, `draw` sends the pictures of the views that stand whole in it; and of any front of all bytes
-/// `cover` sends the covers, too: each holds the picture, and lies in those before it.
+/// from one of its openings on, `draw` sends the pictures of the views that stand whole in it, and `cover` the covers, too:
+/// each holds the picture, and lies in those before it.
 pub fn lines_have_their_answers()
     ensures { LinesAreAnswered }
 {
@@ -88,6 +88,8 @@ pub fn lines_have_their_answers()
     more_bytes_mend_nothing();
     replies_are_accepted();
     clients_draw_the_book();
+    one_session_draws_the_book();
+    sessions_stand_alone();
     views_agree();
     covers_narrow_to_the_picture();
     drawn_fronts_are_the_book();
