@@ -16,14 +16,15 @@
 
 import { Cut, Fields, MOST_SLOTS, Stopped } from "./client/fields.js";
 import { Picture } from "./client/picture.js";
+import { readCatalog, readSwept, readValues } from "./client/told.js";
 import { Rows, Session, View } from "./client/views.js";
 import { REFUSALS } from "./refusals.js";
 
 export { Picture, Stopped };
 
 const MOST_KEYS = 131072;
-const KINDS = ["", "done", "refused", "opened", "closed", "view", "rows", "live"];
-const [, DONE, REFUSED, OPENED, CLOSED, VIEW, ROWS, LIVE] = KINDS.keys();
+const KINDS = ["", "done", "refused", "opened", "closed", "view", "rows", "live", "catalog", "values", "swept"];
+const [, DONE, REFUSED, OPENED, CLOSED, VIEW, ROWS, LIVE, CATALOG, VALUES, SWEPT] = KINDS.keys();
 
 // For each kind of frame the length without items, the length of an item, and the most items.
 const LENGTHS = new Map([
@@ -34,13 +35,24 @@ const LENGTHS = new Map([
   [VIEW, [84, 25, MOST_KEYS]],
   [ROWS, [27, 34, 4096]],
   [LIVE, [6, 1, 0]],
+  [CATALOG, [11, 70, 512]],
+  [VALUES, [16, 8, 6145]],
+  [SWEPT, [8, 1, 0]],
+]);
+
+// What shows no picture and names no session.
+const REPORTS = new Map([
+  [CATALOG, readCatalog],
+  [VALUES, readValues],
+  [SWEPT, readSwept],
 ]);
 
 /** The number of items of a frame of this kind and length, or null where it can have no such length. */
 function itemsOf(kind, length) {
   const [own, item, most] = LENGTHS.get(kind);
   const items = (length - own) / item;
-  return Number.isInteger(items) && items >= 0 && items <= most ? items : null;
+  const isWhole = Number.isInteger(items) && items >= 0 && items <= most;
+  return isWhole && !(kind === VALUES && (items === 1 || items === 2)) ? items : null; // a run of two has a value
 }
 
 /** The name of a refusal and what it means, with its numbers where these tell something. */
@@ -68,6 +80,9 @@ function readFrame(fields) {
   }
   if (kind === REFUSED) {
     return readRefusal(fields);
+  }
+  if (REPORTS.has(kind)) {
+    return { kind: KINDS[kind], ...REPORTS.get(kind)(fields, itemsOf(kind, length)) };
   }
   const session = fields.long(1, 2 ** 32 - 1);
   if (kind === OPENED) {
@@ -159,7 +174,7 @@ export class Client {
   }
 
   apply(frame) {
-    if (frame.kind === "done" || frame.kind === "refused") {
+    if (["done", "refused", "catalog", "values", "swept"].includes(frame.kind)) {
       return null;
     }
     if (frame.kind === "opened") {

@@ -13,7 +13,7 @@
  */
 import { Stopped, refusalOf } from "./chart_client.js";
 
-const KINDS = ["", "done", "refused", "opened", "closed", "view", "rows", "live"];
+const KINDS = ["", "done", "refused", "opened", "closed", "view", "rows", "live", "catalog", "values", "swept"];
 const [MORE, FRAME, BAD, MISSING, MISFIT, UNKNOWN, MEMORY] = Array.from({ length: 7 }, (_, code) => code);
 const HANDLE = 8; // bytes
 const ANSWER = 96;
@@ -222,6 +222,9 @@ function frameOf({ kind, session, number, w, h, step, count, a, b, t0, t1, lo, h
     { session, series: number, w, h, t0, t1, lo, hi, start, step, slots: a, count },
     { session, w, h, lo, hi, count },
     { session, on: a === 1 },
+    { total: a, used: b },
+    { series: number, next: a === 1 ? t0 : null },
+    { clears: number, used: a, more: b === 1 },
   ];
   return { kind: KINDS[kind], ...fields[kind] };
 }

@@ -113,6 +113,67 @@ test("a push is drawn by what changed, where the session follows its view", () =
   assert.throws(() => drawn(join(OPENED, bytesOf("00000006 07 00000001 02")), 1000), new Stopped("the frame at byte 13: the field at byte 22 breaks its rule"));
 });
 
+// 10 pages, 5 in use; series a with values from 2 to 7, and series b.c without slots.
+const CATALOG = bytesOf(`
+  00000097 08 0000000A 00000005 0002
+  01 61000000000000000000000000000000000000000000000000000000000000 00
+  0000000000000000 00000001 0000000000000004 01 0000000000000002 0000000000000007
+  03 622E6300000000000000000000000000000000000000000000000000000000 02
+  FFFFFFFFFFFFFFFB 0000003C 0000000000000000 00 0000000000000000 0000000000000000`);
+// Of series 1 the slots 5, 6 and 9; from the time 40 on more are left.
+const VALUES = bytesOf(`
+  00000048 09 0001 01 0000000000000028 0002 0003
+  0000000000000005 0000000000000002 0000000000000009 0000000000000001
+  0000000000000004 FFFFFFFFFFFFFFFF 0000000000000007`);
+const SWEPT = bytesOf("00000008 0A 0040 00000063 01");
+
+test("reports have no picture and name no session", () => {
+  const frames = [...new Client().push(join(CATALOG, VALUES, SWEPT))];
+  const series = [
+    { name: "a", scale: 0, start: 0, step: 1, slots: 4, span: { least: 2, greatest: 7 } },
+    { name: "b.c", scale: 2, start: -5, step: 60, slots: 0, span: null },
+  ];
+  const runs = [{ first: 5, values: [4, -1] }, { first: 9, values: [7] }];
+  assert.deepStrictEqual(frames, [
+    { frame: { kind: "catalog", total: 10, used: 5, series }, picture: null },
+    { frame: { kind: "values", series: 1, next: 40, runs }, picture: null },
+    { frame: { kind: "swept", clears: 64, used: 99, more: true }, picture: null },
+  ]);
+});
+
+test("reports between views change nothing", () => {
+  const { kinds, pictures } = drawn(join(OPENED, VIEW, CATALOG, VALUES, SWEPT, VIEW), 7);
+  assert.deepStrictEqual(kinds, ["opened", "view", "catalog", "values", "swept", "view"]);
+  assert.deepStrictEqual(pictures, [".#.. .#.. #.#. ..#.", ".#.. .#.. #.#. ..#."]);
+});
+
+test("reports that break a rule", () => {
+  const broken = (report, at, byte, offset) => {
+    const bytes = report.slice();
+    bytes[at] = byte;
+    assert.throws(() => drawn(bytes, 7), new Stopped(`the frame at byte 0: the field at byte ${offset} breaks its rule`), `${byte} at ${at}`);
+  };
+  broken(CATALOG, 3, 0x96, 0);
+  broken(CATALOG, 14, 3, 13);
+  broken(CATALOG, 15, 0, 15);
+  broken(CATALOG, 15, 2, 16);
+  broken(CATALOG, 16, 0x2f, 16);
+  broken(CATALOG, 20, 1, 16);
+  broken(CATALOG, 47, 10, 47);
+  broken(CATALOG, 138, 1, 138);
+  broken(VALUES, 3, 0x20, 0);
+  broken(VALUES, 3, 0x44, 0);
+  broken(VALUES, 7, 0, 8);
+  broken(VALUES, 17, 1, 18);
+  broken(VALUES, 35, 3, 28);
+  broken(VALUES, 35, 0, 28);
+  broken(VALUES, 43, 7, 36);
+  broken(VALUES, 51, 2, 44);
+  broken(VALUES, 42, 0x10, 36);
+  broken(SWEPT, 6, 65, 5);
+  broken(SWEPT, 11, 2, 11);
+});
+
 test("a refusal to follow has the coefficients that the view may need, and those that the cache keeps", () => {
   const [{ frame }] = new Client().push(bytesOf("00000012 02 16 00000000000001C7 0000000000000064"));
   assert.deepStrictEqual([frame.number, frame.name, frame.a, frame.b], [22, "LiveTooLarge", 455, 100]);

@@ -5,6 +5,7 @@ to the library, and takes numbers and bits from it. What it has to keep to stand
 """
 import collections
 import ctypes
+import io
 import os
 from ctypes import POINTER, byref, c_bool, c_char_p, c_int64, c_size_t, c_uint32, c_uint64, c_void_p
 
@@ -103,14 +104,16 @@ class Proved:
 
     def next(self):
         """The stream's next frame. Its bytes are read up to its first bad field, or its end."""
-        wanted = 4
+        wanted, whole = 4, b""
         while True:
             data = self.stream.read(wanted)
             self.offset += len(data)
+            whole += data
             require(self.calls.chart_feed(byref(self.handle), data, len(data)))
             answer = self.ask("next")
             if answer.code == FRAME:
-                return frame_of(answer)
+                # A report's numbers that the answer has no room for are read from its bytes.
+                return frame_of(answer) if answer.kind < frames.CATALOG else frames.accept(frames.Fields(io.BytesIO(whole)), {})[0]
             if len(data) < wanted:
                 raise frames.Cut(f"the stream ends at byte {self.offset}")
             # The length is good, since it was no bad field: so many bytes of the frame are left.

@@ -7,16 +7,17 @@ import contextlib
 from collections import OrderedDict, namedtuple
 from itertools import islice
 
+from .fields import MOST, MOST_SLOTS, Cut, Fields, Stopped  # noqa: F401
 from .picture import Picture, height
+from .told import read_axis, read_catalog, read_span, read_swept, read_values
 
-MOST = 10**18  # the greatest size of a value
-MOST_SLOTS = 2**35
-DONE, REFUSED, OPENED, CLOSED, VIEW, ROWS, LIVE = range(1, 8)
+DONE, REFUSED, OPENED, CLOSED, VIEW, ROWS, LIVE, CATALOG, VALUES, SWEPT = range(1, 11)
 # For each kind the length without items, the length of an item, and the most items.
 LENGTHS = {
     DONE: (9, 1, 0), REFUSED: (18, 1, 0), OPENED: (9, 1, 0), CLOSED: (5, 1, 0), VIEW: (84, 25, 131072), ROWS: (27, 34, 4096),
-    LIVE: (6, 1, 0),
+    LIVE: (6, 1, 0), CATALOG: (11, 70, 512), VALUES: (16, 8, 6145), SWEPT: (8, 1, 0),
 }
+REPORTS = {CATALOG: read_catalog, VALUES: read_values, SWEPT: read_swept}
 
 
 Done = namedtuple("Done", "slots")
@@ -24,37 +25,6 @@ Refused = namedtuple("Refused", "number a b")
 Opened = namedtuple("Opened", "session cache")
 Closed = namedtuple("Closed", "session")
 Live = namedtuple("Live", "session on")
-
-
-class Stopped(Exception):
-    """Why no further picture is drawn."""
-
-
-class Cut(Stopped):
-    """The stream ends within a frame, or before it."""
-
-
-class Fields:
-    """The fields of a stream, each tested as soon as it is read."""
-
-    def __init__(self, stream):
-        self.stream = stream
-        self.offset = 0  # of the next field
-
-    def number(self, size, least, greatest):
-        """The next field, which has to lie from least to greatest; one that may be below 0 is signed."""
-        data = self.stream.read(size)
-        self.offset += len(data)
-        if len(data) < size:
-            raise Cut(f"the stream ends at byte {self.offset}")
-        number = int.from_bytes(data, "big", signed=least < 0)
-        self.require(least <= number <= greatest, size)
-        return number
-
-    def require(self, holds, size):
-        """Stops unless the rule of the field just read holds."""
-        if not holds:
-            raise Stopped(f"the field at byte {self.offset - size} breaks its rule")
 
 
 class Session:
@@ -96,14 +66,8 @@ class View:
         self.t1 = fields.number(8, self.t0 + 1, 2 * MOST)
         self.lo = fields.number(8, -MOST, MOST)
         self.hi = fields.number(8, self.lo, MOST)
-        self.start = fields.number(8, -MOST, MOST)
-        self.step = fields.number(4, 1, 2**31)
-        # The last slot stands no later than 2 * 10^18.
-        self.slots = fields.number(8, 0, min(MOST_SLOTS, (2 * MOST - self.start) // self.step + 1))
-        size = MOST * fields.number(1, 0, 1 if self.slots else 0)
-        least = fields.number(8, -size, size)
-        greatest = fields.number(8, least, size)
-        self.span = (least, greatest) if size else None
+        self.start, self.step, self.slots = read_axis(fields)
+        self.span = read_span(fields, self.slots)
         self.count = fields.number(4, count, count)
         self.top = next(7 * k for k in range(1, 6) if 128**k >= self.slots)
         self.sent = dict(self.coefficients(fields, count))
@@ -245,6 +209,8 @@ def accept(fields, sessions, before_view=None):
     for kind, (own, item, most) in LENGTHS.items():
         if length in range(own, own + item * most + 1, item):
             counts[kind] = (length - own) // item
+    if counts.get(VALUES) in (1, 2):
+        del counts[VALUES]  # a run of 16 bytes has a value of 8
     fields.require(counts, 4)
     kind = fields.number(1, 0, 255)
     fields.require(kind in counts, 1)
@@ -254,6 +220,8 @@ def accept(fields, sessions, before_view=None):
         number = fields.number(1, 1, 22)
         a = fields.number(8, 0, 2**64 - 1 if number in (2, 3, 20, 21, 22) else 0)
         return Refused(number, a, fields.number(8, 0, 2**64 - 1 if number in (20, 21, 22) else 0)), None
+    if kind in REPORTS:
+        return REPORTS[kind](fields, counts[kind]), None
     session = fields.number(4, 1, 2**32 - 1)
     if kind == OPENED:
         opened = Opened(session, fields.number(4, 1, 131072))

@@ -36,6 +36,11 @@ export class Fields {
     return number;
   }
 
+  /** So many bytes. */
+  bytes(size) {
+    return new Uint8Array(this.view.buffer, this.view.byteOffset + this.take(size), size);
+  }
+
   byte(least, greatest) {
     return this.tested(this.view.getUint8(this.take(1)), 1, least, greatest);
   }

@@ -10,7 +10,7 @@ use Rattle.om3_coeff.proofs.KeyLemmas.{height_few}
 use Rattle.chart_grid.specs.declared.grid.Grid.{Grid}
 use Rattle.view_keys.specs.Wanted.{Seen}
 use Rattle.chart_frames.specs.declared.frame.Frame.{Frame}
-use Rattle.chart_frames.specs.declared.frame.Frame.TheVariants.{Done, Refused, Opened, Closed, View, Rows, Live}
+use Rattle.chart_frames.specs.declared.frame.Frame.TheVariants.{Done, Refused, Opened, Closed, View, Rows, Live, Report}
 use Rattle.chart_frames.specs.declared.frame.ViewFrame.{ViewFrame}
 use Rattle.chart_client.specs.declared.holding.Holding.{Holding}
 use Rattle.chart_client.specs.declared.errors.ClientError.{ClientError}
@@ -67,6 +67,7 @@ no_failure how key (View view) (Some drawing) old new accepts f =
     accepted.usable key at.first.wanted at.first.fails
 no_failure how key (Rows rows) drawing old new accepts f = not_view how key (Rows rows) old f (λ view e. cc)
 no_failure how key (Live number on) drawing old new accepts f = not_view how key (Live number on) old f (λ view e. cc)
+no_failure how key (Report report) drawing old new accepts f = not_view how key (Report report) old f (λ view e. cc)
 
 none_some : {X : Type 0} (x : X) → ◌≡◌ {A = Option X} None (Some x) → ⊥
 none_some x e = cc
@@ -92,6 +93,7 @@ no_unknown (View view) (Some drawing) old new n accepts is none =
 no_unknown (Rows rows) None old new n accepts is none = accepts
 no_unknown (Rows rows) (Some drawing) old new n accepts is none = shut_at rows.session n old is none accepts.0
 no_unknown (Live number on) drawing old new n accepts is none = shut_at number n old is none accepts.1
+no_unknown (Report report) drawing old new n accepts is none = none_some n is
 
 pub accepted_only : (frame : Frame) (drawing : Option Canvas) (old new : List Holding) (e : ClientError) → Accepts frame drawing old new → Rejects frame e old → e ≡ NoMemory
 accepted_only frame drawing old new (Missing key) accepts rejects = absurd (no_failure missing key frame drawing old new accepts rejects)

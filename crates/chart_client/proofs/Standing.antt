@@ -5,7 +5,7 @@ use Rattle.std.specs.Prelude.{◌==◌, Option, Some, None}
 use Rattle.line_raster.specs.Canvas.{Canvas}
 use Rattle.coefficient_cache.specs.Caches.{Cache}
 use Rattle.chart_frames.specs.declared.frame.Frame.{Frame}
-use Rattle.chart_frames.specs.declared.frame.Frame.TheVariants.{Done, Refused, Opened, Closed, View, Rows, Live}
+use Rattle.chart_frames.specs.declared.frame.Frame.TheVariants.{Done, Refused, Opened, Closed, View, Rows, Live, Report}
 use Rattle.chart_client.specs.declared.holding.Holding.{Holding}
 use Rattle.chart_client.specs.Holdings.{holding_of, without, with_cache, opened}
 use Rattle.chart_client.specs.Accepting.{Accepts, named_in}
@@ -141,3 +141,4 @@ others_stay (View view) (Some drawing) old new n accepts apart =
 others_stay (Rows rows) None old new n accepts apart = absurd accepts
 others_stay (Rows rows) (Some drawing) old new n accepts apart = ap (λ (l : List Holding). holding_of n l) accepts.1.holdings
 others_stay (Live number on) drawing old new n accepts apart = ap (λ (l : List Holding). holding_of n l) accepts.2
+others_stay (Report report) drawing old new n accepts apart = ap (λ (l : List Holding). holding_of n l) accepts.1

@@ -16,7 +16,7 @@ use Rattle.m4_groups.specs.Rows.{AreRowsOf}
 use Rattle.view_keys.specs.Wanted.{Seen, IsWanted}
 use Rattle.view_keys.specs.Listed.{IsListOf}
 use Rattle.chart_frames.specs.declared.frame.Frame.{Frame}
-use Rattle.chart_frames.specs.declared.frame.Frame.TheVariants.{Done, Refused, Opened, Closed, View, Rows, Live}
+use Rattle.chart_frames.specs.declared.frame.Frame.TheVariants.{Done, Refused, Opened, Closed, View, Rows, Live, Report}
 use Rattle.chart_frames.specs.declared.frame.ViewFrame.{ViewFrame}
 use Rattle.chart_frames.specs.declared.frame.RowsFrame.{RowsFrame}
 use Rattle.chart_client.specs.declared.holding.Holding.{Holding}
@@ -72,6 +72,7 @@ Accepts (View view) (Some drawing) old new =
 Accepts (Rows rows) None old new = ⊥
 Accepts (Rows rows) (Some drawing) old new = IsSome (holding_of rows.session old) × AcceptsRows rows drawing old new
 Accepts (Live number on) drawing old new = (drawing ≡ None) × IsSome (holding_of number old) × (new ≡ old)
+Accepts (Report report) drawing old new = (drawing ≡ None) × (new ≡ old)
 
 -- frames are accepted one after the other, with these drawings in all
 abbrev pub AcceptsAll : List Frame → List Canvas → List Holding → List Holding → Type 0
@@ -89,6 +90,7 @@ session_in (Closed number) = Some number
 session_in (View view) = Some view.session
 session_in (Rows rows) = Some rows.session
 session_in (Live number on) = Some number
+session_in (Report report) = None
 
 -- the session that a frame names
 abbrev pub named_in : Frame → Option ℕ
@@ -99,6 +101,7 @@ named_in (Closed number) = Some number
 named_in (View view) = Some view.session
 named_in (Rows rows) = Some rows.session
 named_in (Live number on) = Some number
+named_in (Report report) = None
 
 -- a view's key is the first wanted one that fails, and it does so in this way
 pub record FailsView (How : Seen → ℕ → Key → Type 0) (key : Key) (frame : Frame) (old : List Holding) : Type 0 where

@@ -8,7 +8,7 @@ use Rattle.m4_groups.specs.Points.{AreInOrder, spots, values_in}
 use Rattle.m4_groups.specs.Rows.{AreRowsOf}
 use Rattle.needed_nodes.specs.Answers.{IsSpanOfValues, points_of}
 use Rattle.chart_frames.specs.declared.frame.Frame.{Frame}
-use Rattle.chart_frames.specs.declared.frame.Frame.TheVariants.{Done, Refused, Opened, Closed, View, Rows, Live}
+use Rattle.chart_frames.specs.declared.frame.Frame.TheVariants.{Done, Refused, Opened, Closed, View, Rows, Live, Report}
 use Rattle.chart_frames.specs.declared.frame.ViewFrame.{ViewFrame}
 use Rattle.chart_frames.specs.declared.frame.RowsFrame.{RowsFrame}
 use Rattle.chart_client.specs.declared.holding.Holding.{Holding}
@@ -48,3 +48,4 @@ SpanPicture (Closed number) old rows = ⊤
 SpanPicture (View view) old rows = SpanView view old rows
 SpanPicture (Rows frame) old rows = SpanRowsFrame frame rows
 SpanPicture (Live number on) old rows = ⊤
+SpanPicture (Report report) old rows = ⊤

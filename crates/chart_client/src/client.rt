@@ -92,7 +92,7 @@ impl Client {
         ensures kept { IfErr result (λ e. KeepsUnless e self.old self.new) }
     {
         match frame {
-            Frame::Done { .. } | Frame::Refused { .. } => Ok(None),
+            Frame::Done { .. } | Frame::Refused { .. } | Frame::Report(_) => Ok(None),
             Frame::Opened { session, cache } => {
                 self.open(*session, *cache)?;
                 Ok(None)

@@ -1,11 +1,12 @@
 -- A frame takes as many bytes as its length says.
 use Rattle.std.proofs.Common.{◌≡◌, ℕ, zero, suc, ◌+◌, ◌-◌, ◌*◌, ◌<◌, ◌≤◌, ◌⊎◌, inl, inr, Bool, true, false, cond, leb, eqb, List, length, drop, Option, Some, None, Result, Ok, Err, refl, sym, subst, arith, length-drop}
-use Rattle.std.proofs.lemmas.Bool.{cases_lt, leb-true, eqb-true, and_parts}
+use Rattle.std.proofs.lemmas.Bool.{cases_lt, leb-true, eqb-true, and_parts, or_cases}
 use Rattle.chart_frames.specs.declared.fields.Stop.{Stop}
 use Rattle.chart_frames.specs.declared.fields.Stop.TheVariants.{More, Bad}
 use Rattle.chart_frames.specs.Format.{Format, field, number_in}
 use Rattle.chart_frames.specs.Reading.{read}
-use Rattle.chart_frames.specs.Fields.{is_length, admits, session_fields, side_field, side_fields, series_fields, window_fields, range_fields, axis_fields, slots_field, has_field, rmin_field, rmax_field, stored_fields, count_fields, key_field, difference_field, coef_fields, coefs_fields, place_fields, source_fields, view_fields, row_count_fields, column_field, value_field, at_most_field, at_least_field, between_field, row_fields, rows_fields, head_fields, done_fields, refused_fields, opened_fields, flag_fields, live_fields, kind_fields, length_field, kind_field, frame_fields}
+use Rattle.chart_frames.specs.Fields.{within, is_values_length, is_length, admits, lesser, word_field, padded_field, name_fields, scale_field, facts_fields, listed_fields, series_list, listed_count_fields, pages_fields, catalog_fields, more_field, next_time_field, next_fields, counts_fields, run_fields, runs_fields, values_list, asked_fields, stored_values, values_fields, swept_fields, session_fields, side_field, side_fields, series_fields, window_fields, range_fields, axis_fields, slots_field, has_field, rmin_field, rmax_field, stored_fields, count_fields, key_field, difference_field, coef_fields, coefs_fields, place_fields, source_fields, view_fields, row_count_fields, column_field, value_field, at_most_field, at_least_field, between_field, row_fields, rows_fields, head_fields, done_fields, refused_fields, opened_fields, flag_fields, live_fields, kind_fields, length_field, kind_field, frame_fields}
+use Rattle.chart_frames.specs.declared.limits.TheConstants.{MOST_SLOTS}
 use Rattle.chart_frames.proofs.FormatLaws.{Fills, Sized, read_there, read_short, read_sized}
 
 coefs_fill : (count slots : ℕ) (last : Option ℕ) (m : ℕ) → m ≡ 25 * count → Fills m (coefs_fields slots last count)
@@ -120,6 +121,96 @@ head_fill length long = (
   ),
 )
 
+series_fill : (count m : ℕ) → m ≡ 70 * count → Fills m (series_list count)
+unfolding series_list listed_fields name_fields padded_field facts_fields scale_field axis_fields slots_field stored_fields has_field rmin_field rmax_field
+series_fill zero m e = omega (arith, e)
+series_fill (suc count) m e = (
+  omega (arith, e),
+  λ size _. (
+    omega (arith, e),
+    λ name _. (
+      omega (arith, e),
+      λ scale _. (
+        omega (arith, e),
+        λ start _. (
+          omega (arith, e),
+          λ step _. (
+            omega (arith, e),
+            λ slots _. (
+              omega (arith, e),
+              λ has _. (
+                omega (arith, e),
+                λ rmin _. (omega (arith, e), λ rmax _. series_fill count (m - 1 - 31 - 1 - 8 - 4 - 8 - 1 - 8 - 8) (omega (arith, e))),
+              ),
+            ),
+          ),
+        ),
+      ),
+    ),
+  ),
+)
+
+catalog_fill : (length : ℕ) → 11 ≤ length → Fills (length - 1) (catalog_fields length)
+unfolding catalog_fields pages_fields word_field listed_count_fields
+catalog_fill length long = (
+  omega arith,
+  λ total _. (
+    omega arith,
+    λ used _. (
+      omega arith,
+      λ count e.
+          series_fill count (length - 1 - 4 - 4 - 2) (omega (arith, eqb-true (11 + 70 * count) length e)),
+    ),
+  ),
+)
+
+values_list_fill : (count m : ℕ) → m ≡ 8 * count → Fills m (values_list count)
+unfolding values_list value_field
+values_list_fill zero m e = omega (arith, e)
+values_list_fill (suc count) m e = (omega (arith, e), λ v _. values_list_fill count (m - 8) (omega (arith, e)))
+
+runs_fill : (count from limit left m behind : ℕ) (next : Format) → m ≡ 16 * count + behind → Fills behind next → Fills m (runs_fields from limit left count next)
+unfolding runs_fields run_fields
+runs_fill zero from limit left m behind next e h = let is : behind ≡ m = omega (arith, e) in subst (λ (k : ℕ). Fills k next) is h
+runs_fill (suc count) from limit left m behind next e h = (
+  omega (arith, e),
+  λ first _. (
+    omega (arith, e),
+    λ many _.
+        runs_fill count (first + many + 1) (lesser limit (first + 4096)) (left - many) (m - 8 - 8) behind next (omega (arith, e)) h,
+  ),
+)
+
+values_fill : (length : ℕ) → 16 ≤ length → Fills (length - 1) (values_fields length)
+unfolding values_fields asked_fields series_fields next_fields more_field next_time_field counts_fields stored_values
+values_fill length long = (
+  omega arith,
+  λ series _. (
+    omega arith,
+    λ more _. (
+      omega arith,
+      λ next _. (
+        omega arith,
+        λ runs _. (
+          omega arith,
+          λ values e.
+              let is = eqb-true (16 + (16 * runs + 8 * values)) length (and_parts (eqb (16 + (16 * runs + 8 * values)) length) _ e).0 in
+              runs_fill runs 0 MOST_SLOTS values (length - 1 - 2 - 1 - 8 - 2 - 2) (8 * values) (values_list values) (omega (arith, is)) (values_list_fill values (8 * values) refl),
+        ),
+      ),
+    ),
+  ),
+)
+
+values_long : (length : ℕ) → is_values_length length ≡ true → 16 ≤ length
+values_long length h =
+    elim (or_cases (eqb length 16) _ h) [
+      | inl one ↦ omega (arith, eqb-true length 16 one)
+      | inr more ↦ let parts = and_parts (within 40 49176 length) _ more in
+          let ends = and_parts (leb 40 length) (leb length 49176) parts.0 in
+          omega (arith, leb-true 40 length ends.0)
+    ]
+
 -- the length that the chosen kind admits
 pick : (m : ℕ) (b : Bool) (p q : Bool) (f g : Format) → cond b p q ≡ true → (p ≡ true → Fills m f) → (q ≡ true → Fills m g) → Fills m (cond b f g)
 pick m true p q f g h x y = x h
@@ -130,7 +221,7 @@ last_pick true p h = h
 last_pick false p h = absurd cc
 
 kind_fill : (length kind : ℕ) → admits length kind ≡ true → Fills (length - 1) (kind_fields length kind)
-unfolding admits kind_fields done_fields refused_fields opened_fields flag_fields live_fields session_fields
+unfolding admits kind_fields done_fields refused_fields opened_fields flag_fields live_fields swept_fields word_field session_fields
 kind_fill length kind h =
     pick (length - 1) (eqb kind 1) _ _ _ _ h (λ e. let is = eqb-true length 9 e in (omega (arith, is), λ slots _. omega (arith, is)))
     (λ h. pick (length - 1) (eqb kind 2) _ _ _ _ h (λ e. let is = eqb-true length 18 e in (omega (arith, is), λ number _. (omega (arith, is), λ a _. (omega (arith, is), λ b _. omega (arith, is)))))
@@ -138,7 +229,10 @@ kind_fill length kind h =
     (λ h. pick (length - 1) (eqb kind 4) _ _ _ _ h (λ e. let is = eqb-true length 5 e in (omega (arith, is), λ session _. omega (arith, is)))
     (λ h. pick (length - 1) (eqb kind 5) _ _ _ _ h (λ e. view_fill length (leb-true 84 length (and_parts (leb 84 length) _ e).0))
     (λ h. pick (length - 1) (eqb kind 6) _ _ _ _ h (λ e. head_fill length (leb-true 27 length (and_parts (leb 27 length) _ e).0))
-    (λ h. let is = eqb-true length 6 (last_pick (eqb kind 7) (eqb length 6) h) in (omega (arith, is), λ session _. (omega (arith, is), λ flag _. omega (arith, is)))))))))
+    (λ h. pick (length - 1) (eqb kind 7) _ _ _ _ h (λ e. let is = eqb-true length 6 e in (omega (arith, is), λ session _. (omega (arith, is), λ flag _. omega (arith, is))))
+    (λ h. pick (length - 1) (eqb kind 8) _ _ _ _ h (λ e. catalog_fill length (leb-true 11 length (and_parts (leb 11 length) _ e).0))
+    (λ h. pick (length - 1) (eqb kind 9) _ _ _ _ h (λ e. values_fill length (values_long length e))
+    (λ h. let is = eqb-true length 8 (last_pick (eqb kind 10) (eqb length 8) h) in (omega (arith, is), λ clears _. (omega (arith, is), λ used _. (omega (arith, is), λ more _. omega (arith, is)))))))))))))
 
 length_some : (length kind : ℕ) → is_length length ≡ true → 1 ≤ length
 length_some zero kind h = absurd (cc (h))

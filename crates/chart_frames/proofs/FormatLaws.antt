@@ -187,3 +187,17 @@ one_reading (field size ok next) (n ∷ ns) (m ∷ ms) x y p q s t e =
     let P : ℕ → Type 0 = λ k. Meets (next k) ms → IsEnd (after (next k) ms) → spell (next n) ns ++ x ≡ spell (next k) ms ++ y → (ns ≡ ms) × (x ≡ y) in
     let rest : (ns ≡ ms) × (x ≡ y) = subst P first.0 (λ q' t' e'. one_reading (next n) ns ms x y p.1.1 q' s t' e') q.1.1 t first.1 in
     (cons_same n m ns ms first.0 rest.0, rest.1)
+
+-- ---- spelled in front of what follows
+
+-- numbers by their sizes, and what follows
+abbrev pub spell_before : Format → List ℕ → List ℕ → List ℕ
+spell_before f [] tail = tail
+spell_before stop (n ∷ ns) tail = tail
+spell_before (field size ok next) (n ∷ ns) tail = number_bytes size n ++ spell_before (next n) ns tail
+
+pub spelled_before : (f : Format) (ns tail : List ℕ) → spell f ns ++ tail ≡ spell_before f ns tail
+spelled_before f [] tail = refl
+spelled_before stop (n ∷ ns) tail = refl
+spelled_before (field size ok next) (n ∷ ns) tail =
+    append_assoc (number_bytes size n) (spell (next n) ns) tail ∙ ap (λ (p : List ℕ). number_bytes size n ++ p) (spelled_before (next n) ns tail)

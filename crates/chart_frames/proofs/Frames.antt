@@ -1,24 +1,26 @@
 -- Frames and their spellings.
-use Rattle.std.proofs.Common.{◌≡◌, ℕ, ℤ, zero, suc, ◌+◌, ◌-◌, ◌*◌, ◌/◌, ◌%◌, ◌^◌, ◌<◌, ◌≤◌, Bool, true, false, not, ◌||◌, cond, eqb, List, [], ◌∷◌, ◌++◌, length, get_or, drop, Option, Some, None, Ok, refl, sym, ap, ◌∙◌, subst, arith, append_assoc}
-use Rattle.std.specs.Int.{w64, cast_signed}
+use Rattle.std.proofs.Common.{◌≡◌, ℕ, ℤ, zero, suc, ◌+◌, ◌-◌, ◌*◌, ◌/◌, ◌%◌, ◌^◌, ◌<◌, ◌≤◌, Bool, true, false, not, ◌||◌, cond, eqb, List, [], ◌∷◌, ◌++◌, length, get_or, drop, Option, Some, None, Ok, refl, sym, ap, ◌∙◌, subst, arith}
 use Rattle.om3_coeff.specs.declared.key.Key.{Key}
 use Rattle.om3_coeff.specs.declared.coef.Coef.{Coef}
 use Rattle.om3_coeff.specs.Keys.{height, IsNode}
 use Rattle.m4_groups.specs.declared.row.Row.{Row}
-use Rattle.whole_number.specs.Range.{IsValue}
 use Rattle.chart_frames.specs.declared.frame.Frame.{Frame}
 use Rattle.chart_frames.specs.declared.frame.Frame.TheVariants.{Done, Refused, Opened, Closed, View, Rows, Live}
+use Rattle.chart_frames.specs.declared.frame.Frame.TheVariants as frames
+use Rattle.chart_frames.specs.declared.reports.Report.{Report}
+use Rattle.chart_frames.specs.declared.reports.Report.TheVariants.{Catalog, Values, Swept}
 use Rattle.chart_frames.specs.declared.frame.ViewFrame.{ViewFrame}
 use Rattle.chart_frames.specs.declared.frame.RowsFrame.{RowsFrame}
-use Rattle.chart_frames.specs.Format.{Format, stop, field, number_bytes, spell, after, Meets, IsEnd}
+use Rattle.chart_frames.specs.Format.{Format, stop, spell, after, Meets, IsEnd}
 use Rattle.chart_frames.specs.Reading.{read}
 use Rattle.chart_frames.specs.Fields.{session_fields, side_field, side_fields, series_fields, window_fields, range_fields, axis_fields, slots_field, has_field, rmin_field, rmax_field, stored_fields, count_fields, key_field, difference_field, coef_fields, coefs_fields, place_fields, source_fields, view_fields, row_count_fields, column_field, value_field, at_most_field, at_least_field, between_field, row_fields, rows_fields, head_fields, done_fields, refused_fields, opened_fields, flag_fields, live_fields, kind_fields, length_field, kind_field, frame_fields}
-use Rattle.chart_frames.specs.Frames.{unsigned, key_number, flags_of, coefs_numbers, all_rows_numbers, view_numbers, rows_numbers, numbers_of, spelling, Fits, IsCoef, FitsCoef, FitCoefs, FitsViewHead, FitsView, FitsRow, FitRows, FitsRowsHead, FitsRows}
+use Rattle.chart_frames.specs.Frames.{unsigned, key_number, flags_of, coefs_numbers, all_rows_numbers, view_numbers, rows_numbers, numbers_of, report_numbers, spelling, Fits, IsCoef, FitsCoef, FitCoefs, FitsViewHead, FitsView, FitsRow, FitRows, FitsRowsHead, FitsRows}
 use Rattle.chart_frames.specs.Spelled.{framed, place_before, source_before, view_before, coef_before, coefs_before, rows_before, row_before, rows_all_before, frame_before}
 use Rattle.chart_frames.specs.Items.{last_key, last_column}
-use Rattle.chart_frames.proofs.FormatLaws.{passed_all, read_again, one_reading}
+use Rattle.chart_frames.proofs.FormatLaws.{spell_before, spelled_before, passed_all, read_again, one_reading}
 use Rattle.chart_frames.proofs.Items.{coefs_fields-end, rows_fields-end}
 use Rattle.chart_frames.proofs.Orders.{index_bound, level_of-number, index_of-number}
+use Rattle.chart_frames.proofs.ReportNumbers.{from_signed, number_of, value_round, report_meets, report_ends, report_spelled, report_from, report_back}
 use Rattle.chart_frames.proofs.Meets.{round, view_numbers_meet, view_numbers_after, rows_numbers_meet, rows_numbers_after, done_meets, refused_meets, opened_meets, closed_meets, live_meets}
 
 -- ---- the numbers meet the format
@@ -31,6 +33,7 @@ fits_meets (Closed session) h = closed_meets session h
 fits_meets (View v) h = view_numbers_meet v v.coefs h.head h.coefs (omega (arith, h.count))
 fits_meets (Rows r) h = rows_numbers_meet r r.rows h.head h.rows (omega (arith, h.count))
 fits_meets (Live session on) h = live_meets session on h
+fits_meets (frames.Report r) h = report_meets r h
 
 ended : (f : Format) → f ≡ stop → IsEnd f
 ended f e = subst IsEnd (sym e) tt
@@ -46,20 +49,9 @@ fits_ends (View v) h =
 fits_ends (Rows r) h =
     ended (after frame_fields (rows_numbers r r.rows)) (rows_numbers_after r r.rows (omega (arith, h.count)) ∙ rows_fields-end r.w (last_column r.rows) (length r.rows) r.count (sym h.count))
 fits_ends (Live session on) h = tt
+fits_ends (frames.Report r) h = report_ends r
 
 -- ---- spelled in front of what follows
-
--- numbers by their sizes, and what follows
-abbrev spell_before : Format → List ℕ → List ℕ → List ℕ
-spell_before f [] tail = tail
-spell_before stop (n ∷ ns) tail = tail
-spell_before (field size ok next) (n ∷ ns) tail = number_bytes size n ++ spell_before (next n) ns tail
-
-spelled_before : (f : Format) (ns tail : List ℕ) → spell f ns ++ tail ≡ spell_before f ns tail
-spelled_before f [] tail = refl
-spelled_before stop (n ∷ ns) tail = refl
-spelled_before (field size ok next) (n ∷ ns) tail =
-    append_assoc (number_bytes size n) (spell (next n) ns) tail ∙ ap (λ (p : List ℕ). number_bytes size n ++ p) (spelled_before (next n) ns tail)
 
 coefs_spelled : (slots : ℕ) (last : Option ℕ) (coefs : List (Key × Coef)) (count : ℕ) (tail : List ℕ) → length coefs ≤ count
     → spell_before (coefs_fields slots last count) (coefs_numbers coefs) tail ≡ coefs_before coefs tail
@@ -109,6 +101,7 @@ spelled (Closed session) tail h = spelled_before frame_fields (numbers_of (Close
 spelled (View v) tail h = view_spelled v v.coefs tail (omega (arith, h.count))
 spelled (Rows r) tail h = rows_frame_spelled r r.rows tail (omega (arith, h.count))
 spelled (Live session on) tail h = spelled_before frame_fields (numbers_of (Live session on)) tail
+spelled (frames.Report r) tail h = spelled_before frame_fields (report_numbers r) tail ∙ report_spelled r tail
 
 -- ---- reading
 
@@ -132,9 +125,6 @@ rows_read_on r rows tail head fit room =
 
 -- ---- a frame from its numbers
 
-abbrev from_signed : ℕ → ℤ
-from_signed n = cast_signed w64 n
-
 abbrev key_from : ℕ → Key
 key_from n = record { level = n / 2 ^ 40; index = n % 2 ^ 40 }
 
@@ -156,9 +146,6 @@ rows_from (c ∷ (f ∷ (l ∷ []))) = []
 rows_from (c ∷ (f ∷ (l ∷ (g ∷ [])))) = []
 rows_from (c ∷ (f ∷ (l ∷ (g ∷ (e ∷ ns))))) =
     record { column = c; first = from_signed f; least = from_signed l; greatest = from_signed g; last = from_signed e } ∷ rows_from ns
-
-abbrev number_of : List ℕ → ℕ → ℕ
-number_of ns i = get_or ns i 0
 
 abbrev view_from : List ℕ → ViewFrame
 view_from ns = record {
@@ -198,7 +185,8 @@ frame_from ns =
     (cond (eqb (number_of ns 1) 3) (Opened (number_of ns 2) (number_of ns 3))
     (cond (eqb (number_of ns 1) 4) (Closed (number_of ns 2))
     (cond (eqb (number_of ns 1) 5) (View (view_from ns))
-    (cond (eqb (number_of ns 1) 6) (Rows (rows_frame_from ns)) (Live (number_of ns 2) (eqb (number_of ns 3) 1)))))))
+    (cond (eqb (number_of ns 1) 6) (Rows (rows_frame_from ns))
+    (cond (eqb (number_of ns 1) 7) (Live (number_of ns 2) (eqb (number_of ns 3) 1)) (frames.Report (report_from ns))))))))
 
 abbrev key_at : ℕ → ℕ → Key
 key_at level index = record { level = level; index = index }
@@ -238,9 +226,6 @@ coefs_back slots (e ∷ es) fit =
     let first : FitsCoef slots e = fit 0 e (omega arith) in
     pair_same (key_from (key_number e.0)) e.0 (coef_from (flags_of e.1) (from_signed (unsigned e.1.dmin)) (from_signed (unsigned e.1.dmax))) e.1 (coefs_from (coefs_numbers es)) es
     (key_back slots e.0 first.key) (coef_back e.1 first.coef) (coefs_back slots es (λ k d lt. fit (suc k) d (omega arith)))
-
-value_round : (z : ℤ) → IsValue z → from_signed (unsigned z) ≡ z
-value_round z h = round z (omega (arith, h))
 
 abbrev row_at : ℕ → ℤ → ℤ → ℤ → ℤ → Row
 row_at c f l g e = record { column = c; first = f; least = l; greatest = g; last = e }
@@ -294,6 +279,9 @@ frame_back (View v) h = ap View (view_back v h)
 frame_back (Rows r) h = ap Rows (rows_frame_back r h)
 frame_back (Live session true) h = refl
 frame_back (Live session false) h = refl
+frame_back (frames.Report (Catalog c)) h = ap (λ (r : Report). frames.Report r) (report_back (Catalog c) h)
+frame_back (frames.Report (Values v)) h = ap (λ (r : Report). frames.Report r) (report_back (Values v) h)
+frame_back (frames.Report (Swept clears used more)) h = ap (λ (r : Report). frames.Report r) (report_back (Swept clears used more) h)
 
 -- two frames at the front of the same bytes are one, and so is what follows
 pub same_frame : (f g : Frame) (x y : List ℕ) → Fits f → Fits g → spelling f ++ x ≡ spelling g ++ y → (f ≡ g) × (x ≡ y)

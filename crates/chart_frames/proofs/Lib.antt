@@ -1,12 +1,15 @@
 pub mod Numbers
+pub mod Names
 pub mod FormatLaws
 pub mod Orders
 pub mod Items
 pub mod Admits
 pub mod Meets
+pub mod ReportNumbers
 pub mod Fills
 pub mod Frames
 pub mod Places
+pub mod ReportReads
 pub mod Streams
 pub mod Lengths
 pub mod Writing

@@ -16,22 +16,22 @@ use Rattle.whole_number.specs.SlotTimes.{ends_in_time}
 use Rattle.chart_frames.specs.declared.frame.ViewFrame.{ViewFrame}
 use Rattle.chart_frames.specs.declared.frame.RowsFrame.{RowsFrame}
 use Rattle.chart_frames.specs.Format.{Format, stop, field, Meets, after}
-use Rattle.chart_frames.specs.Fields.{signed, within, is_zero, is_view_length, is_rows_length, is_length, admits, session_fields, side_field, side_fields, series_fields, window_fields, range_fields, axis_fields, slots_field, has_field, rmin_field, rmax_field, stored_fields, count_fields, level_of, index_of, is_key, follows, is_difference, key_field, difference_field, coef_fields, coefs_fields, place_fields, source_fields, view_fields, row_count_fields, rises, column_field, value_field, at_most_field, at_least_field, between_field, row_fields, rows_fields, head_fields, done_fields, names_first, names_second, refused_fields, opened_fields, flag_fields, live_fields, kind_fields, length_field, kind_field, frame_fields}
+use Rattle.chart_frames.specs.Fields.{signed, within, is_zero, is_view_length, is_rows_length, is_report_length, is_length, admits, session_fields, side_field, side_fields, series_fields, window_fields, range_fields, axis_fields, slots_field, has_field, rmin_field, rmax_field, stored_fields, count_fields, level_of, index_of, is_key, follows, is_difference, key_field, difference_field, coef_fields, coefs_fields, place_fields, source_fields, view_fields, row_count_fields, rises, column_field, value_field, at_most_field, at_least_field, between_field, row_fields, rows_fields, head_fields, done_fields, names_first, names_second, refused_fields, opened_fields, flag_fields, live_fields, kind_fields, length_field, kind_field, frame_fields}
 use Rattle.chart_frames.specs.Frames.{unsigned, key_number, flags_of, coefs_numbers, all_rows_numbers, view_numbers, rows_numbers, IsSession, IsSide, IsWindow, IsRange, IsAxis, IsStored, IsCoef, FitsCoef, Precedes, FitCoefs, FitsViewHead, FitsRow, FitRows, FitsRowsHead, FitsRefused, FitsOpened, number_of_flag}
 use Rattle.chart_frames.specs.Items.{last_key, last_column}
 use Rattle.chart_frames.proofs.Orders.{height_bound, index_bound, level_of-number, index_of-number}
 
 -- ---- tests
 
-or_right : (x y : Bool) → y ≡ true → (x || y) ≡ true
+pub or_right : (x y : Bool) → y ≡ true → (x || y) ≡ true
 or_right true y h = refl
 or_right false y h = h
 
-or_left : (x y : Bool) → x ≡ true → (x || y) ≡ true
+pub or_left : (x y : Bool) → x ≡ true → (x || y) ≡ true
 or_left true y h = refl
 or_left false y h = absurd cc
 
-within_from : (low high n : ℕ) → low ≤ n → n ≤ high → within low high n ≡ true
+pub within_from : (low high n : ℕ) → low ≤ n → n ≤ high → within low high n ≡ true
 within_from low high n p q = and_from (leb low n) (leb n high) (le-leb low n p) (le-leb n high q)
 
 lt_from : (a b : ℤ) → a <ℤ b → int_lt a b ≡ true
@@ -55,11 +55,11 @@ round z small = to_z-of_z w64 z (fits_signed_from_abs w64 z (omega arith))
 below : (z : ℤ) → IsSmall z → unsigned z < 256 ^ 8
 below z small = let f = Fits-of_z {w = w64} {z = z} (fits_signed_from_abs w64 z (omega arith)) in omega (arith, f)
 
-value_small : (z : ℤ) → IsValue z → IsSmall z
+pub value_small : (z : ℤ) → IsValue z → IsSmall z
 value_small z h = omega (arith, h)
 
 -- a signed field in front
-meets_signed : (ok : ℤ → Bool) (next : ℤ → Format) (z : ℤ) (ns : List ℕ) → IsSmall z → ok z ≡ true → Meets (next z) ns → Meets (signed ok next) (unsigned z ∷ ns)
+pub meets_signed : (ok : ℤ → Bool) (next : ℤ → Format) (z : ℤ) (ns : List ℕ) → IsSmall z → ok z ≡ true → Meets (next z) ns → Meets (signed ok next) (unsigned z ∷ ns)
 meets_signed ok next z ns small holds rest =
     let P : ℤ → Type 0 = λ t. Meets (next t) ns in
     (below z small, (ap ok (round z small) ∙ holds, subst P (sym (round z small)) rest))
@@ -70,7 +70,7 @@ session_meets : (s : ℕ) (next : Format) (ns : List ℕ) → IsSession s → Me
 unfolding session_fields
 session_meets s next ns h rest = (omega (arith, h.high), (le-leb 1 s h.low, rest))
 
-series_meets : (s : ℕ) (next : Format) (ns : List ℕ) → s < 512 → Meets next ns → Meets (series_fields next) (s ∷ ns)
+pub series_meets : (s : ℕ) (next : Format) (ns : List ℕ) → s < 512 → Meets next ns → Meets (series_fields next) (s ∷ ns)
 unfolding series_fields
 series_meets s next ns h rest = (omega (arith, h), (lt-ltb s 512 h, rest))
 
@@ -95,7 +95,7 @@ slots_meets : (start : ℤ) (step slots : ℕ) (next : ℕ → Format) (ns : Lis
 unfolding slots_field
 slots_meets start step slots next ns h rest = (omega (arith, h.limit), (and_from (leb slots MOST_SLOTS) (ends_in_time start step slots) (le-leb slots MOST_SLOTS h.limit) h.last, rest))
 
-axis_meets : (start : ℤ) (step slots : ℕ) (next : ℕ → Format) (ns : List ℕ) → IsAxis start step slots → Meets (next slots) ns → Meets (axis_fields next) (unsigned start ∷ (step ∷ (slots ∷ ns)))
+pub axis_meets : (start : ℤ) (step slots : ℕ) (next : ℕ → Format) (ns : List ℕ) → IsAxis start step slots → Meets (next slots) ns → Meets (axis_fields next) (unsigned start ∷ (step ∷ (slots ∷ ns)))
 unfolding axis_fields
 axis_meets start step slots next ns h rest =
     meets_signed is_value (λ start. field 4 (within 1 (2 ^ 31)) (λ step. slots_field start step next)) start (step ∷ (slots ∷ ns)) (value_small start h.first) (le-leb _ _ h.first)
@@ -114,13 +114,13 @@ has_test slots has h some =
       | inr one ↦ or_right (eqb has 0) (leb 1 slots) (le-leb 1 slots (some one))
     ])
 
-none_test : (has : ℕ) (z : ℤ) → has ≤ 1 → (has ≡ 0 → z ≡ pos 0) → (eqb has 1 || is_zero z) ≡ true
+pub none_test : (has : ℕ) (z : ℤ) → has ≤ 1 → (has ≡ 0 → z ≡ pos 0) → (eqb has 1 || is_zero z) ≡ true
 none_test has z h none = elim (flag_cases has h) [
   | inl empty ↦ or_right (eqb has 1) (is_zero z) (zero_from z (none empty))
   | inr one ↦ or_left (eqb has 1) (is_zero z) (eq-eqb has 1 one)
 ]
 
-stored_meets : (slots has : ℕ) (rmin rmax : ℤ) (next : Format) (ns : List ℕ) → IsStored slots has rmin rmax → Meets next ns → Meets (stored_fields slots next) (has ∷ (unsigned rmin ∷ (unsigned rmax ∷ ns)))
+pub stored_meets : (slots has : ℕ) (rmin rmax : ℤ) (next : Format) (ns : List ℕ) → IsStored slots has rmin rmax → Meets next ns → Meets (stored_fields slots next) (has ∷ (unsigned rmin ∷ (unsigned rmax ∷ ns)))
 unfolding stored_fields has_field rmin_field rmax_field
 stored_meets slots has rmin rmax next ns h rest = (
   omega (arith, h.flag),
@@ -286,7 +286,7 @@ view_length_test count most =
 
 length_of_view : (length : ℕ) → is_view_length length ≡ true → is_length length ≡ true
 length_of_view length h =
-    or_right (eqb length 5) _ (or_right (eqb length 6) _ (or_right (eqb length 9) _ (or_right (eqb length 18) _ (or_left (is_view_length length) (is_rows_length length) h))))
+    or_right (eqb length 5) _ (or_right (eqb length 6) _ (or_right (eqb length 9) _ (or_right (eqb length 18) _ (or_left (is_view_length length) (is_rows_length length || is_report_length length) h))))
 
 -- a view up to some of its coefficients
 pub view_numbers_meet : (v : ViewFrame) (coefs : List (Key × Coef)) → FitsViewHead v → FitCoefs v.slots coefs → length coefs ≤ v.count → Meets frame_fields (view_numbers v coefs)
@@ -390,7 +390,13 @@ rows_length_test count most =
 
 length_of_rows : (length : ℕ) → is_rows_length length ≡ true → is_length length ≡ true
 length_of_rows length h =
-    or_right (eqb length 5) _ (or_right (eqb length 6) _ (or_right (eqb length 9) _ (or_right (eqb length 18) _ (or_right (is_view_length length) (is_rows_length length) h))))
+    or_right (eqb length 5) _ (or_right (eqb length 6) _ (or_right (eqb length 9) _ (or_right (eqb length 18) _
+    (or_right (is_view_length length) (is_rows_length length || is_report_length length) (or_left (is_rows_length length) (is_report_length length) h)))))
+
+pub length_of_report : (length : ℕ) → is_report_length length ≡ true → is_length length ≡ true
+length_of_report length h =
+    or_right (eqb length 5) _ (or_right (eqb length 6) _ (or_right (eqb length 9) _ (or_right (eqb length 18) _
+    (or_right (is_view_length length) (is_rows_length length || is_report_length length) (or_right (is_rows_length length) (is_report_length length) h)))))
 
 head_meets : (r : RowsFrame) (next : ℕ → ℕ → Format) (ns : List ℕ) → FitsRowsHead r → Meets (next r.w r.count) ns
     → Meets (head_fields (27 + 34 * r.count) next) (r.session ∷ (r.w ∷ (r.h ∷ (unsigned r.lo ∷ (unsigned r.hi ∷ (r.count ∷ ns))))))
@@ -473,7 +479,7 @@ pub closed_meets : (session : ℕ) → IsSession session → Meets frame_fields 
 unfolding frame_fields length_field kind_field kind_fields admits
 closed_meets session h = (omega arith, (refl, (omega arith, (refl, session_meets session stop [] h tt))))
 
-flag_meets : (on : Bool) → Meets (flag_fields stop) (number_of_flag on ∷ [])
+pub flag_meets : (on : Bool) → Meets (flag_fields stop) (number_of_flag on ∷ [])
 unfolding flag_fields
 flag_meets true = (omega arith, (refl, tt))
 flag_meets false = (omega arith, (refl, tt))

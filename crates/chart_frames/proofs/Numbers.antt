@@ -71,6 +71,16 @@ unfolding number_bytes number_in
 number_spelled size bytes fits long =
     sym (take-append-drop size bytes) ∙ ap (λ (p : List ℕ). p ++ drop size bytes) (sym (number_back size bytes fits long))
 
+-- the bytes of the number that some bytes spell are these bytes
+pub number_bytes_in : (size : ℕ) (bytes : List ℕ) → IsBytes bytes → size ≡ length bytes → number_bytes size (number_in size bytes) ≡ bytes
+unfolding number_bytes number_in
+number_bytes_in size bytes fits whole = number_back size bytes fits (omega (arith, whole)) ∙ ap (λ (p : ℕ). take p bytes) whole ∙ take-length bytes
+
+-- those of the first so many bytes are these
+pub number_bytes_at : (size : ℕ) (bytes : List ℕ) → IsBytes bytes → size ≤ length bytes → number_bytes size (number_in size bytes) ≡ take size bytes
+unfolding number_bytes number_in
+number_bytes_at size bytes fits long = number_back size bytes fits long
+
 take_whole : (k : ℕ) (l : List ℕ) → k ≡ length l → take k l ≡ l
 take_whole k l e = ap (λ (p : ℕ). take p l) e ∙ take-length l
 

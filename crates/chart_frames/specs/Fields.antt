@@ -1,11 +1,13 @@
 -- The frames, field by field: sizes in bytes, rules, and what decides on what follows.
-use Rattle.std.specs.Prelude.{ℕ, zero, suc, ℤ, ◌+◌, ◌-◌, ◌*◌, ◌/◌, ◌%◌, ◌^◌, ◌==◌, Bool, true, false, ◌&&◌, ◌||◌, nat_lt, nat_le, int_lt, int_le, unsigned_abs, if◌then◌else◌, Option, None, Some}
+use Rattle.std.specs.Prelude.{ℕ, zero, suc, ℤ, ◌+◌, ◌-◌, ◌*◌, ◌/◌, ◌%◌, ◌^◌, ◌==◌, Bool, true, false, ◌&&◌, ◌||◌, nat_lt, nat_le, int_lt, int_le, unsigned_abs, if◌then◌else◌, Option, None, Some, List, take, drop}
+use Rattle.std.specs.List.{list_all}
 use Rattle.std.specs.Int.{w64, cast_signed}
 use Rattle.whole_number.specs.Range.{is_time, is_value}
 use Rattle.whole_number.specs.SlotTimes.{ends_in_time}
 use Rattle.om3_coeff.specs.Keys.{height}
+use Rattle.series_book.specs.Names.{is_name}
 use Rattle.chart_frames.specs.declared.limits.TheConstants.{MOST_SLOTS}
-use Rattle.chart_frames.specs.Format.{Format, stop, field}
+use Rattle.chart_frames.specs.Format.{Format, stop, field, number_bytes}
 
 -- eight bytes in two's complement
 abbrev pub signed : (ℤ → Bool) → (ℤ → Format) → Format
@@ -27,9 +29,21 @@ is_view_length length = has_items 84 25 131072 length
 abbrev pub is_rows_length : ℕ → Bool
 is_rows_length length = has_items 27 34 4096 length
 
+abbrev pub is_catalog_length : ℕ → Bool
+is_catalog_length length = has_items 11 70 512 length
+
+-- a length without values, or one of some runs with values
+abbrev pub is_values_length : ℕ → Bool
+is_values_length length = length == 16 || (within 40 49176 length && length % 8 == 0)
+
+-- the length is possible for some kind of report
+abbrev pub is_report_length : ℕ → Bool
+is_report_length length = length == 8 || (is_catalog_length length || is_values_length length)
+
 -- the length is possible for some kind
 abbrev pub is_length : ℕ → Bool
-is_length length = length == 5 || (length == 6 || (length == 9 || (length == 18 || (is_view_length length || is_rows_length length))))
+is_length length =
+    length == 5 || (length == 6 || (length == 9 || (length == 18 || (is_view_length length || (is_rows_length length || is_report_length length)))))
 
 -- the kind admits the length
 unfoldable pub admits : ℕ → ℕ → Bool
@@ -40,7 +54,10 @@ admits length kind =
     else (if kind == 4 then length == 5
     else (if kind == 5 then is_view_length length
     else (if kind == 6 then is_rows_length length
-    else (if kind == 7 then length == 6 else false))))))
+    else (if kind == 7 then length == 6
+    else (if kind == 8 then is_catalog_length length
+    else (if kind == 9 then is_values_length length
+    else (if kind == 10 then length == 8 else false)))))))))
 
 unfoldable pub session_fields : Format → Format
 session_fields next = field 4 (λ session. nat_le 1 session) (λ session. next)
@@ -207,6 +224,110 @@ flag_fields next = field 1 (λ flag. nat_le flag 1) (λ flag. next)
 unfoldable pub live_fields : Format
 live_fields = session_fields (flag_fields stop)
 
+-- a number of four bytes
+unfoldable pub word_field : (ℕ → Format) → Format
+word_field next = field 4 (λ n. true) next
+
+abbrev pub is_blank : ℕ → Bool
+is_blank byte = byte == 0
+
+-- the first bytes, so many, are a name, and those behind them 0
+abbrev pub is_padded : ℕ → List ℕ → Bool
+is_padded size bytes = is_name (take size bytes) && list_all is_blank (drop size bytes)
+
+-- a name's length, and the name in 31 bytes
+unfoldable pub padded_field : ℕ → Format → Format
+padded_field size next = field 31 (λ n. is_padded size (number_bytes 31 n)) (λ n. next)
+
+unfoldable pub name_fields : Format → Format
+name_fields next = field 1 (within 1 31) (λ size. padded_field size next)
+
+unfoldable pub scale_field : Format → Format
+scale_field next = field 1 (λ scale. nat_le scale 9) (λ scale. next)
+
+-- a series' scale and slots, and its least and greatest stored value
+unfoldable pub facts_fields : Format → Format
+facts_fields next = scale_field (axis_fields (λ slots. stored_fields slots next))
+
+-- what a catalog says of one series
+unfoldable pub listed_fields : Format → Format
+listed_fields next = name_fields (facts_fields next)
+
+-- so many series
+unfoldable pub series_list : ℕ → Format
+series_list zero = stop
+series_list (suc count) = listed_fields (series_list count)
+
+-- the number of series, as the length says
+unfoldable pub listed_count_fields : ℕ → (ℕ → Format) → Format
+listed_count_fields length next = field 2 (λ count. 11 + 70 * count == length) next
+
+-- the pages there are, those in use, and the number of series
+unfoldable pub pages_fields : ℕ → (ℕ → Format) → Format
+pages_fields length next = word_field (λ total. word_field (λ used. listed_count_fields length next))
+
+unfoldable pub catalog_fields : ℕ → Format
+catalog_fields length = pages_fields length series_list
+
+-- whether values are left, and the time from which to ask for them, 0 where none are
+unfoldable pub next_time_field : ℕ → Format → Format
+next_time_field more next = signed (λ t. is_time t && (more == 1 || is_zero t)) (λ t. next)
+
+unfoldable pub more_field : (ℕ → Format) → Format
+more_field next = field 1 (λ more. nat_le more 1) next
+
+unfoldable pub next_fields : Format → Format
+next_fields next = more_field (λ more. next_time_field more next)
+
+-- the numbers of runs and of values: each run has a value, and both are as the length says
+abbrev pub are_counts : ℕ → ℕ → ℕ → Bool
+are_counts length runs values =
+    16 + (16 * runs + 8 * values) == length && (nat_le values 4096 && (nat_le runs values && (values == 0 || nat_le 1 runs)))
+
+unfoldable pub counts_fields : ℕ → (ℕ → ℕ → Format) → Format
+counts_fields length next = field 2 (λ runs. true) (λ runs. field 2 (are_counts length runs) (next runs))
+
+abbrev pub lesser : ℕ → ℕ → ℕ
+lesser a b = if nat_le a b then a else b
+
+-- a run of so many of the values that are left: the last run takes all of them, each other one leaves some
+abbrev pub takes_of : ℕ → ℕ → ℕ → Bool
+takes_of behind left many = nat_le 1 many && (if behind == 0 then many == left else nat_lt many left)
+
+-- the first slot of a run, and how many it has
+unfoldable pub run_fields : ℕ → ℕ → ℕ → ℕ → (ℕ → ℕ → Format) → Format
+run_fields from limit left behind next =
+    field 8 (λ first. nat_le from first && nat_lt first limit) (λ first.
+    field 8 (λ many. takes_of behind left many && nat_le (first + many) limit) (next first))
+
+-- So many runs, over so many values that are left. Each begins at `from` or later and ends at the limit
+-- or before; a slot without a value stands between two of them, and no run ends more than 4,096 slots
+-- behind the first slot of another one.
+unfoldable pub runs_fields : ℕ → ℕ → ℕ → ℕ → Format → Format
+runs_fields from limit left zero next = next
+runs_fields from limit left (suc behind) next =
+    run_fields from limit left behind (λ first many. runs_fields (first + many + 1) (lesser limit (first + 4096)) (left - many) behind next)
+
+-- so many values
+unfoldable pub values_list : ℕ → Format
+values_list zero = stop
+values_list (suc count) = value_field (λ v. values_list count)
+
+-- the series, where more values are, and the numbers of runs and of values
+unfoldable pub asked_fields : ℕ → (ℕ → ℕ → Format) → Format
+asked_fields length next = series_fields (next_fields (counts_fields length next))
+
+-- the runs of slots, and the values in these slots
+unfoldable pub stored_values : ℕ → ℕ → Format
+stored_values runs values = runs_fields 0 MOST_SLOTS values runs (values_list values)
+
+unfoldable pub values_fields : ℕ → Format
+values_fields length = asked_fields length stored_values
+
+-- the number of clears, the pages in use, and whether clears are left
+unfoldable pub swept_fields : Format
+swept_fields = field 2 (λ clears. nat_le clears 64) (λ clears. word_field (λ used. flag_fields stop))
+
 -- the fields of a kind, behind it
 unfoldable pub kind_fields : ℕ → ℕ → Format
 kind_fields length kind =
@@ -216,7 +337,10 @@ kind_fields length kind =
     else (if kind == 4 then session_fields stop
     else (if kind == 5 then view_fields length (λ slots count. coefs_fields slots None count)
     else (if kind == 6 then head_fields length (λ w count. rows_fields w None count)
-    else live_fields)))))
+    else (if kind == 7 then live_fields
+    else (if kind == 8 then catalog_fields length
+    else (if kind == 9 then values_fields length
+    else swept_fields))))))))
 
 -- the length of what follows it
 unfoldable pub length_field : (ℕ → Format) → Format

@@ -1,9 +1,10 @@
 -- Frames: the numbers of their fields, their one spelling, and the rules that their fields meet.
-use Rattle.std.specs.Prelude.{ℕ, ℤ, pos, ◌≡◌, ◌+◌, ◌*◌, ◌^◌, ◌<◌, ◌≤◌, ◌≤ℤ◌, ◌<ℤ◌, ◌⊎◌, Bool, false, ◌&&◌, ◌||◌, IsTrue, List, [], ◌∷◌, length, All, AllPairs, if◌then◌else◌}
+use Rattle.std.specs.Prelude.{ℕ, ℤ, pos, ◌≡◌, ◌+◌, ◌-◌, ◌*◌, ◌^◌, ◌<◌, ◌≤◌, ◌≤ℤ◌, ◌<ℤ◌, ◌⊎◌, Bool, false, ◌&&◌, ◌||◌, IsTrue, List, [], ◌∷◌, ◌++◌, length, replicate, All, AllPairs, if◌then◌else◌}
 use Rattle.std.specs.Int.{w64, cast_unsigned}
 use Rattle.om3_coeff.specs.declared.key.Key.{Key}
 use Rattle.om3_coeff.specs.declared.coef.Coef.{Coef}
 use Rattle.om3_coeff.specs.Keys.{height, IsNode}
+use Rattle.series_book.specs.Names.{is_name}
 use Rattle.m4_groups.specs.declared.row.Row.{Row}
 use Rattle.m4_groups.specs.Rows.{AreRising}
 use Rattle.whole_number.specs.Range.{IsValue, IsTime}
@@ -11,10 +12,17 @@ use Rattle.whole_number.specs.SlotTimes.{EndsInTime}
 use Rattle.chart_frames.specs.declared.limits.TheConstants.{MOST_SLOTS}
 use Rattle.chart_frames.specs.declared.frame.Frame.{Frame}
 use Rattle.chart_frames.specs.declared.frame.Frame.TheVariants.{Done, Refused, Opened, Closed, View, Rows, Live}
+use Rattle.chart_frames.specs.declared.frame.Frame.TheVariants as frames
 use Rattle.chart_frames.specs.declared.frame.ViewFrame.{ViewFrame}
 use Rattle.chart_frames.specs.declared.frame.RowsFrame.{RowsFrame}
-use Rattle.chart_frames.specs.Format.{spell}
-use Rattle.chart_frames.specs.Fields.{names_first, names_second, frame_fields}
+use Rattle.chart_frames.specs.declared.reports.ListedSeries.{ListedSeries}
+use Rattle.chart_frames.specs.declared.reports.CatalogFrame.{CatalogFrame}
+use Rattle.chart_frames.specs.declared.reports.Run.{Run}
+use Rattle.chart_frames.specs.declared.reports.ValuesFrame.{ValuesFrame}
+use Rattle.chart_frames.specs.declared.reports.Report.{Report}
+use Rattle.chart_frames.specs.declared.reports.Report.TheVariants.{Catalog, Values, Swept}
+use Rattle.chart_frames.specs.Format.{number_in, spell}
+use Rattle.chart_frames.specs.Fields.{names_first, names_second, lesser, frame_fields}
 
 -- a signed number as the number that its eight bytes spell
 abbrev pub unsigned : ℤ → ℕ
@@ -53,6 +61,34 @@ rows_numbers r rows =
 abbrev pub number_of_flag : Bool → ℕ
 number_of_flag on = if on then 1 else 0
 
+-- the number that 31 bytes spell: a name, and 0 behind it
+abbrev pub name_number : List ℕ → ℕ
+name_number name = number_in 31 (name ++ replicate (31 - length name) 0)
+
+abbrev pub listed_numbers : ListedSeries → List ℕ → List ℕ
+listed_numbers s tail =
+    length s.name ∷ (name_number s.name ∷ (s.scale ∷ (unsigned s.start ∷ (s.step ∷ (s.slots ∷ (s.has ∷ (unsigned s.rmin ∷ (unsigned s.rmax ∷ tail))))))))
+
+abbrev pub series_numbers : List ListedSeries → List ℕ
+series_numbers [] = []
+series_numbers (s ∷ ss) = listed_numbers s (series_numbers ss)
+
+abbrev pub runs_numbers : List Run → List ℕ → List ℕ
+runs_numbers [] tail = tail
+runs_numbers (r ∷ rs) tail = r.first ∷ (r.count ∷ runs_numbers rs tail)
+
+abbrev pub values_numbers : List ℤ → List ℕ
+values_numbers [] = []
+values_numbers (v ∷ vs) = unsigned v ∷ values_numbers vs
+
+-- the numbers of a report's fields
+abbrev pub report_numbers : Report → List ℕ
+report_numbers (Catalog c) = (11 + 70 * length c.series) ∷ (8 ∷ (c.total ∷ (c.used ∷ (length c.series ∷ series_numbers c.series))))
+report_numbers (Values v) =
+    (16 + (16 * length v.runs + 8 * length v.values)) ∷ (9 ∷ (v.series ∷ (number_of_flag v.more ∷ (unsigned v.next
+    ∷ (length v.runs ∷ (length v.values ∷ runs_numbers v.runs (values_numbers v.values)))))))
+report_numbers (Swept clears used more) = 8 ∷ (10 ∷ (clears ∷ (used ∷ (number_of_flag more ∷ []))))
+
 -- the numbers of a frame's fields, in their order
 abbrev pub numbers_of : Frame → List ℕ
 numbers_of (Done slots) = 9 ∷ (1 ∷ (slots ∷ []))
@@ -62,6 +98,7 @@ numbers_of (Closed session) = 5 ∷ (4 ∷ (session ∷ []))
 numbers_of (View v) = view_numbers v v.coefs
 numbers_of (Rows r) = rows_numbers r r.rows
 numbers_of (Live session on) = 6 ∷ (7 ∷ (session ∷ (number_of_flag on ∷ [])))
+numbers_of (frames.Report r) = report_numbers r
 
 -- the bytes of a frame: each field's number by its size
 abbrev pub spelling : Frame → List ℕ
@@ -199,6 +236,54 @@ pub record FitsOpened (session cache : ℕ) : Type 0 where
   pub low : 1 ≤ cache
   pub high : cache ≤ 131072
 
+-- a series' scale and slots, and its least and greatest stored value
+pub record FitFacts (scale : ℕ) (start : ℤ) (step slots has : ℕ) (rmin rmax : ℤ) : Type 0 where
+  pub decimals : scale ≤ 9
+  pub axis : IsAxis start step slots
+  pub stored : IsStored slots has rmin rmax
+
+-- what a catalog says of one series
+pub record FitsListed (s : ListedSeries) : Type 0 where
+  pub named : IsTrue (is_name s.name)
+  pub facts : FitFacts s.scale s.start s.step s.slots s.has s.rmin s.rmax
+
+pub record FitsCatalog (c : CatalogFrame) : Type 0 where
+  pub pages : c.total < 2 ^ 32
+  pub full : c.used < 2 ^ 32
+  pub most : length c.series ≤ 512
+  pub series : All FitsListed c.series
+
+-- a run has a slot, begins at `from` or later, ends at the limit or before, and has at most so many values
+pub record FitsRun (from limit left : ℕ) (r : Run) : Type 0 where
+  pub behind : from ≤ r.first
+  pub some : 1 ≤ r.count
+  pub before : r.first + r.count ≤ limit
+  pub room : r.count ≤ left
+
+-- Runs of so many values together. A slot without a value stands between two of them, and no run ends
+-- more than 4,096 slots behind the first slot of another one.
+abbrev pub FitRuns : ℕ → ℕ → ℕ → List Run → Type 0
+FitRuns from limit left [] = left ≡ 0
+FitRuns from limit left (r ∷ rs) = FitsRun from limit left r × FitRuns (r.first + r.count + 1) (lesser limit (r.first + 4096)) (left - r.count) rs
+
+-- the time from which to ask on is 0 where no value is left
+pub record FitsValues (v : ValuesFrame) : Type 0 where
+  pub known : v.series < 512
+  pub next : IsTime v.next
+  pub none_left : v.more ≡ false → v.next ≡ pos 0
+  pub most : length v.values ≤ 4096
+  pub runs : FitRuns 0 MOST_SLOTS (length v.values) v.runs
+  pub values : All IsValue v.values
+
+pub record FitsSwept (clears used : ℕ) : Type 0 where
+  pub most : clears ≤ 64
+  pub full : used < 2 ^ 32
+
+abbrev pub FitsReport : Report → Type 0
+FitsReport (Catalog c) = FitsCatalog c
+FitsReport (Values v) = FitsValues v
+FitsReport (Swept clears used more) = FitsSwept clears used
+
 -- the fields meet their rules
 abbrev pub Fits : Frame → Type 0
 Fits (Done slots) = slots ≤ MOST_SLOTS
@@ -208,3 +293,4 @@ Fits (Closed session) = IsSession session
 Fits (View v) = FitsView v
 Fits (Rows r) = FitsRows r
 Fits (Live session on) = IsSession session
+Fits (frames.Report r) = FitsReport r

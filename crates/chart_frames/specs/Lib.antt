@@ -5,6 +5,7 @@ pub mod Fields
 pub mod Frames
 pub mod Spelled
 pub mod Items
+pub mod ReportParts
 pub mod Places
 pub mod Stream
 pub mod Opened

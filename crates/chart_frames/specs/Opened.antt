@@ -1,7 +1,7 @@
 -- Which sessions frames open and close.
 use Rattle.std.specs.Prelude.{ℕ, Bool, not, ◌==◌, ◌&&◌, ◌||◌}
 use Rattle.chart_frames.specs.declared.frame.Frame.{Frame}
-use Rattle.chart_frames.specs.declared.frame.Frame.TheVariants.{Done, Refused, Opened, Closed, View, Rows, Live}
+use Rattle.chart_frames.specs.declared.frame.Frame.TheVariants.{Done, Refused, Opened, Closed, View, Rows, Live, Report}
 
 -- whether the session n is open after a frame, where it was or wasn't before it
 abbrev pub opens : Frame → ℕ → Bool → Bool
@@ -12,3 +12,4 @@ opens (Closed session) n was = not (session == n) && was
 opens (View view) n was = was
 opens (Rows rows) n was = was
 opens (Live session on) n was = was
+opens (Report report) n was = was

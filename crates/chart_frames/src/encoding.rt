@@ -6,53 +6,54 @@ ghost use Rattle.chart_frames.specs.Frames.{Fits, FitsView, spelling, flags_of, 
 ghost use Rattle.chart_frames.specs.Spelled.{signed_bytes, two_before, place_before, source_before, view_before, coef_before, coefs_before, row_before, rows_before, rows_all_before, framed, frame_before};
 
 use crate::frame::{Frame, RowsFrame, ViewFrame};
+use crate::report_encoding::put_report;
 use m4_groups::Row;
 use om3_coeff::{Coef, Key};
 use std::alloc::{AllocError, Global};
 
 #[tactic(auto, unfolding(crate::specs::Format::number_bytes))]
-fn put_byte(out: &mut Vec<u8>, n: u8) -> Result<(), AllocError>
+pub(crate) fn put_byte(out: &mut Vec<u8>, n: u8) -> Result<(), AllocError>
     ensures { OnOk result (out.new.items ≡ out.old.items ++ number_bytes 1 n) }
 {
     out.extend_from_slice(&[n])
 }
 
 #[tactic(auto, unfolding(crate::specs::Format::number_bytes))]
-fn put_short(out: &mut Vec<u8>, n: u16) -> Result<(), AllocError>
+pub(crate) fn put_short(out: &mut Vec<u8>, n: u16) -> Result<(), AllocError>
     ensures { OnOk result (out.new.items ≡ out.old.items ++ number_bytes 2 n) }
 {
     out.extend_from_slice(&n.to_be_bytes())
 }
 
 #[tactic(auto, unfolding(crate::specs::Format::number_bytes))]
-fn put_word(out: &mut Vec<u8>, n: u32) -> Result<(), AllocError>
+pub(crate) fn put_word(out: &mut Vec<u8>, n: u32) -> Result<(), AllocError>
     ensures { OnOk result (out.new.items ≡ out.old.items ++ number_bytes 4 n) }
 {
     out.extend_from_slice(&n.to_be_bytes())
 }
 
 #[tactic(auto, unfolding(crate::specs::Format::number_bytes))]
-fn put_long(out: &mut Vec<u8>, n: u64) -> Result<(), AllocError>
+pub(crate) fn put_long(out: &mut Vec<u8>, n: u64) -> Result<(), AllocError>
     ensures { OnOk result (out.new.items ≡ out.old.items ++ number_bytes 8 n) }
 {
     out.extend_from_slice(&n.to_be_bytes())
 }
 
-fn put_signed(out: &mut Vec<u8>, n: i64) -> Result<(), AllocError>
+pub(crate) fn put_signed(out: &mut Vec<u8>, n: i64) -> Result<(), AllocError>
     ensures { OnOk result (out.new.items ≡ out.old.items ++ signed_bytes n) }
 {
     put_long(out, n.cast_unsigned())
 }
 
 // The length and the kind.
-fn put_start(out: &mut Vec<u8>, length: u32, kind: u8) -> Result<(), AllocError>
+pub(crate) fn put_start(out: &mut Vec<u8>, length: u32, kind: u8) -> Result<(), AllocError>
     ensures { OnOk result ((tail : List ℕ) → out.new.items ++ tail ≡ out.old.items ++ framed length kind tail) }
 {
     put_word(out, length)?;
     put_byte(out, kind)
 }
 
-fn put_two(out: &mut Vec<u8>, low: i64, high: i64) -> Result<(), AllocError>
+pub(crate) fn put_two(out: &mut Vec<u8>, low: i64, high: i64) -> Result<(), AllocError>
     ensures { OnOk result ((tail : List ℕ) → out.new.items ++ tail ≡ out.old.items ++ two_before low high tail) }
 {
     put_signed(out, low)?;
@@ -199,7 +200,7 @@ fn put_live(out: &mut Vec<u8>, session: u32, on: bool) -> Result<(), AllocError>
     put_byte(out, number_of_flag(on))
 }
 
-fn number_of_flag(on: bool) -> u8
+pub(crate) fn number_of_flag(on: bool) -> u8
     ensures { result ≡ number_of_flag on }
 {
     if on { 1 } else { 0 }
@@ -217,6 +218,7 @@ fn put_frame(out: &mut Vec<u8>, frame: &Frame) -> Result<(), AllocError>
         Frame::View(view) => put_view(out, view),
         Frame::Rows(rows) => put_rows(out, rows),
         Frame::Live { session, on } => put_live(out, *session, *on),
+        Frame::Report(report) => put_report(out, report),
     }
 }
 

@@ -1,3 +1,4 @@
+use crate::reports::Report;
 use m4_groups::Rows;
 use om3_coeff::Coefs;
 
@@ -19,6 +20,8 @@ pub enum Frame {
     Rows(RowsFrame),
     /// Whether a session follows its view from now on; its number isn't 0.
     Live { session: u32, on: bool },
+    /// An answer that shows no picture.
+    Report(Report),
 }
 
 /// A view with the coefficients that are sent for it.

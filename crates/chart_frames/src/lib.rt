@@ -8,11 +8,14 @@
 //! stream in pieces and gives the frames whose spellings stand in it, one after the other. A field
 //! that breaks its rule is refused as soon as its last byte has come.
 //!
-//! Between calls a decoder holds the bytes that were fed and not given, and the items that it has read
-//! of the frame at their front, so that none of them is read again. Whether a coefficient is the
-//! series' one, and whether a view has those that it needs, is left to the layers above.
+//! Between calls a decoder holds the bytes that were fed and not given, and the coefficients or rows
+//! that it has read of the frame at their front, so that none of them is read again; a report, of at
+//! most 49,180 bytes, is. Whether a coefficient is the series' one, and whether a view has those that
+//! it needs, is left to the layers above.
 #![tactic(auto)]
 
+mod admitting;
+mod catalog_reading;
 mod coefficients;
 mod decoder;
 mod encoding;
@@ -25,9 +28,15 @@ pub mod laws;
 mod limits;
 mod opening;
 mod place;
+mod report_encoding;
+mod report_lists;
+mod reports;
 mod rows;
+mod values_reading;
 
 pub use decoder::Decoder;
 pub use encoding::encode;
 pub use errors::FrameFault;
 pub use frame::{Frame, RowsFrame, ViewFrame};
+pub use report_lists::{RunList, SeriesList, ValueList};
+pub use reports::{CatalogFrame, ListedSeries, Report, Run, ValuesFrame};

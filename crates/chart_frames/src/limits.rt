@@ -44,3 +44,34 @@ pub const MOST_SLOTS: u64 = 34_359_738_368;
 
 /// The keys of a level: a key's number is its level times this, and its index.
 pub const LEVEL_KEYS: u64 = 1_099_511_627_776;
+
+/// The length of a frame that tells a sweep.
+pub const SWEPT_LENGTH: u32 = 8;
+
+/// The most clears of a sweep that one frame tells.
+pub const MOST_CLEARS: u16 = 64;
+
+/// The length of a catalog without series, and the bytes of one.
+pub const CATALOG_LENGTH: u32 = 11;
+
+pub const LISTED_BYTES: u32 = 70;
+
+/// The bytes that hold a name, with 0 behind it.
+pub const NAME_BYTES: usize = 31;
+
+/// The length of a frame of values without any, the bytes of a run, and those of a value.
+pub const VALUES_LENGTH: u32 = 16;
+
+pub const RUN_BYTES: u32 = 16;
+
+pub const VALUE_BYTES: u32 = 8;
+
+/// The length of a frame of one value, and the greatest one of a frame of values.
+pub const ONE_VALUE_LENGTH: u32 = 40;
+
+pub const MOST_VALUES_LENGTH: u32 = 49_176;
+
+/// The most values of a frame, and the most slots from its first one to its last one.
+pub const MOST_VALUES: u16 = 4_096;
+
+pub const SLOTS_OF_VALUES: u64 = 4_096;

@@ -2,78 +2,36 @@
 ghost use Rattle.std.specs.Prelude.{◌≡◌, ◌≢◌, ◌+◌, ◌*◌, ◌++◌, ℕ, Ok, Err, IsTrue, IfOk, IfErr};
 ghost use Rattle.chart_frames.specs.Format.{Format, stop, number_bytes};
 ghost use Rattle.chart_frames.specs.Reading.{Reads, read};
-ghost use Rattle.chart_frames.specs.Fields.{is_view_length, is_rows_length, is_length, admits, names_first, names_second, session_fields, done_fields, refused_fields, opened_fields, live_fields, place_fields, source_fields, view_fields, head_fields, kind_fields, length_field, kind_field, frame_fields};
+ghost use Rattle.chart_frames.specs.Fields.{is_view_length, is_length, admits, names_first, names_second, session_fields, done_fields, refused_fields, opened_fields, live_fields, swept_fields, place_fields, source_fields, view_fields, head_fields, kind_fields, length_field, kind_field, frame_fields};
 ghost use Rattle.chart_frames.specs.Frames.{Fits, FitsPlace, FitsSource, FitsViewHead, FitsRowsHead};
 ghost use Rattle.chart_frames.specs.Spelled.{framed, frame_before, view_before, rows_before, two_before, signed_bytes};
+ghost use Rattle.chart_frames.specs.Items.{Fails};
 ghost use Rattle.chart_frames.specs.Places.{Opens};
 
-use crate::fields::{Stop, byte_at, long_at, word_at};
+use crate::admitting::{admits, is_length};
+use crate::catalog_reading::{any_word_at, catalog_at};
+use crate::fields::{Stop, byte_at, long_at, short_at, word_at};
 use crate::frame::{Frame, RowsFrame, ViewFrame};
 use crate::heads::{
     Axis, Stored, axis_at, count_at, flag_at, range_at, row_count_at, series_at, session_at,
     sides_at, stored_at, window_at,
 };
-use crate::limits::{
-    EIGHT_LENGTH, LIVE_LENGTH, MOST_COEFS, MOST_ROWS, MOST_SLOTS, REFUSED_LENGTH, ROWS_LENGTH,
-    SESSION_LENGTH, VIEW_LENGTH,
-};
+use crate::item_stop::ItemStop;
+use crate::limits::{MOST_CLEARS, MOST_COEFS, MOST_SLOTS};
+use crate::reports::Report;
+use crate::values_reading::values_at;
 use m4_groups::Rows;
 use om3_coeff::Coefs;
 use std::alloc::Global;
 
 /// What stands at the front of a stream.
 pub enum Opening {
-    /// A frame without items.
+    /// A frame without items, or a report.
     Whole(Frame),
     /// A view without its coefficients.
     View(ViewFrame),
     /// Rows without the rows.
     Rows(RowsFrame),
-}
-
-fn is_view_length(length: u32) -> bool
-    ensures { result ≡ is_view_length length }
-{
-    length >= VIEW_LENGTH
-        && (length - VIEW_LENGTH) % 25 == 0
-        && (length - VIEW_LENGTH) / 25 <= MOST_COEFS
-}
-
-fn is_rows_length(length: u32) -> bool
-    ensures { result ≡ is_rows_length length }
-{
-    length >= ROWS_LENGTH
-        && (length - ROWS_LENGTH) % 34 == 0
-        && (length - ROWS_LENGTH) / 34 <= MOST_ROWS
-}
-
-fn is_length(length: u32) -> bool
-    ensures { result ≡ is_length length }
-{
-    let of_view = is_view_length(length);
-    let of_rows = is_rows_length(length);
-    length == SESSION_LENGTH
-        || length == LIVE_LENGTH
-        || length == EIGHT_LENGTH
-        || length == REFUSED_LENGTH
-        || of_view
-        || of_rows
-}
-
-#[tactic(auto, unfolding(crate::specs::Fields::admits))]
-fn admits(length: u32, kind: u8) -> bool
-    ensures { result ≡ admits length kind }
-{
-    match kind {
-        1 => length == EIGHT_LENGTH,
-        2 => length == REFUSED_LENGTH,
-        3 => length == EIGHT_LENGTH,
-        4 => length == SESSION_LENGTH,
-        5 => is_view_length(length),
-        6 => is_rows_length(length),
-        7 => length == LIVE_LENGTH,
-        _ => false,
-    }
 }
 
 #[tactic(auto, unfolding(crate::specs::Fields::length_field))]
@@ -174,6 +132,20 @@ fn live_at(bytes: &[u8]) -> Result<(Frame, &[u8]), Stop>
     let (session, rest) = session_at(bytes)?;
     let (on, after) = flag_at(rest)?;
     Ok((Frame::Live { session, on }, after))
+}
+
+#[tactic(auto, unfolding(crate::specs::Fields::swept_fields))]
+fn swept_at(bytes: &[u8]) -> Result<(Frame, &[u8]), Stop>
+    ensures reads { Reads result (read swept_fields bytes.now) (λ x. Ok x.1.now) }
+    ensures takes { IfOk result (λ x. Fits x.0 × (framed 8 10 bytes.now ≡ frame_before x.0 x.1.now)) }
+{
+    let (clears, rest) = short_at(bytes)?;
+    if clears > MOST_CLEARS {
+        return Err(Stop::Bad(bytes.len()));
+    }
+    let (used, rest) = any_word_at(rest)?;
+    let (more, rest) = flag_at(rest)?;
+    Ok((Frame::Report(Report::Swept { clears, used, more }), rest))
 }
 
 /// Where a view is shown.
@@ -301,6 +273,8 @@ fn short_frame_at(length: u32, kind: u8, bytes: &[u8]) -> Result<(Frame, &[u8]),
     requires admitted { IsTrue (admits length kind) }
     requires no_coefs { kind ≢ 5 }
     requires no_rows { kind ≢ 6 }
+    requires no_series { kind ≢ 8 }
+    requires no_values { kind ≢ 9 }
     ensures ok { IfOk result (λ x. Fits x.0 × (framed length kind bytes.now ≡ frame_before x.0 x.1.now)) }
     ensures err { IfErr result (λ e. read (kind_fields length kind) bytes.now ≡ Err e) }
 {
@@ -309,7 +283,8 @@ fn short_frame_at(length: u32, kind: u8, bytes: &[u8]) -> Result<(Frame, &[u8]),
         2 => refused_at(bytes),
         3 => opened_at(bytes),
         4 => closed_at(bytes),
-        _ => live_at(bytes),
+        7 => live_at(bytes),
+        _ => swept_at(bytes),
     }
 }
 
@@ -319,34 +294,52 @@ fn kind_fields_at(
     length: u32,
     kind: u8,
     bytes: &[u8],
-) -> Result<(Opening, &[u8]), Stop>
+) -> Result<(Opening, &[u8]), ItemStop>
     requires { IsTrue (admits length kind) }
     ensures ok { IfOk result (λ x. Opens (framed length kind bytes.now) x.0 x.1.now) }
-    ensures err { IfErr result (λ e. read (kind_fields length kind) bytes.now ≡ Err e) }
+    ensures err { IfErr result (λ e. Fails e (read (kind_fields length kind) bytes.now)) }
 {
     match kind {
-        5 => {
-            let (view, rest) = view_at(alloc, length, bytes)?;
-            Ok((Opening::View(view), rest))
-        }
-        6 => {
-            let (rows, rest) = rows_at(alloc, length, bytes)?;
-            Ok((Opening::Rows(rows), rest))
-        }
-        _ => {
-            let (frame, rest) = short_frame_at(length, kind, bytes)?;
-            Ok((Opening::Whole(frame), rest))
-        }
+        5 => match view_at(alloc, length, bytes) {
+            Ok((view, rest)) => Ok((Opening::View(view), rest)),
+            Err(stop) => Err(ItemStop::Stop(stop)),
+        },
+        6 => match rows_at(alloc, length, bytes) {
+            Ok((rows, rest)) => Ok((Opening::Rows(rows), rest)),
+            Err(stop) => Err(ItemStop::Stop(stop)),
+        },
+        8 => match catalog_at(alloc, length, bytes) {
+            Ok((frame, rest)) => Ok((Opening::Whole(frame), rest)),
+            Err(stop) => Err(stop),
+        },
+        9 => match values_at(alloc, length, bytes) {
+            Ok((frame, rest)) => Ok((Opening::Whole(frame), rest)),
+            Err(stop) => Err(stop),
+        },
+        _ => match short_frame_at(length, kind, bytes) {
+            Ok((frame, rest)) => Ok((Opening::Whole(frame), rest)),
+            Err(stop) => Err(ItemStop::Stop(stop)),
+        },
     }
 }
 
-// The frame at the front, up to its items.
 #[tactic(auto, unfolding(crate::specs::Fields::frame_fields))]
-pub fn opening_at(alloc: Global, bytes: &[u8]) -> Result<(Opening, &[u8]), Stop>
-    ensures ok { IfOk result (λ x. Opens bytes.now x.0 x.1.now) }
-    ensures err { IfErr result (λ e. read frame_fields bytes.now ≡ Err e) }
+fn kind_start_at(bytes: &[u8]) -> Result<((u32, u8), &[u8]), Stop>
+    ensures reads { Reads result (read frame_fields bytes.now) (λ x. read (kind_fields x.0.0 x.0.1) x.1.now) }
+    ensures takes { IfOk result (λ x. IsTrue (admits x.0.0 x.0.1) × (bytes.now ≡ framed x.0.0 x.0.1 x.1.now)) }
 {
     let (length, rest) = length_at(bytes)?;
     let (kind, rest) = kind_at(length, rest)?;
-    kind_fields_at(alloc, length, kind, rest)
+    Ok(((length, kind), rest))
+}
+
+// The frame at the front, up to its items; a report as a whole.
+pub fn opening_at(alloc: Global, bytes: &[u8]) -> Result<(Opening, &[u8]), ItemStop>
+    ensures ok { IfOk result (λ x. Opens bytes.now x.0 x.1.now) }
+    ensures err { IfErr result (λ e. Fails e (read frame_fields bytes.now)) }
+{
+    match kind_start_at(bytes) {
+        Ok(((length, kind), rest)) => kind_fields_at(alloc, length, kind, rest),
+        Err(stop) => Err(ItemStop::Stop(stop)),
+    }
 }

@@ -162,7 +162,7 @@ fn start_on(alloc: Global, place: &mut Place, bytes: &[u8]) -> Result<(Frame, us
 {
     match opening_at(alloc, bytes) {
         Ok((opening, rest)) => opened_on(alloc, place, opening, rest, bytes),
-        Err(stop) => Err(ItemStop::Stop(stop)),
+        Err(stop) => Err(stop),
     }
 }
 

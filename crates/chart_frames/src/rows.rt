@@ -35,7 +35,7 @@ fn column_at(w: u16, last: Option<u16>, bytes: &[u8]) -> Result<(u16, &[u8]), St
 }
 
 #[tactic(auto, unfolding(crate::specs::Fields::value_field))]
-fn value_at(bytes: &[u8]) -> Result<(i64, &[u8]), Stop>
+pub(crate) fn value_at(bytes: &[u8]) -> Result<(i64, &[u8]), Stop>
     ensures reads { (next : ℤ → Format) → Reads result (read (value_field next) bytes.now) (λ x. read (next x.0) x.1.now) }
     ensures takes { IfOk result (λ x. IsValue x.0 × (bytes.now ≡ signed_bytes x.0 ++ x.1.now)) }
 {

@@ -9,7 +9,7 @@ use Rattle.chart_client.specs.Showing.{ScreenGives}
 use Rattle.chart_client.specs.declared.errors.ClientError.TheVariants as client
 use Rattle.chart_client.specs.declared.holding.Holding.{Holding}
 use Rattle.chart_frames.specs.declared.frame.Frame.{Frame}
-use Rattle.chart_frames.specs.declared.frame.Frame.TheVariants.{Done, Refused, Opened, Closed, View, Rows, Live}
+use Rattle.chart_frames.specs.declared.frame.Frame.TheVariants.{Done, Refused, Opened, Closed, View, Rows, Live, Report}
 use Rattle.chart_frames.specs.declared.frame.ViewFrame.{ViewFrame}
 use Rattle.chart_frames.specs.Opened.{opens}
 use Rattle.zoom_session.specs.declared.session.Session.{Session}
@@ -71,6 +71,7 @@ module _ (others : OthersStay) (opening : OpeningHolds) (viewing : ViewHolds) wh
   holds_next (Rows rows) None old new n accepts is = absurd accepts
   holds_next (Rows rows) (Some drawing) old new n accepts is = same_held n old new (ap (λ l. holding_of n l) accepts.1.holdings) is
   holds_next (Live session on) drawing old new n accepts is = same_held n old new (ap (λ l. holding_of n l) accepts.2) is
+  holds_next (Report report) drawing old new n accepts is = same_held n old new (ap (λ l. holding_of n l) accepts.1) is
 
   pub screen_follows : OneFrame → Follows ScreenGives holds_of
   screen_follows one old new frame shown n fits given is =
@@ -89,6 +90,7 @@ known_rejects (Closed number) n old named rejects = let P : ℕ → Type 0 = λ 
 known_rejects (View view) n old named rejects = let P : ℕ → Type 0 = λ m. IsTrue (holds_of old m) in not_held (holding_of n old) rejects.1 (subst P (same_some view.session n rejects.0) named)
 known_rejects (Rows rows) n old named rejects = let P : ℕ → Type 0 = λ m. IsTrue (holds_of old m) in not_held (holding_of n old) rejects.1 (subst P (same_some rows.session n rejects.0) named)
 known_rejects (Live session on) n old named rejects = let P : ℕ → Type 0 = λ m. IsTrue (holds_of old m) in not_held (holding_of n old) rejects.1 (subst P (same_some session n rejects.0) named)
+known_rejects (Report report) n old named rejects = let e = rejects.0 in cc
 
 -- a screen that knows the open sessions misses none
 pub never_unknown : OneFrame → (number : ℕ) → EndsKnown ScreenGives holds_of (Show (client.UnknownSession number)) → ⊥

@@ -3,7 +3,7 @@ use Rattle.std.specs.Prelude.{ℕ, Bool, true, false, List, [], ◌∷◌, ◌++
 use Rattle.std.specs.Fmt.{decimal}
 use Rattle.line_raster.specs.Canvas.{Canvas}
 use Rattle.chart_frames.specs.declared.frame.Frame.{Frame}
-use Rattle.chart_frames.specs.declared.frame.Frame.TheVariants.{Done, Refused, Opened, Closed, View, Rows, Live}
+use Rattle.chart_frames.specs.declared.frame.Frame.TheVariants.{Done, Refused, Opened, Closed, View, Rows, Live, Report}
 use Rattle.chart_frames.specs.Frames.{spelling}
 use Rattle.draw_command.specs.Covers.{picture_bytes}
 
@@ -26,6 +26,7 @@ line_of (Closed session) sent = codes "closed " ++ (decimal session ++ codes "\n
 line_of (View view) sent = view_line view.session sent
 line_of (Rows rows) sent = view_line rows.session sent
 line_of (Live session on) sent = live_line session on
+line_of (Report report) sent = []
 
 abbrev pub text_of : Frame → Option Canvas → ℕ → List ℕ
 text_of frame drawing sent = line_of frame sent ++ picture_bytes drawing

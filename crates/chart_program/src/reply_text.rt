@@ -50,6 +50,7 @@ fn line_of(alloc: Global, frame: &Frame, sent: usize) -> Result<Vec<u8>, RunEnd>
         Frame::View(view) => view_line(alloc, view.session, sent),
         Frame::Rows(rows) => view_line(alloc, rows.session, sent),
         Frame::Live { session, on } => live_line(alloc, *session, *on),
+        Frame::Report(_) => Ok(Vec::new(alloc)),
     }
 }
 

@@ -2,7 +2,7 @@
 use Rattle.std.proofs.Common.{◌≡◌, ℕ, Bool, true, false, List, IsTrue, Option, Ok, refl, ap, sym, subst, ◌∙◌}
 use Rattle.std.specs.Prelude.{◌==◌, ◌&&◌, ◌||◌, not}
 use Rattle.chart_frames.specs.declared.frame.Frame.{Frame}
-use Rattle.chart_frames.specs.declared.frame.Frame.TheVariants.{Done, Refused, Opened, Closed, View, Rows, Live}
+use Rattle.chart_frames.specs.declared.frame.Frame.TheVariants.{Done, Refused, Opened, Closed, View, Rows, Live, Report}
 use Rattle.chart_frames.specs.Frames.{Fits}
 use Rattle.chart_frames.specs.Opened.{opens}
 use Rattle.series_book.specs.declared.refusals.Refusal.{Refusal}
@@ -27,6 +27,7 @@ opens_more (Closed session) n was known more is =
 opens_more (View view) n was known more is = more is
 opens_more (Rows rows) n was known more is = more is
 opens_more (Live session on) n was known more is = more is
+opens_more (Report report) n was known more is = more is
 
 -- behind a frame that was shown
 pub known_next : {S F : Type 0} (makes : Makes S F) (knows : S → ℕ → Bool) (old new : S) (frame : Frame) (sessions sessions' : List Session) → Follows makes knows → Fits frame → KnowsOpen knows old sessions → ((n : ℕ) → is_open n sessions' ≡ opens frame n (is_open n sessions))
@@ -42,6 +43,7 @@ named_known knows old (Closed session) sessions known named = known session name
 named_known knows old (View view) sessions known named = known view.session named
 named_known knows old (Rows rows) sessions known named = known rows.session named
 named_known knows old (Live session on) sessions known named = known session named
+named_known knows old (Report report) sessions known named = tt
 
 -- a frame that wasn't shown
 pub ends_known : {S F : Type 0} (makes : Makes S F) (knows : S → ℕ → Bool) (old new : S) (frame : Frame) (before now : Option (List ℕ)) (end : AnswerEnd F) → Fits frame → NamesKnown frame (knows old) → FrameStops makes frame old new before now end → EndsKnown makes knows end
@@ -64,6 +66,7 @@ edit_opens (Closed session) sessions sessions' is same n = absurd is
 edit_opens (View view) sessions sessions' is same n = absurd is
 edit_opens (Rows rows) sessions sessions' is same n = absurd is
 edit_opens (Live session on) sessions sessions' is same n = absurd is
+edit_opens (Report report) sessions sessions' is same n = absurd is
 
 -- a refusal opens and closes no session, and names none
 pub refused_opens : (frame : Frame) (refusal : Refusal) → frame ≡ refused refusal → (sessions : List Session) (n : ℕ) → is_open n sessions ≡ opens frame n (is_open n sessions)

@@ -4,7 +4,7 @@ use Rattle.std.specs.Prelude.{MatchResult, slice_get}
 use Rattle.block_disk.specs.View.{Image, View, Now, Only, Passes}
 use Rattle.block_disk.proofs.Passing.{passes_none, passes_weaker}
 use Rattle.chart_frames.specs.declared.frame.Frame.{Frame}
-use Rattle.chart_frames.specs.declared.frame.Frame.TheVariants.{Done, Refused, Opened, Closed, View as ViewFrame, Rows, Live}
+use Rattle.chart_frames.specs.declared.frame.Frame.TheVariants.{Done, Refused, Opened, Closed, View as ViewFrame, Rows, Live, Report}
 use Rattle.chart_frames.specs.Frames.{Fits}
 use Rattle.gate_pages.specs.Pages.{Quiet}
 use Rattle.gate_pages.specs.GateLaws.{goes_none}
@@ -61,6 +61,7 @@ by_frame (Closed session) told old new is = is
 by_frame (ViewFrame view) told old new is = is
 by_frame (Rows rows) told old new is = is
 by_frame (Live session on) told old new is = is
+by_frame (Report report) told old new is = is
 
 for_error : (error : ServiceError) (told : Type 0) (old new : View) → IsUnchanged told old new → IsUnchangedFor error told old new
 for_error DiskFault told old new is = tt

@@ -10,7 +10,7 @@ use Rattle.block_disk.specs.Streams.{sent_after, PartSent}
 use Rattle.chart_world.specs.declared.line_answer.LineFault.{LineFault}
 use Rattle.chart_world.specs.declared.line_answer.LineFault.TheVariants as fault
 use Rattle.chart_frames.specs.declared.frame.Frame.{Frame}
-use Rattle.chart_frames.specs.declared.frame.Frame.TheVariants.{Done, Refused, Opened, Closed, View, Rows, Live}
+use Rattle.chart_frames.specs.declared.frame.Frame.TheVariants.{Done, Refused, Opened, Closed, View, Rows, Live, Report}
 use Rattle.chart_frames.specs.Frames.{Fits, spelling}
 use Rattle.chart_frames.specs.Opened.{opens}
 use Rattle.zoom_session.specs.declared.session.Session.{Session}
@@ -43,6 +43,7 @@ known_alike (Closed session) a b same named = subst IsTrue (same session) named
 known_alike (View view) a b same named = subst IsTrue (same view.session) named
 known_alike (Rows rows) a b same named = subst IsTrue (same rows.session) named
 known_alike (Live session on) a b same named = subst IsTrue (same session) named
+known_alike (Report report) a b same named = tt
 
 pub name_alike : (frames : List Frame) (a b : ℕ → Bool) → ((n : ℕ) → a n ≡ b n) → NameOpen a frames → NameOpen b frames
 name_alike [] a b same named = tt
@@ -90,6 +91,7 @@ opened_step n (Closed session) fs was stays is =
 opened_step n (View view) fs was stays is = inr (is, All-cons (λ frame. frame ≢ Closed n) (View view) fs (λ e. cc (e)) stays)
 opened_step n (Rows rows) fs was stays is = inr (is, All-cons (λ frame. frame ≢ Closed n) (Rows rows) fs (λ e. cc (e)) stays)
 opened_step n (Live session on) fs was stays is = inr (is, All-cons (λ frame. frame ≢ Closed n) (Live session on) fs (λ e. cc (e)) stays)
+opened_step n (Report report) fs was stays is = inr (is, All-cons (λ frame. frame ≢ Closed n) (Report report) fs (λ e. cc (e)) stays)
 
 opened_or : (frames : List Frame) (n : ℕ) (was : Bool) → IsTrue (opens_all frames n was) → IsOpened n frames ⊎ (IsTrue was × StaysOpen n frames)
 opened_or [] n was is = inr (is, All-nil (λ frame. frame ≢ Closed n))
@@ -109,6 +111,7 @@ known_opened (Closed session) front named = opened_by front session named
 known_opened (View view) front named = opened_by front view.session named
 known_opened (Rows rows) front named = opened_by front rows.session named
 known_opened (Live session on) front named = opened_by front session named
+known_opened (Report report) front named = tt
 
 pub named_opened : (frames : List Frame) → NameOpen (λ n. false) frames → NameOpened frames
 named_opened frames named = λ front behind frame split.
@@ -146,6 +149,7 @@ edit_known (Closed session) a is = absurd is
 edit_known (View view) a is = absurd is
 edit_known (Rows rows) a is = absurd is
 edit_known (Live session on) a is = absurd is
+edit_known (Report report) a is = absurd is
 
 edit_keeps : (frame : Frame) (n : ℕ) (was : Bool) → IsEditReply frame → opens frame n was ≡ was
 edit_keeps (Done slots) n was is = refl
@@ -155,6 +159,7 @@ edit_keeps (Closed session) n was is = absurd is
 edit_keeps (View view) n was is = absurd is
 edit_keeps (Rows rows) n was is = absurd is
 edit_keeps (Live session on) n was is = absurd is
+edit_keeps (Report report) n was is = absurd is
 
 edits_name : (frames : List Frame) (a : ℕ → Bool) → Each IsEditReply frames → NameOpen a frames
 edits_name [] a all = tt

@@ -3,7 +3,7 @@ use Rattle.std.specs.Prelude.{ℕ, ◌≡◌, ◌+◌, ◌*◌, ◌≤◌, List,
 use Rattle.block_disk.specs.View.{Image}
 use Rattle.chart_world.specs.Lines.{lines}
 use Rattle.chart_frames.specs.declared.frame.Frame.{Frame}
-use Rattle.chart_frames.specs.declared.frame.Frame.TheVariants.{Done, Refused, Opened, Closed, View, Rows, Live}
+use Rattle.chart_frames.specs.declared.frame.Frame.TheVariants.{Done, Refused, Opened, Closed, View, Rows, Live, Report}
 use Rattle.request_lines.specs.declared.requests.Request.TheVariants.{Edit as EditRequest}
 use Rattle.request_lines.specs.Requests.{read_line}
 use Rattle.series_book.specs.declared.edits.Edit.{Edit}
@@ -62,6 +62,7 @@ IsEditReply (Closed session) = ⊥
 IsEditReply (View view) = ⊥
 IsEditReply (Rows rows) = ⊥
 IsEditReply (Live session on) = ⊥
+IsEditReply (Report report) = ⊥
 
 -- some first of the edits are answered, and the pages stand for the book then
 pub record AnswersSome (edits : List Edit) (old : State) (image : Image) : Type 0 where

@@ -1,7 +1,7 @@
 -- What replies know of the sessions that are open.
 use Rattle.std.specs.Prelude.{ℕ, Bool, List, IsTrue, Ok, Err, ⊤}
 use Rattle.chart_frames.specs.declared.frame.Frame.{Frame}
-use Rattle.chart_frames.specs.declared.frame.Frame.TheVariants.{Done, Refused, Opened, Closed, View, Rows, Live}
+use Rattle.chart_frames.specs.declared.frame.Frame.TheVariants.{Done, Refused, Opened, Closed, View, Rows, Live, Report}
 use Rattle.chart_frames.specs.Frames.{Fits}
 use Rattle.chart_frames.specs.Opened.{opens}
 use Rattle.zoom_session.specs.declared.session.Session.{Session}
@@ -28,6 +28,7 @@ NamesKnown (Closed session) knows = IsTrue (knows session)
 NamesKnown (View view) knows = IsTrue (knows view.session)
 NamesKnown (Rows rows) knows = IsTrue (knows rows.session)
 NamesKnown (Live session on) knows = IsTrue (knows session)
+NamesKnown (Report report) knows = ⊤
 
 -- bytes that weren't made are those of a frame that names known sessions
 abbrev pub EndsKnown : {S F : Type 0} → Makes S F → (S → ℕ → Bool) → AnswerEnd F → Type 0

@@ -2,7 +2,7 @@
 use Rattle.std.specs.Prelude.{ℕ, ◌≡◌, ◌≢◌, ◌≤◌, Bool, List, [], ◌∷◌, ◌++◌, length, take, flat_map, All, Option, Result, Ok, Err, ⊤}
 use Rattle.block_disk.specs.Streams.{sent_after}
 use Rattle.chart_frames.specs.declared.frame.Frame.{Frame}
-use Rattle.chart_frames.specs.declared.frame.Frame.TheVariants.{Done, Refused, Opened, Closed, View, Rows, Live}
+use Rattle.chart_frames.specs.declared.frame.Frame.TheVariants.{Done, Refused, Opened, Closed, View, Rows, Live, Report}
 use Rattle.chart_frames.specs.Frames.{Fits, spelling}
 use Rattle.chart_frames.specs.Opened.{opens}
 use Rattle.zoom_session.specs.declared.session.Session.{Session}
@@ -41,6 +41,7 @@ NamesOpened (Closed session) before = IsOpened session before
 NamesOpened (View view) before = IsOpened view.session before
 NamesOpened (Rows rows) before = IsOpened rows.session before
 NamesOpened (Live session on) before = IsOpened session before
+NamesOpened (Report report) before = ⊤
 
 -- each of the frames names sessions that those before it opened
 abbrev pub NameOpened : List Frame → Type 0

@@ -1,7 +1,7 @@
 -- Which sessions are open before and after a frame, and after want of memory.
 use Rattle.std.specs.Prelude.{ℕ, ◌≡◌, ◌≢◌, ◌⊎◌, List, Option, None, Some, Result, OnOk, IsTrue, ⊤}
 use Rattle.chart_frames.specs.declared.frame.Frame.{Frame}
-use Rattle.chart_frames.specs.declared.frame.Frame.TheVariants.{Done, Refused, Opened, Closed, View, Rows, Live}
+use Rattle.chart_frames.specs.declared.frame.Frame.TheVariants.{Done, Refused, Opened, Closed, View, Rows, Live, Report}
 use Rattle.chart_frames.specs.Opened.{opens}
 use Rattle.zoom_session.specs.declared.session.Session.{Session}
 use Rattle.zoom_session.specs.Sessions.{is_open, session_of, without}
@@ -15,6 +15,7 @@ NamesOpen (Closed session) sessions = IsTrue (is_open session sessions)
 NamesOpen (View view) sessions = IsTrue (is_open view.session sessions)
 NamesOpen (Rows rows) sessions = IsTrue (is_open rows.session sessions)
 NamesOpen (Live session on) sessions = IsTrue (is_open session sessions)
+NamesOpen (Report report) sessions = ⊤
 
 -- An Opened frame opens its session, a Closed one closes it, and no other frame changes which sessions
 -- are open; one that closes a session or answers in it names an open one.

@@ -3,7 +3,7 @@ use Rattle.std.specs.Prelude.{ℕ, ◌≡◌, ◌+◌, ◌≤◌, ◌<◌, ◌�
 use Rattle.block_disk.specs.Counts.{HasRisen}
 use Rattle.block_disk.specs.View.{Image, View, Rises}
 use Rattle.chart_frames.specs.declared.frame.Frame.{Frame}
-use Rattle.chart_frames.specs.declared.frame.Frame.TheVariants.{Done, Refused, Opened, Closed, View as ViewFrame, Rows, Live}
+use Rattle.chart_frames.specs.declared.frame.Frame.TheVariants.{Done, Refused, Opened, Closed, View as ViewFrame, Rows, Live, Report}
 use Rattle.chart_frames.specs.Frames.{Fits}
 use Rattle.request_lines.specs.declared.requests.Request.{Request}
 use Rattle.request_lines.specs.declared.requests.Request.TheVariants.{Edit as EditRequest, Open, View as ViewRequest, Zoom, Pan, Close}
@@ -110,6 +110,7 @@ IsUnchangedBy (Closed session) told old new = IsUnchanged told old new
 IsUnchangedBy (ViewFrame view) told old new = IsUnchanged told old new
 IsUnchangedBy (Rows rows) told old new = IsUnchanged told old new
 IsUnchangedBy (Live session on) told old new = IsUnchanged told old new
+IsUnchangedBy (Report report) told old new = IsUnchanged told old new
 
 -- unless a call of the disk failed, nothing was committed
 abbrev pub IsUnchangedFor : ServiceError → Type 0 → View → View → Type 0

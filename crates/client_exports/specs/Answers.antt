@@ -5,6 +5,8 @@ use Rattle.chart_frames.specs.declared.frame.Frame.{Frame}
 use Rattle.chart_frames.specs.declared.frame.Frame.TheVariants as frame
 use Rattle.chart_frames.specs.declared.frame.ViewFrame.{ViewFrame}
 use Rattle.chart_frames.specs.declared.frame.RowsFrame.{RowsFrame}
+use Rattle.chart_frames.specs.declared.reports.Report.{Report}
+use Rattle.chart_frames.specs.declared.reports.Report.TheVariants as reports
 use Rattle.chart_frames.specs.declared.errors.FrameFault.{FrameFault}
 use Rattle.chart_frames.specs.declared.errors.FrameFault.TheVariants as faults
 use Rattle.chart_client.specs.Spanning.{span_in}
@@ -40,6 +42,12 @@ pub record TellsRows (rows : RowsFrame) (a : Answer) : Type 0 where
   pub hi : a.hi ≡ rows.hi
   pub count : a.count ≡ rows.count
 
+-- a report's kind, and those of its fields that are one number
+abbrev pub TellsReport : Report → Answer → Type 0
+TellsReport (reports.Catalog c) a = (a.kind ≡ 8) × (a.a ≡ c.total) × (a.b ≡ c.used)
+TellsReport (reports.Values v) a = (a.kind ≡ 9) × (a.number ≡ v.series) × (a.a ≡ (if v.more then 1 else 0)) × (a.t0 ≡ v.next)
+TellsReport (reports.Swept clears used more) a = (a.kind ≡ 10) × (a.number ≡ clears) × (a.a ≡ used) × (a.b ≡ (if more then 1 else 0))
+
 -- the frame's kind and its fields
 abbrev pub TellsFrame : Frame → Answer → Type 0
 TellsFrame (frame.Done slots) a = (a.kind ≡ 1) × (a.a ≡ slots)
@@ -49,6 +57,7 @@ TellsFrame (frame.Closed session) a = (a.kind ≡ 4) × (a.session ≡ session)
 TellsFrame (frame.View view) a = (a.kind ≡ 5) × TellsView view a
 TellsFrame (frame.Rows rows) a = (a.kind ≡ 6) × TellsRows rows a
 TellsFrame (frame.Live session on) a = (a.kind ≡ 7) × (a.session ≡ session) × (a.a ≡ (if on then 1 else 0))
+TellsFrame (frame.Report r) a = TellsReport r a
 
 -- the frame in hand: code 1 with its fields; or code 0 where there is none, with the number of bytes that are pending
 abbrev pub TellsHand : Option Frame → ℕ → Answer → Type 0

@@ -4,7 +4,7 @@ use Rattle.line_raster.specs.Canvas.{Canvas}
 use Rattle.m4_groups.specs.declared.row.Row.{Row}
 use Rattle.pbm_writer.specs.Picture.{picture}
 use Rattle.chart_frames.specs.declared.frame.Frame.{Frame}
-use Rattle.chart_frames.specs.declared.frame.Frame.TheVariants.{Done, Refused, Opened, Closed, View, Rows, Live}
+use Rattle.chart_frames.specs.declared.frame.Frame.TheVariants.{Done, Refused, Opened, Closed, View, Rows, Live, Report}
 use Rattle.chart_frames.specs.declared.frame.ViewFrame.{ViewFrame}
 use Rattle.chart_frames.specs.declared.errors.FrameFault.{FrameFault}
 use Rattle.chart_frames.specs.declared.errors.FrameFault.TheVariants as faults
@@ -68,6 +68,7 @@ HasColumns (Closed number) old before rows = rows ≡ before
 HasColumns (View view) old before rows = SpanView view old rows
 HasColumns (Rows frame) old before rows = SpanRowsFrame frame rows
 HasColumns (Live number on) old before rows = rows ≡ before
+HasColumns (Report report) old before rows = rows ≡ before
 
 -- so do they of the frame in hand; where it isn't drawn they are those before
 abbrev pub DrawsColumns : Option Frame → List Holding → Result Bool Fault → List Row → List Row → Type 0

@@ -1,11 +1,11 @@
 //! An answer as numbers.
 
 ghost use Rattle.std.specs.Prelude.{◌≡◌};
-ghost use Rattle.client_exports.specs.Answers.{TellsNext, TellsHand, TellsFrame, TellsView, TellsRows, TellsError, TellsDrawn, TellsSpan};
+ghost use Rattle.client_exports.specs.Answers.{TellsNext, TellsHand, TellsFrame, TellsReport, TellsView, TellsRows, TellsError, TellsDrawn, TellsSpan};
 
 use crate::fault::Fault;
 use chart_client::ClientError;
-use chart_frames::{Frame, FrameFault, RowsFrame, ViewFrame};
+use chart_frames::{Frame, FrameFault, Report, RowsFrame, ViewFrame};
 use om3_coeff::Span;
 
 /// What a call answers. Numbers that its code and kind don't name are 0.
@@ -16,10 +16,10 @@ pub struct Answer {
     /// the field at byte `a` of the stream breaks its rule, 3 where the coefficient of level `number` and index `a` is missing, 4 where it doesn't fit, 5 where
     /// session `session` isn't open, 6 where memory ran out, 7 where the handle is closed.
     pub code: u32,
-    /// The frame's kind: 1 done, 2 refused, 3 opened, 4 closed, 5 a view, 6 rows, 7 live.
+    /// The frame's kind: 1 done, 2 refused, 3 opened, 4 closed, 5 a view, 6 rows, 7 live, 8 a catalog, 9 stored values, 10 a sweep.
     pub kind: u32,
     pub session: u32,
-    /// A refusal's number, or a view's series.
+    /// A refusal's number, the series of a view or of stored values, or how many clears a sweep made.
     pub number: u32,
     pub w: u32,
     pub h: u32,
@@ -27,9 +27,9 @@ pub struct Answer {
     /// The coefficients of a view, or the rows of a frame of rows.
     pub count: u32,
     /// The slots of a done edit or of a view, the size of an opened session's cache, 1 where a session follows its view, a refusal's
-    /// first number; of `chart_next` with code 0 the bytes that are pending; and what the other codes name.
+    /// first number, a catalog's pages, 1 where stored values are left, a sweep's pages in use; of `chart_next` with code 0 the bytes that are pending; and what the other codes name.
     pub a: u64,
-    /// A refusal's second number.
+    /// A refusal's second number, a catalog's pages in use, 1 where a sweep has clears left.
     pub b: u64,
     pub t0: i64,
     pub t1: i64,
@@ -145,6 +145,31 @@ impl Answer {
                 session: *session,
                 a: if *on { 1 } else { 0 },
                 ..Answer::of_kind(7)
+            },
+            Frame::Report(report) => Answer::of_report(report),
+        }
+    }
+
+    fn of_report(report: &Report) -> Answer
+        ensures { TellsReport report.now result }
+    {
+        match report {
+            Report::Catalog(catalog) => Answer {
+                a: u64::from(catalog.total),
+                b: u64::from(catalog.used),
+                ..Answer::of_kind(8)
+            },
+            Report::Values(values) => Answer {
+                number: u32::from(values.series),
+                a: if values.more { 1 } else { 0 },
+                t0: values.next,
+                ..Answer::of_kind(9)
+            },
+            Report::Swept { clears, used, more } => Answer {
+                number: u32::from(*clears),
+                a: u64::from(*used),
+                b: if *more { 1 } else { 0 },
+                ..Answer::of_kind(10)
             },
         }
     }

@@ -4,7 +4,7 @@ use Rattle.std.specs.Prelude.{is_some}
 use Rattle.std.proofs.lemmas.Bool.Decides.{Decides-eqb}
 use Rattle.line_raster.specs.Canvas.{Canvas}
 use Rattle.chart_frames.specs.declared.frame.Frame.{Frame}
-use Rattle.chart_frames.specs.declared.frame.Frame.TheVariants.{Done, Refused, Opened, Closed, View, Rows, Live}
+use Rattle.chart_frames.specs.declared.frame.Frame.TheVariants.{Done, Refused, Opened, Closed, View, Rows, Live, Report}
 use Rattle.chart_frames.specs.declared.frame.ViewFrame.{ViewFrame}
 use Rattle.chart_frames.specs.Opened.{opens}
 use Rattle.zoom_session.specs.declared.session.Session.{Session}
@@ -84,6 +84,7 @@ accepted_opens laws (View view) (Some drawing) old new n accepted = viewed_so la
 accepted_opens laws (Rows rows) None old new n accepted = absurd accepted
 accepted_opens laws (Rows rows) (Some drawing) old new n accepted = ap (λ (h : List Holding). holds n h) accepted.1.holdings
 accepted_opens laws (Live session on) drawing old new n accepted = ap (λ (h : List Holding). holds n h) accepted.2
+accepted_opens laws (Report report) drawing old new n accepted = ap (λ (h : List Holding). holds n h) accepted.1
 
 -- a step and its accepted frame
 pub knows_on : Changes → (frame : Frame) (drawing : Option Canvas) (sessions sessions' : List Session) (old new : List Holding) → KnowsOpen sessions old

@@ -3,7 +3,7 @@ use Rattle.std.specs.Prelude.{ℕ, ◌≡◌, ◌*◌, ◌^◌, ◌≤◌, Bool,
 use Rattle.std.specs.Fmt.{decimal}
 use Rattle.line_raster.specs.Canvas.{Canvas, black_pixels}
 use Rattle.chart_frames.specs.declared.frame.Frame.{Frame}
-use Rattle.chart_frames.specs.declared.frame.Frame.TheVariants.{Done, Refused, Opened, Closed, View, Rows, Live}
+use Rattle.chart_frames.specs.declared.frame.Frame.TheVariants.{Done, Refused, Opened, Closed, View, Rows, Live, Report}
 use Rattle.chart_frames.specs.Frames.{spelling}
 use Rattle.demo_workload.specs.declared.summaries.Summary.{Summary}
 
@@ -15,6 +15,7 @@ is_done (Closed session) = false
 is_done (View view) = false
 is_done (Rows rows) = false
 is_done (Live session on) = false
+is_done (Report report) = false
 
 abbrev pub is_refused : Frame → Bool
 is_refused (Done slots) = false
@@ -24,6 +25,7 @@ is_refused (Closed session) = false
 is_refused (View view) = false
 is_refused (Rows rows) = false
 is_refused (Live session on) = false
+is_refused (Report report) = false
 
 -- the frame answers a view, with a filter or without one
 abbrev pub is_view : Frame → Bool
@@ -34,6 +36,7 @@ is_view (Closed session) = false
 is_view (View view) = true
 is_view (Rows rows) = true
 is_view (Live session on) = false
+is_view (Report report) = false
 
 -- the bytes of a frame, where it answers a view
 abbrev pub view_bytes : Frame → ℕ
@@ -44,6 +47,7 @@ view_bytes (Closed session) = 0
 view_bytes (View view) = length (spelling (View view))
 view_bytes (Rows rows) = length (spelling (Rows rows))
 view_bytes (Live session on) = 0
+view_bytes (Report report) = 0
 
 -- the black pixels of a frame's picture, where it has one
 abbrev pub picture_pixels : Option Canvas → ℕ

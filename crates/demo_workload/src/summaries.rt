@@ -60,6 +60,7 @@ impl Summary {
             Frame::Opened { .. } => {}
             Frame::Closed { .. } => {}
             Frame::Live { .. } => {}
+            Frame::Report(_) => {}
             Frame::View(_) => self.add_view(bytes),
             Frame::Rows(_) => self.add_view(bytes),
         }

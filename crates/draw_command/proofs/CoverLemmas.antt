@@ -12,7 +12,7 @@ use Rattle.pbm_writer.specs.Picture.{picture}
 use Rattle.block_disk.specs.Streams.{sent_after, PartSent}
 use Rattle.block_disk.specs.SentLaws.{sent_none, sent_more}
 use Rattle.chart_frames.specs.declared.frame.Frame.{Frame}
-use Rattle.chart_frames.specs.declared.frame.Frame.TheVariants.{Done, Refused, Opened, Closed, View, Rows, Live}
+use Rattle.chart_frames.specs.declared.frame.Frame.TheVariants.{Done, Refused, Opened, Closed, View, Rows, Live, Report}
 use Rattle.chart_frames.specs.declared.frame.ViewFrame.{ViewFrame}
 use Rattle.chart_client.specs.declared.holding.Holding.{Holding}
 use Rattle.chart_client.specs.declared.errors.ClientError.{ClientError}
@@ -183,6 +183,7 @@ first_of_all (Some every) (Closed number) h covers all = all
 first_of_all (Some every) (View view) h covers all = all.first
 first_of_all (Some every) (Rows rows) h covers all = all
 first_of_all (Some every) (Live number on) h covers all = all
+first_of_all (Some every) (Report report) h covers all = all
 
 covers_first : (every : Option ℕ) (f : Frame) (h : List Holding) (before now : Option (List ℕ)) → CoversFrame every f h before now → CoversFirst every f h before now
 covers_first every f h before now c = record { covers = c.covers; first = first_of_all every f h c.covers c.all; sent = c.sent }
@@ -206,6 +207,7 @@ unopened_covers (Some every) (View view) h covers n all rejects =
     none_unopened every view h covers all.first (ap (λ m. holding_of m h) same ∙ rejects.1)
 unopened_covers (Some every) (Rows rows) h covers n all rejects = all
 unopened_covers (Some every) (Live number on) h covers n all rejects = all
+unopened_covers (Some every) (Report report) h covers n all rejects = all
 
 -- its covers aren't all sent
 pub frame_uncovered : (every : Option ℕ) (f : Frame) (h : List Holding) (before now : Option (List ℕ)) (end : DrawEnd) → CoversStop every f h before now end → FrameStops every f h before now end

@@ -6,7 +6,7 @@ use Rattle.zoom_session.specs.declared.session.Session.{Session}
 use Rattle.zoom_session.specs.Sessions.{is_open, session_of, last_of, fresh_session, without as sessions_without}
 use Rattle.chart_client.specs.declared.holding.Holding.{Holding}
 use Rattle.chart_frames.specs.declared.frame.Frame.{Frame}
-use Rattle.chart_frames.specs.declared.frame.Frame.TheVariants.{Done, Refused, Opened, Closed, View, Rows, Live}
+use Rattle.chart_frames.specs.declared.frame.Frame.TheVariants.{Done, Refused, Opened, Closed, View, Rows, Live, Report}
 use Rattle.chart_service.specs.State.{State, IsSound}
 use Rattle.chart_service.specs.Viewing.{Answers, AnswersRows}
 use Rattle.chart_service.specs.Serving.{RepliesToAll}
@@ -105,6 +105,7 @@ picture-alone n (Rows rows) (Some drawing) old new named picture =
       shows = picture.shows;
     }
 picture-alone n (Live number on) d old new named picture = picture
+picture-alone n (Report report) d old new named picture = picture
 
 -- behind a frame of the session
 own-mirrors : Laws → (n : ℕ) (f : Frame) (d : Option Canvas) (old between : State) (holdings next : List Holding) → IsSound old → names n f ≡ true

@@ -7,7 +7,7 @@ use Rattle.zoom_session.specs.declared.view_spec.ViewSpec.{ViewSpec}
 use Rattle.zoom_session.specs.Sessions.{session_of, last_of}
 use Rattle.chart_client.specs.declared.holding.Holding.{Holding}
 use Rattle.chart_frames.specs.declared.frame.Frame.{Frame}
-use Rattle.chart_frames.specs.declared.frame.Frame.TheVariants.{Done, Refused, Opened, Closed, View, Rows, Live}
+use Rattle.chart_frames.specs.declared.frame.Frame.TheVariants.{Done, Refused, Opened, Closed, View, Rows, Live, Report}
 use Rattle.chart_frames.specs.declared.frame.RowsFrame.{RowsFrame}
 use Rattle.chart_client.specs.declared.errors.ClientError.{ClientError}
 use Rattle.chart_client.specs.declared.errors.ClientError.TheVariants.{NoMemory}
@@ -45,6 +45,7 @@ IsPictureOf old new (View view) (Some drawing) =
 IsPictureOf old new (Rows rows) None = ⊥
 IsPictureOf old new (Rows rows) (Some drawing) = ShowsAnswered old new rows drawing
 IsPictureOf old new (Live number on) drawing = drawing ≡ None
+IsPictureOf old new (Report report) drawing = drawing ≡ None
 
 -- A client that accepts the frame goes on mirroring the sessions, and draws the picture of the book.
 abbrev pub DrawsTheBook : Frame → State → State → List Holding → Type 0

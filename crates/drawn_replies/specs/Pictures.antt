@@ -6,7 +6,7 @@ use Rattle.chart_client.specs.declared.errors.ClientError.{ClientError}
 use Rattle.chart_client.specs.declared.errors.ClientError.TheVariants.{NoMemory}
 use Rattle.chart_client.specs.Accepting.{Accepts, Rejects}
 use Rattle.chart_frames.specs.declared.frame.Frame.{Frame}
-use Rattle.chart_frames.specs.declared.frame.Frame.TheVariants.{Done, Refused, Opened, Closed, View, Rows, Live}
+use Rattle.chart_frames.specs.declared.frame.Frame.TheVariants.{Done, Refused, Opened, Closed, View, Rows, Live, Report}
 use Rattle.chart_service.specs.State.{State}
 use Rattle.chart_service.specs.Replies.{RepliesToLine}
 use Rattle.drawn_replies.specs.Mirrors.{IsPictureOf}
@@ -37,6 +37,7 @@ names n (Closed number) = number == n
 names n (View view) = view.session == n
 names n (Rows rows) = rows.session == n
 names n (Live number on) = number == n
+names n (Report report) = false
 
 -- a frame of the session has one drawing, its picture of the book, and no other frame has one
 abbrev pub IsOwnPicture : Bool → State → State → Frame → List (Option Canvas) → Type 0

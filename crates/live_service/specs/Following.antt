@@ -1,7 +1,7 @@
 -- What holds of the sessions that are followed.
 use Rattle.std.specs.Prelude.{ℕ, ◌≡◌, false, List, All, Some, ⊤}
 use Rattle.chart_frames.specs.declared.frame.Frame.{Frame}
-use Rattle.chart_frames.specs.declared.frame.Frame.TheVariants.{Done, Refused, Opened, Closed, View, Rows, Live}
+use Rattle.chart_frames.specs.declared.frame.Frame.TheVariants.{Done, Refused, Opened, Closed, View, Rows, Live, Report}
 use Rattle.live_service.specs.LiveReplies.{LiveState}
 use Rattle.live_view.specs.Replies.{is_too_large}
 use Rattle.zoom_session.specs.declared.session.Session.{Session}
@@ -31,3 +31,4 @@ ShowsView (Closed session) = ⊥
 ShowsView (View view) = ⊤
 ShowsView (Rows rows) = ⊤
 ShowsView (Live session on) = ⊥
+ShowsView (Report report) = ⊥

@@ -1,7 +1,7 @@
 -- What a live service answers, over the plain book alone: the reply to a line, and the pushes behind it.
 use Rattle.std.specs.Prelude.{ℕ, ◌≡◌, List, [], ◌∷◌, Option, None, Some}
 use Rattle.chart_frames.specs.declared.frame.Frame.{Frame}
-use Rattle.chart_frames.specs.declared.frame.Frame.TheVariants.{Done, Refused, Opened, Closed, View as ViewOf, Rows, Live}
+use Rattle.chart_frames.specs.declared.frame.Frame.TheVariants.{Done, Refused, Opened, Closed, View as ViewOf, Rows, Live, Report}
 use Rattle.chart_service.specs.Replies.{Replied, own_zoom}
 use Rattle.chart_service.specs.State.{State}
 use Rattle.chart_service.specs.Stepping.{RepliedTo, ReadsLast}
@@ -36,6 +36,7 @@ changed_in book (Edit name) (Closed session) = None
 changed_in book (Edit name) (ViewOf view) = None
 changed_in book (Edit name) (Rows rows) = None
 changed_in book (Edit name) (Live session on) = None
+changed_in book (Edit name) (Report report) = None
 
 -- a line that asks for a following is answered by this frame, and changes no more than which sessions are followed
 pub record AnswersItself (reply frame : Frame) (old new : LiveState) : Type 0 where

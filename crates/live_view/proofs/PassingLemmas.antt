@@ -6,7 +6,7 @@ use Rattle.std.specs.List.Sorted.{IsStrictlyIncreasing}
 use Rattle.std.proofs.lemmas.List.Kept.{IsStrictlyIncreasing-filter}
 use Rattle.std.proofs.lemmas.List.Elements.{All-filter, All-weaker, filter_passes}
 use Rattle.chart_frames.specs.declared.frame.Frame.{Frame}
-use Rattle.chart_frames.specs.declared.frame.Frame.TheVariants.{Done, Refused, Opened, Closed, View as ViewOf, Rows, Live}
+use Rattle.chart_frames.specs.declared.frame.Frame.TheVariants.{Done, Refused, Opened, Closed, View as ViewOf, Rows, Live, Report}
 use Rattle.zoom_session.specs.declared.session.Session.{Session}
 use Rattle.zoom_session.specs.declared.view_spec.ViewSpec.{ViewSpec}
 use Rattle.zoom_session.specs.Sessions.{is_open, session_of, last_of}
@@ -65,6 +65,7 @@ passed-open meaning (ViewOf view) old new ns opens opened =
 passed-open meaning (Rows rows) old new ns opens opened =
     still-all (λ n. IsTrue (is_open n new)) (ended meaning (Rows rows)) ns (λ k d below. opens (get_or ns k d) ∙ opened k d below)
 passed-open meaning (Live session on) old new ns opens opened = λ k d below. opens (get_or ns k d) ∙ opened k d below
+passed-open meaning (Report report) old new ns opens opened = λ k d below. opens (get_or ns k d) ∙ opened k d below
 
 -- the sessions that follow a series rise, and have had a view
 pub followers-rise : (series : Option ℕ) (sessions : List Session) (ns : List ℕ) → IsStrictlyIncreasing ns → IsStrictlyIncreasing (followers series sessions ns)

@@ -4,7 +4,7 @@ use Rattle.series_book.specs.declared.refusals.Refusal.{Refusal}
 use Rattle.series_book.specs.declared.refusals.Refusal.TheVariants.{UnknownSession, NoView}
 use Rattle.series_book.specs.Refusals.{number_of, pair_of}
 use Rattle.chart_frames.specs.declared.frame.Frame.{Frame}
-use Rattle.chart_frames.specs.declared.frame.Frame.TheVariants.{Done, Refused, Opened, Closed, View as ViewOf, Rows, Live}
+use Rattle.chart_frames.specs.declared.frame.Frame.TheVariants.{Done, Refused, Opened, Closed, View as ViewOf, Rows, Live, Report}
 use Rattle.zoom_session.specs.declared.session.Session.{Session}
 use Rattle.zoom_session.specs.declared.view_spec.ViewSpec.{ViewSpec}
 use Rattle.zoom_session.specs.Sessions.{session_of, last_of}
@@ -62,6 +62,7 @@ followed_by (Opened session cache) followed = followed
 followed_by (Closed session) followed = followed
 followed_by (ViewOf view) followed = followed
 followed_by (Rows rows) followed = followed
+followed_by (Report report) followed = followed
 
 -- the session of an answered view, unless a zoom or a pan was answered, which keep its following
 abbrev pub viewed_anew : Meaning → ℕ → Option ℕ
@@ -78,6 +79,7 @@ ended meaning (Closed session) = Some session
 ended meaning (ViewOf view) = viewed_anew meaning view.session
 ended meaning (Rows rows) = viewed_anew meaning rows.session
 ended meaning (Live session on) = None
+ended meaning (Report report) = None
 
 -- the followed sessions without that one
 abbrev pub still_followed : Option ℕ → List ℕ → List ℕ
@@ -106,3 +108,4 @@ Changes names (Edit name) (Closed session) series = series ≡ None
 Changes names (Edit name) (ViewOf view) series = series ≡ None
 Changes names (Edit name) (Rows rows) series = series ≡ None
 Changes names (Edit name) (Live session on) series = series ≡ None
+Changes names (Edit name) (Report report) series = series ≡ None

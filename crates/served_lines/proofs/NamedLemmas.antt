@@ -9,7 +9,7 @@ use Rattle.block_disk.specs.View.{View}
 use Rattle.chart_frames.specs.Frames.{Fits}
 use Rattle.chart_frames.specs.Opened.{opens}
 use Rattle.chart_frames.specs.declared.frame.Frame.{Frame}
-use Rattle.chart_frames.specs.declared.frame.Frame.TheVariants.{Done, Refused, Opened, Closed, View as ViewFrame, Rows, Live}
+use Rattle.chart_frames.specs.declared.frame.Frame.TheVariants.{Done, Refused, Opened, Closed, View as ViewFrame, Rows, Live, Report}
 use Rattle.chart_world.specs.declared.line_answer.LineFault.TheVariants as fault
 use Rattle.line_runs.specs.Carried.{Carries}
 use Rattle.line_runs.specs.Given.{Given}
@@ -137,6 +137,7 @@ opens_more (Closed session) n was known more is =
 opens_more (ViewFrame view) n was known more is = more is
 opens_more (Rows rows) n was known more is = more is
 opens_more (Live session on) n was known more is = more is
+opens_more (Report report) n was known more is = more is
 
 named_known : (frame : Frame) (was known : ℕ → Bool) → ((n : ℕ) → IsTrue (was n) → IsTrue (known n)) → NamesKnown frame was
     → NamesKnown frame known
@@ -147,6 +148,7 @@ named_known (Closed session) was known more named = more session named
 named_known (ViewFrame view) was known more named = more view.session named
 named_known (Rows rows) was known more named = more rows.session named
 named_known (Live session on) was known more named = more session named
+named_known (Report report) was known more named = tt
 
 module _ {S F : Type 0} (makes : Makes S F) (knows : S → ℕ → Bool) (follows : Follows makes knows) where
   known_behind : (frames : List Frame) (v w : S) (was : ℕ → Bool) (lines : List (Option (List ℕ))) (text : List ℕ) → All Fits frames
