@@ -99,7 +99,7 @@ after_first total book rule clear next =
     ap (after_edits total book) next.first ∙ ap (λ (b : List Series). after_edits total b (sweeps total next.after rule)) (behind_first total book rule clear next)
 
 -- What is so of a book without clears, and of one where it is so behind the first, is so of all.
-by_clears : (P : List Series → Type 0) (total : ℕ) (rule : Rule) → ((book : List Series) → IsBook book → sweeps total book rule ≡ [] → P book) → ((book : List Series) (clear : Edit) → IsBook book → (next : IsNext total book rule clear) → P next.after → P book)
+pub by_clears : (P : List Series → Type 0) (total : ℕ) (rule : Rule) → ((book : List Series) → IsBook book → sweeps total book rule ≡ [] → P book) → ((book : List Series) (clear : Edit) → IsBook book → (next : IsNext total book rule clear) → P next.after → P book)
     → (n : ℕ) (book : List Series) → IsBook book → values_of book ≤ n → P book
 by_clears P total rule at_none at_first zero book is few = elim (none_or_next total book rule is) [
   | inl none ↦ at_none book is none

@@ -9,4 +9,5 @@ pub mod LawLemmas
 pub mod LookLemmas
 pub mod NextLemmas
 pub mod SweepLemmas
+pub mod StepLemmas
 pub mod Counting

@@ -1,5 +1,5 @@
 -- Calls that read pages and change nothing else.
-use Rattle.std.proofs.Common.{◌≡◌, ℕ, ◌≤◌, length, refl, sym, ap, subst, ◌∙◌, arith}
+use Rattle.std.proofs.Common.{◌≡◌, ℕ, ◌+◌, ◌≤◌, length, refl, sym, ap, subst, ◌∙◌, arith}
 use Rattle.block_disk.specs.Counts.{HasRisen}
 use Rattle.block_disk.specs.View.{Image, View, Now}
 use Rattle.block_disk.proofs.Passing.{passes_none, passes_weaker, now_back}
@@ -16,7 +16,7 @@ use Rattle.series_store.specs.Results.{Moves}
 use Rattle.stored_book.specs.Damage.{IsBadForRequest}
 use Rattle.tree_walk.specs.PagedNodes.{Keeps, ground}
 use Rattle.tree_walk.specs.declared.tree.Tree.{Tree}
-use Rattle.retention.specs.Moving.{Carries, Looks}
+use Rattle.retention.specs.Moving.{Carries, CommitsFew, Looks}
 use Rattle.retention.specs.Sweeping.{IsAskCause, IsOutside, IsReadCause, IsSweepCause}
 use Rattle.retention.specs.declared.sweep_error.SweepError.{SweepError}
 use Rattle.retention.specs.declared.sweep_error.SweepError.TheVariants.{UnknownSeries, DiskFault, Damaged, NoMemory}
@@ -115,6 +115,16 @@ carries_looks told told' old new under under' s s' catalog catalog' looks = reco
   total_is = ap (λ (x : Superblock). x.total) looks.superblock;
   more = omega (arith, ap (λ (x : Catalog). length (series_in x)) looks.catalog_is);
 }
+
+-- commits are counted
+pub commits_more : (n m : ℕ) (old new : View) → n ≤ m → CommitsFew n old new → CommitsFew m old new
+commits_more n m old new less few = record { syncs = omega (arith, less, few.syncs); writes = omega (arith, less, few.writes) }
+
+pub commits_then : (n m : ℕ) (old mid new : View) → CommitsFew n old mid → CommitsFew m mid new → CommitsFew (n + m) old new
+commits_then n m old mid new first second = record { syncs = omega (arith, first.syncs, second.syncs); writes = omega (arith, first.writes, second.writes) }
+
+pub commits_looks : (n : ℕ) (told told' : Type 0) (old new under under' : View) (s s' : Superblock) (catalog catalog' : Catalog) → Looks told told' old new under under' s s' catalog catalog' → CommitsFew n old new
+commits_looks n told told' old new under under' s s' catalog catalog' looks = record { syncs = omega (arith, looks.syncs); writes = omega (arith, looks.writes) }
 
 pub carries_edit : (told told' : Type 0) (old new under under' : View) (total total' count count' : ℕ) → Moves told told' old new → GoesOn under under' → total' ≡ total → count ≤ count' → Carries told told' old new under under' total total' count count'
 carries_edit told told' old new under under' total total' count count' moves on same more =

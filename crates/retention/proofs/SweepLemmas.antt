@@ -1,19 +1,18 @@
 -- The clears of a rule one after the other.
-use Rattle.std.proofs.Common.{◌≡◌, ◌≢◌, ℕ, ℤ, ◌+◌, ◌*◌, ◌≤◌, Bool, true, false, List, [], ◌∷◌, ◌++◌, length, take, get_or, Option, None, Some, Result, Ok, Err, IfErr, refl, sym, ap, subst, ◌∙◌, arith, inl, inr, append_assoc, length-append}
+use Rattle.std.proofs.Common.{◌≡◌, ◌≢◌, ℕ, zero, suc, ◌+◌, ◌<◌, ◌≤◌, Bool, true, false, List, [], ◌∷◌, ◌++◌, length, take, Option, None, Some, Result, Ok, Err, IfErr, refl, sym, ap, subst, ◌∙◌, arith, inl, inr, append_assoc, length-append}
 use Rattle.std.specs.Option.{is_some}
-use Rattle.std.proofs.lemmas.List.{append-nil}
-use Rattle.std.specs.Prelude.{MatchOption, not}
+use Rattle.std.proofs.lemmas.List.{append-nil, length-take, take_all}
+use Rattle.std.proofs.lemmas.Bool.Decides.{nat_tests}
+use Rattle.std.specs.Prelude.{MatchOption, nat_lt, not}
 use Rattle.series_store.specs.Asking.{IsFound}
 use Rattle.series_store.specs.declared.series_info.SeriesInfo.{SeriesInfo}
 use Rattle.series_book.specs.Edits.{id_of}
-use Rattle.std.proofs.lemmas.List.Sums.{count_by-le-length, sum_by-le}
 use Rattle.block_disk.specs.View.{Image, View, Now, Only, Passes}
 use Rattle.block_disk.proofs.Passing.{passes_none, passes_weaker}
 use Rattle.gate_pages.specs.Pages.{Quiet}
 use Rattle.gate_pages.proofs.Moving.{time_then}
 use Rattle.page_space.specs.Layout.{Keeps as KeepsPage}
 use Rattle.page_space.specs.declared.superblock.Superblock.{Superblock}
-use Rattle.series_book.specs.declared.limits.TheConstants.{MOST_SERIES, MOST_SLOTS}
 use Rattle.series_book.specs.declared.edits.Edit.{Edit}
 use Rattle.series_book.specs.declared.one_series.Series.{Series}
 use Rattle.series_book.specs.declared.outcomes.Outcome.{Outcome}
@@ -34,9 +33,11 @@ use Rattle.retention.specs.declared.sweep_error.SweepError.{SweepError}
 use Rattle.retention.specs.declared.sweep_error.SweepError.TheVariants.{UnknownSeries, DiskFault, Damaged, NoMemory}
 use Rattle.retention.specs.Steps.{IsNext}
 use Rattle.retention.specs.Stepping.{ClearsTo, DidNext, DidOrNone, HadNone, IsOneOf, KeepsFor, NowOrNext, StepsSo, clear_error}
-use Rattle.retention.specs.Sweeping.{IsAfterSome, IsOutside, IsReadCause, IsSoundFor, IsSwept, StopsSo}
-use Rattle.retention.specs.Sweeps.{sweeps, values_in, values_of}
-use Rattle.retention.proofs.LawLemmas.{none_or_next}
+use Rattle.retention.specs.Drops.{book_stepped}
+use Rattle.retention.specs.Moving.{CommitsFew}
+use Rattle.retention.specs.Sweeping.{IsAfterFirst, IsNextOrNone, IsOutside, IsReadCause, IsSoundFor, IsSweptSome, StopsSomeSo}
+use Rattle.retention.specs.Sweeps.{sweeps, sweeps_some}
+use Rattle.retention.proofs.LookLemmas.{commits_more, commits_then}
 
 -- ---- one clear
 
@@ -112,13 +113,13 @@ stays total book old new same stands = let P : Image → Type 0 = λ i. StandsFo
 read_moments : (total : ℕ) (book : List Series) (rule : Rule) (old new : View) → Only old.image (Now old) → StandsForBook old.image total book → Passes old new (Now old) (Quiet old) → Passes old new (NowOrNext total book rule) (Quiet old)
 read_moments total book rule old new only stands time = reads_leave old new (NowOrNext total book rule) only (inl stands) time
 
-pub step_fails : (total : ℕ) (book : List Series) (rule : Rule) (e : SweepError) (old new : View) → Only old.image (Now old) → StandsForBook old.image total book → new.image ≡ old.image → Passes old new (Now old) (Quiet old) → IsOutside e → StepsSo total book rule (Err e) old new
-step_fails total book rule e old new only stands same time outside =
-    record { done = tt; stops = keeps_at e total book new.image outside (stays total book old new same stands); moments = read_moments total book rule old new only stands time }
+pub step_fails : (total : ℕ) (book : List Series) (rule : Rule) (e : SweepError) (old new : View) → Only old.image (Now old) → StandsForBook old.image total book → new.image ≡ old.image → Passes old new (Now old) (Quiet old) → IsOutside e → CommitsFew 0 old new → StepsSo total book rule (Err e) old new
+step_fails total book rule e old new only stands same time outside few =
+    record { commits = commits_more 0 (length (sweeps_some total book rule 1)) old new (omega arith) few; done = tt; stops = keeps_at e total book new.image outside (stays total book old new same stands); moments = read_moments total book rule old new only stands time }
 
-pub step_none : (total : ℕ) (book : List Series) (rule : Rule) (old new : View) → Only old.image (Now old) → StandsForBook old.image total book → new.image ≡ old.image → Passes old new (Now old) (Quiet old) → sweeps total book rule ≡ [] → StepsSo total book rule (Ok false) old new
-step_none total book rule old new only stands same time none =
-    record { done = record { none = none; stands = stays total book old new same stands }; stops = tt; moments = read_moments total book rule old new only stands time }
+pub step_none : (total : ℕ) (book : List Series) (rule : Rule) (old new : View) → Only old.image (Now old) → StandsForBook old.image total book → new.image ≡ old.image → Passes old new (Now old) (Quiet old) → CommitsFew 0 old new → sweeps total book rule ≡ [] → StepsSo total book rule (Ok false) old new
+step_none total book rule old new only stands same time few none =
+    record { commits = commits_more 0 (length (sweeps_some total book rule 1)) old new (omega arith) few; done = record { none = none; stands = stays total book old new same stands }; stops = tt; moments = read_moments total book rule old new only stands time }
 
 next_moments : (total : ℕ) (book : List Series) (rule : Rule) (clear : Edit) (next : IsNext total book rule clear) (image : Image) → IsOneOf total book next.after image → NowOrNext total book rule image
 next_moments total book rule clear next image (inl before) = inl before
@@ -130,59 +131,72 @@ step_moments total book rule clear next old mid new only stands time later =
     time_then old mid new (NowOrNext total book rule) (read_moments total book rule old mid only stands time)
     (passes_weaker mid new (IsOneOf total book next.after) (NowOrNext total book rule) (Quiet mid) (Quiet mid) (next_moments total book rule clear next) (λ count quiet. quiet) later)
 
+-- a rule that has a next clear may make one
+one_next : (total : ℕ) (book : List Series) (rule : Rule) (clear : Edit) → IsNext total book rule clear → length (sweeps_some total book rule 1) ≡ 1
+one_next total book rule clear next = ap (λ cs. length (take 1 cs)) next.first
+
+commits_next : (total : ℕ) (book : List Series) (rule : Rule) (clear : Edit) (old new : View) → IsNext total book rule clear → CommitsFew 1 old new → CommitsFew (length (sweeps_some total book rule 1)) old new
+commits_next total book rule clear old new next few = commits_more 1 (length (sweeps_some total book rule 1)) old new (omega (arith, one_next total book rule clear next)) few
+
 pub step_done : {T : Type 0} (total : ℕ) (book : List Series) (rule : Rule) (clear : Edit) (next : IsNext total book rule clear) (v : T) (old mid new : View) → Only old.image (Now old) → StandsForBook old.image total book → Passes old mid (Now old) (Quiet old)
-    → ClearsTo total book next.after (Ok v) mid new → StepsSo total book rule (Ok true) old new
-step_done total book rule clear next v old mid new only stands time clears =
-    record { done = record { clear = clear; next = next; stands = clears.done }; stops = tt; moments = step_moments total book rule clear next old mid new only stands time clears.moments }
+    → ClearsTo total book next.after (Ok v) mid new → CommitsFew 1 old new → StepsSo total book rule (Ok true) old new
+step_done total book rule clear next v old mid new only stands time clears few =
+    record { commits = commits_next total book rule clear old new next few; done = record { clear = clear; next = next; stands = clears.done }; stops = tt; moments = step_moments total book rule clear next old mid new only stands time clears.moments }
 
 pub step_stops : {T : Type 0} (total : ℕ) (book : List Series) (rule : Rule) (clear : Edit) (next : IsNext total book rule clear) (e : SweepError) (old mid new : View) → Only old.image (Now old) → StandsForBook old.image total book → Passes old mid (Now old) (Quiet old)
-    → ClearsTo {T = T} total book next.after (Err e) mid new → StepsSo total book rule (Err e) old new
-step_stops total book rule clear next e old mid new only stands time clears =
-    record { done = tt; stops = clears.stops; moments = step_moments total book rule clear next old mid new only stands time clears.moments }
+    → ClearsTo {T = T} total book next.after (Err e) mid new → CommitsFew 1 old new → StepsSo total book rule (Err e) old new
+step_stops total book rule clear next e old mid new only stands time clears few =
+    record { commits = commits_next total book rule clear old new next few; done = tt; stops = clears.stops; moments = step_moments total book rule clear next old mid new only stands time clears.moments }
 
--- ---- all clears
+-- ---- the clears of a step
 
--- how far a sweep has come, and what was possible at each moment so far
-pub record Going (total : ℕ) (book : List Series) (rule : Rule) (clears : ℕ) (old now : View) : Type 0 where
+-- how far a step has come, and what was possible at each moment so far
+pub record Going (total : ℕ) (book : List Series) (rule : Rule) (most clears : ℕ) (old now : View) : Type 0 where
   pub made : List Edit
   pub count : length made ≡ clears
   pub after : List Series
   pub is_book : IsBook after
   pub all : sweeps total book rule ≡ made ++ sweeps total after rule
   pub reached : after_edits total book made ≡ after
-  pub few : clears + values_of after ≤ values_of book
   pub stands : StandsForBook now.image total after
-  pub moments : Passes old now (IsAfterSome total book rule) (Quiet old)
+  pub moments : Passes old now (IsAfterFirst total book (sweeps_some total book rule most)) (Quiet old)
 
 take_front : (xs ys : List Edit) → take (length xs) (xs ++ ys) ≡ xs
 take_front [] ys = refl
 take_front (x ∷ xs) ys = ap (λ zs. x ∷ zs) (take_front xs ys)
 
+take_within : (xs ys : List Edit) (most : ℕ) → length xs ≤ most → take (length xs) (take most (xs ++ ys)) ≡ xs
+take_within [] ys most low = refl
+take_within (x ∷ xs) ys zero low = absurd (omega (arith, low))
+take_within (x ∷ xs) ys (suc most) low = ap (λ zs. x ∷ zs) (take_within xs ys most (omega (arith, low)))
+
 -- the pages stand for the book behind the clears so far
-some_at : (total : ℕ) (book : List Series) (rule : Rule) (made later : List Edit) (after : List Series) (image : Image) → sweeps total book rule ≡ made ++ later → after_edits total book made ≡ after → StandsForBook image total after → IsAfterSome total book rule image
-some_at total book rule made later after image all reached stands =
-    let front : take (length made) (sweeps total book rule) ≡ made = ap (take (length made)) all ∙ take_front made later in
+some_at : (total : ℕ) (book : List Series) (rule : Rule) (most : ℕ) (made later : List Edit) (after : List Series) (image : Image) → length made ≤ most → sweeps total book rule ≡ made ++ later → after_edits total book made ≡ after → StandsForBook image total after
+    → IsAfterFirst total book (sweeps_some total book rule most) image
+some_at total book rule most made later after image low all reached stands =
+    let front : take (length made) (sweeps_some total book rule most) ≡ made = ap (λ cs. take (length made) (take most cs)) all ∙ take_within made later most low in
     let P : List Series → Type 0 = StandsForBook image total in
     record {
       done = length made;
-      few = omega (arith, ap length all, length-append made later);
+      few = omega (arith, low, length-take most (sweeps total book rule), ap length all, length-append made later);
       stands = subst P (sym (ap (after_edits total book) front ∙ reached)) stands;
     }
 
-pub going_some : (total : ℕ) (book : List Series) (rule : Rule) (clears : ℕ) (old now : View) (image : Image) → (going : Going total book rule clears old now) → StandsForBook image total going.after → IsAfterSome total book rule image
-going_some total book rule clears old now image going stands = some_at total book rule going.made (sweeps total going.after rule) going.after image going.all going.reached stands
+pub going_some : (total : ℕ) (book : List Series) (rule : Rule) (most clears : ℕ) (old now : View) (image : Image) → clears ≤ most → (going : Going total book rule most clears old now) → StandsForBook image total going.after
+    → IsAfterFirst total book (sweeps_some total book rule most) image
+going_some total book rule most clears old now image low going stands =
+    some_at total book rule most going.made (sweeps total going.after rule) going.after image (omega (arith, low, going.count)) going.all going.reached stands
 
-pub going_none : (total : ℕ) (book : List Series) (rule : Rule) (at : View) → StandsForBook at.image total book → Going total book rule 0 at at
-going_none total book rule at stands = record {
+pub going_none : (total : ℕ) (book : List Series) (rule : Rule) (most : ℕ) (at : View) → StandsForBook at.image total book → Going total book rule most 0 at at
+going_none total book rule most at stands = record {
   made = [];
   count = refl;
   after = book;
   is_book = stands.store.is_book;
   all = refl;
   reached = refl;
-  few = omega arith;
   stands = stands;
-  moments = passes_none at (IsAfterSome total book rule) (Quiet at);
+  moments = passes_none at (IsAfterFirst total book (sweeps_some total book rule most)) (Quiet at);
 }
 
 -- the clears so far and the next one
@@ -193,16 +207,25 @@ reached_next : (total : ℕ) (book : List Series) (rule : Rule) (made : List Edi
 reached_next total book rule made after clear next reached =
     after_append total book made (clear ∷ []) ∙ ap (λ (b : List Series). after_edits total b (clear ∷ [])) reached ∙ ap (λ (r : Result Edited Refusal). book_behind after r) next.accepted
 
-now_some : (total : ℕ) (book : List Series) (rule : Rule) (clears : ℕ) (old now : View) (going : Going total book rule clears old now) (image : Image) → NowOrNext total going.after rule image → IsAfterSome total book rule image
-now_some total book rule clears old now going image (inl before) = going_some total book rule clears old now image going before
-now_some total book rule clears old now going image (inr did) =
-    some_at total book rule (going.made ++ did.clear ∷ []) (sweeps total did.next.after rule) did.next.after image (made_next total book rule going.made going.after did.clear did.next going.all)
-    (reached_next total book rule going.made going.after did.clear did.next going.reached) did.stands
+now_some : (total : ℕ) (book : List Series) (rule : Rule) (most clears : ℕ) (old now : View) → clears < most → (going : Going total book rule most clears old now) (image : Image) → NowOrNext total going.after rule image
+    → IsAfterFirst total book (sweeps_some total book rule most) image
+now_some total book rule most clears old now low going image (inl before) = going_some total book rule most clears old now image (omega (arith, low)) going before
+now_some total book rule most clears old now low going image (inr did) =
+    some_at total book rule most (going.made ++ did.clear ∷ []) (sweeps total did.next.after rule) did.next.after image (omega (arith, low, length-append going.made (did.clear ∷ []), going.count))
+    (made_next total book rule going.made going.after did.clear did.next going.all) (reached_next total book rule going.made going.after did.clear did.next going.reached) did.stands
 
-pub later_moments : (total : ℕ) (book : List Series) (rule : Rule) (clears : ℕ) (old now new : View) (going : Going total book rule clears old now) → Passes now new (NowOrNext total going.after rule) (Quiet now) → Passes old new (IsAfterSome total book rule) (Quiet old)
-later_moments total book rule clears old now new going time =
-    time_then old now new (IsAfterSome total book rule) going.moments
-    (passes_weaker now new (NowOrNext total going.after rule) (IsAfterSome total book rule) (Quiet now) (Quiet now) (now_some total book rule clears old now going) (λ count quiet. quiet) time)
+pub later_moments : (total : ℕ) (book : List Series) (rule : Rule) (most clears : ℕ) (old now new : View) → clears < most → (going : Going total book rule most clears old now) → Passes now new (NowOrNext total going.after rule) (Quiet now)
+    → Passes old new (IsAfterFirst total book (sweeps_some total book rule most)) (Quiet old)
+later_moments total book rule most clears old now new low going time =
+    time_then old now new (IsAfterFirst total book (sweeps_some total book rule most)) going.moments
+    (passes_weaker now new (NowOrNext total going.after rule) (IsAfterFirst total book (sweeps_some total book rule most)) (Quiet now) (Quiet now) (now_some total book rule most clears old now low going) (λ count quiet. quiet) time)
+
+-- a look behind the last clear of a step
+pub look_moments : (total : ℕ) (book : List Series) (rule : Rule) (most clears : ℕ) (old now new : View) → clears ≤ most → (going : Going total book rule most clears old now) → Only now.image (Now now) → Passes now new (Now now) (Quiet now)
+    → Passes old new (IsAfterFirst total book (sweeps_some total book rule most)) (Quiet old)
+look_moments total book rule most clears old now new low going only time =
+    let Some : Image → Type 0 = IsAfterFirst total book (sweeps_some total book rule most) in
+    time_then old now new Some going.moments (reads_leave now new Some only (going_some total book rule most clears old now now.image low going going.stands) time)
 
 did_so : (b : Bool) (total : ℕ) (book : List Series) (rule : Rule) (image : Image) → b ≡ true → DidOrNone total book rule image b → DidNext total book rule image
 did_so true total book rule image is did = did
@@ -212,8 +235,9 @@ none_so : (b : Bool) (total : ℕ) (book : List Series) (rule : Rule) (image : I
 none_so true total book rule image is did = cc
 none_so false total book rule image is did = did
 
-pub going_more : (total : ℕ) (book : List Series) (rule : Rule) (clears : ℕ) (more : Bool) (old now new : View) (going : Going total book rule clears old now) → more ≡ true → StepsSo total going.after rule (Ok more) now new → Going total book rule (clears + 1) old new
-going_more total book rule clears more old now new going is steps =
+pub going_more : (total : ℕ) (book : List Series) (rule : Rule) (most clears : ℕ) (more : Bool) (old now new : View) → clears < most → (going : Going total book rule most clears old now) → more ≡ true → StepsSo total going.after rule (Ok more) now new
+    → Going total book rule most (clears + 1) old new
+going_more total book rule most clears more old now new low going is steps =
     let did : DidNext total going.after rule new.image = did_so more total going.after rule new.image is steps.done in
     record {
       made = going.made ++ did.clear ∷ [];
@@ -222,53 +246,75 @@ going_more total book rule clears more old now new going is steps =
       is_book = did.next.is_book;
       all = made_next total book rule going.made going.after did.clear did.next going.all;
       reached = reached_next total book rule going.made going.after did.clear did.next going.reached;
-      few = omega (arith, going.few, did.next.fewer);
       stands = did.stands;
-      moments = later_moments total book rule clears old now new going steps.moments;
+      moments = later_moments total book rule most clears old now new low going steps.moments;
     }
 
--- all of them were done
-all_made : (total : ℕ) (book : List Series) (rule : Rule) (clears : ℕ) (old now : View) (going : Going total book rule clears old now) → sweeps total going.after rule ≡ [] → sweeps total book rule ≡ going.made
-all_made total book rule clears old now going none = going.all ∙ ap (λ cs. going.made ++ cs) none ∙ append-nil going.made
+-- whether there are more
+none_more : (most n : ℕ) → n ≤ most → false ≡ nat_lt most n
+none_more most n few = let test : nat_lt most n ≡ false = grind (arith, nat_tests) in sym test
 
-swept_so : (total : ℕ) (book : List Series) (rule : Rule) (clears used : ℕ) (old now : View) (image : Image) (going : Going total book rule clears old now) → sweeps total going.after rule ≡ [] → used ≡ pages_of going.after → StandsForBook image total going.after → IsSwept total book rule (record { clears = clears; used = used }) image
-swept_so total book rule clears used old now image going none counted stands =
-    let all : sweeps total book rule ≡ going.made = all_made total book rule clears old now going none in
-    let here : after_edits total book (sweeps total book rule) ≡ going.after = ap (after_edits total book) all ∙ going.reached in
+some_more : (most n : ℕ) → most < n → true ≡ nat_lt most n
+some_more most n many = let test : nat_lt most n ≡ true = grind (arith, nat_tests) in sym test
+
+more_so : (total : ℕ) (after : List Series) (rule : Rule) (next : Option Edit) (most n : ℕ) → IsNextOrNone total after rule next → n ≡ most + length (sweeps total after rule) → is_some next ≡ nat_lt most n
+more_so total after rule None most n none is = none_more most n (omega (arith, is, ap length none))
+more_so total after rule (Some clear) most n next is = some_more most n (omega (arith, is, ap length next.first))
+
+swept_so : (total : ℕ) (book : List Series) (rule : Rule) (most clears used : ℕ) (more : Bool) (old now : View) (image : Image) (going : Going total book rule most clears old now) → sweeps_some total book rule most ≡ going.made → more ≡ nat_lt most (length (sweeps total book rule))
+    → used ≡ pages_of going.after → StandsForBook image total going.after → IsSweptSome total book rule most (record { clears = clears; used = used; more = more }) image
+swept_so total book rule most clears used more old now image going made more_is counted stands =
+    let here : book_stepped total book rule most ≡ going.after = ap (after_edits total book) made ∙ going.reached in
     let P : List Series → Type 0 = StandsForBook image total in
-    record { clears = sym going.count ∙ sym (ap length all); used = counted ∙ sym (ap pages_of here); stands = subst P (sym here) stands }
+    record { clears = sym going.count ∙ sym (ap length made); used = counted ∙ sym (ap pages_of here); more = more_is; stands = subst P (sym here) stands }
 
-pub swept_end : (total : ℕ) (book : List Series) (rule : Rule) (clears used : ℕ) (more : Bool) (old now new : View) (going : Going total book rule clears old now) → more ≡ false → StepsSo total going.after rule (Ok more) now new
-    → ((after : List Series) → StandsForBook new.image total after → used ≡ pages_of after) → IsSwept total book rule (record { clears = clears; used = used }) new.image
-swept_end total book rule clears used more old now new going is steps counted =
+-- no clear is left
+pub swept_end : (total : ℕ) (book : List Series) (rule : Rule) (most clears used : ℕ) (more : Bool) (old now new : View) → clears < most → (going : Going total book rule most clears old now) → more ≡ false → StepsSo total going.after rule (Ok more) now new
+    → ((after : List Series) → StandsForBook new.image total after → used ≡ pages_of after) → IsSweptSome total book rule most (record { clears = clears; used = used; more = false }) new.image
+swept_end total book rule most clears used more old now new low going is steps counted =
     let had : HadNone total going.after rule new.image = none_so more total going.after rule new.image is steps.done in
-    swept_so total book rule clears used old now new.image going had.none (counted going.after had.stands) had.stands
+    let all : sweeps total book rule ≡ going.made = going.all ∙ ap (λ cs. going.made ++ cs) had.none ∙ append-nil going.made in
+    let made : sweeps_some total book rule most ≡ going.made = ap (take most) all ∙ take_all most going.made (omega (arith, low, going.count)) in
+    swept_so total book rule most clears used false old now new.image going made (none_more most (length (sweeps total book rule)) (omega (arith, low, ap length all, going.count))) (counted going.after had.stands) had.stands
 
-few_values : (book : List Series) → IsBook book → values_of book ≤ MOST_SERIES * MOST_SLOTS
-few_values book is =
-    let most : values_of book ≤ length book * MOST_SLOTS =
-    sum_by-le (λ (one : Series). values_in one.slots) MOST_SLOTS book (λ k d within. let one = is.all_in_range k d within in omega (arith, count_by-le-length (λ (x : Option ℤ). is_some x) (get_or book k d).slots, one.slots_in_range)) in
-    omega (arith, most, is.few)
-
--- so many clears leave nothing to clear
-pub swept_last : (total : ℕ) (book : List Series) (rule : Rule) (clears used : ℕ) (old now : View) (going : Going total book rule clears old now) → IsBook book → MOST_SERIES * MOST_SLOTS ≤ clears → ((after : List Series) → StandsForBook now.image total after → used ≡ pages_of after)
-    → IsSwept total book rule (record { clears = clears; used = used }) now.image
-swept_last total book rule clears used old now going is many counted =
-    let none : sweeps total going.after rule ≡ [] = elim (none_or_next total going.after rule going.is_book) [
-      | inl nothing ↦ nothing
-      | inr first ↦ absurd (omega (arith, first.1.fewer, going.few, few_values book is, many))
-    ] in
-    swept_so total book rule clears used old now now.image going none (counted going.after going.stands) going.stands
+-- so many were made, and a look said whether there is one more
+pub swept_last : (total : ℕ) (book : List Series) (rule : Rule) (most clears used : ℕ) (more : Bool) (next : Option Edit) (old now new : View) → clears ≤ most → most ≤ clears → (going : Going total book rule most clears old now) → new.image ≡ now.image
+    → more ≡ is_some next → IsNextOrNone total going.after rule next → ((after : List Series) → StandsForBook new.image total after → used ≡ pages_of after)
+    → IsSweptSome total book rule most (record { clears = clears; used = used; more = more }) new.image
+swept_last total book rule most clears used more next old now new low up going same is so counted =
+    let long : most ≡ length going.made = omega (arith, low, up, going.count) in
+    let made : sweeps_some total book rule most ≡ going.made = ap (take most) going.all ∙ ap (λ n. take n (going.made ++ sweeps total going.after rule)) long ∙ take_front going.made (sweeps total going.after rule) in
+    let stands : StandsForBook new.image total going.after = stays total going.after now new same going.stands in
+    let count : length (sweeps total book rule) ≡ most + length (sweeps total going.after rule) = omega (arith, ap length going.all, length-append going.made (sweeps total going.after rule), long) in
+    swept_so total book rule most clears used more old now new.image going made (is ∙ more_so total going.after rule next most (length (sweeps total book rule)) so count) (counted going.after stands) stands
 
 -- why not all were done
-stops_so : (e : SweepError) (total : ℕ) (book : List Series) (rule : Rule) (clears : ℕ) (old now : View) (image : Image) (going : Going total book rule clears old now) → KeepsFor total going.after image e → StopsSo total book rule image e
-stops_so UnknownSeries total book rule clears old now image going keeps = absurd keeps
-stops_so DiskFault total book rule clears old now image going keeps = tt
-stops_so (Damaged page) total book rule clears old now image going keeps = absurd keeps
-stops_so NoMemory total book rule clears old now image going keeps = going_some total book rule clears old now image going keeps
+stops_so : (e : SweepError) (total : ℕ) (book : List Series) (rule : Rule) (most clears : ℕ) (old now : View) (image : Image) → clears ≤ most → (going : Going total book rule most clears old now) → KeepsFor total going.after image e → StopsSomeSo total book rule most image e
+stops_so UnknownSeries total book rule most clears old now image low going keeps = absurd keeps
+stops_so DiskFault total book rule most clears old now image low going keeps = tt
+stops_so (Damaged page) total book rule most clears old now image low going keeps = absurd keeps
+stops_so NoMemory total book rule most clears old now image low going keeps = going_some total book rule most clears old now image low going keeps
 
-pub swept_stops : (total : ℕ) (book : List Series) (rule : Rule) (clears : ℕ) (e : SweepError) (old now new : View) (going : Going total book rule clears old now) → StepsSo total going.after rule (Err e) now new → StopsSo total book rule new.image e
-swept_stops total book rule clears e old now new going steps = stops_so e total book rule clears old now new.image going steps.stops
+pub swept_stops : (total : ℕ) (book : List Series) (rule : Rule) (most clears : ℕ) (e : SweepError) (old now new : View) → clears ≤ most → (going : Going total book rule most clears old now) → StepsSo total going.after rule (Err e) now new → StopsSomeSo total book rule most new.image e
+swept_stops total book rule most clears e old now new low going steps = stops_so e total book rule most clears old now new.image low going steps.stops
+
+pub look_stops : (total : ℕ) (book : List Series) (rule : Rule) (most clears : ℕ) (e : SweepError) (old now new : View) → clears ≤ most → (going : Going total book rule most clears old now) → new.image ≡ now.image → IsOutside e → StopsSomeSo total book rule most new.image e
+look_stops total book rule most clears e old now new low going same outside =
+    stops_so e total book rule most clears old now new.image low going (keeps_at e total going.after new.image outside (stays total going.after now new same going.stands))
+
+-- how many commits there were
+pub going_commits : (total : ℕ) (book : List Series) (rule : Rule) (most clears : ℕ) (old now new : View) → clears < most → (going : Going total book rule most clears old now) → CommitsFew clears old now → CommitsFew (length (sweeps_some total going.after rule 1)) now new
+    → CommitsFew (length (sweeps_some total book rule most)) old new
+going_commits total book rule most clears old now new low going before later =
+    commits_more (clears + length (sweeps_some total going.after rule 1)) (length (sweeps_some total book rule most)) old new
+    (omega (arith, low, going.count, length-take most (sweeps total book rule), length-take 1 (sweeps total going.after rule), ap length going.all, length-append going.made (sweeps total going.after rule)))
+    (commits_then clears (length (sweeps_some total going.after rule 1)) old now new before later)
+
+pub look_commits : (total : ℕ) (book : List Series) (rule : Rule) (most clears : ℕ) (old now new : View) → clears ≤ most → (going : Going total book rule most clears old now) → CommitsFew clears old now → CommitsFew 0 now new → CommitsFew (length (sweeps_some total book rule most)) old new
+look_commits total book rule most clears old now new low going before later =
+    commits_more (clears + 0) (length (sweeps_some total book rule most)) old new
+    (omega (arith, low, going.count, length-take most (sweeps total book rule), ap length going.all, length-append going.made (sweeps total going.after rule)))
+    (commits_then clears 0 old now new before later)
 
 pub is_known : (e : SweepError) (told : Type 0) (total : ℕ) (old new : View) → IsReadCause e told total old new → e ≢ UnknownSeries
 is_known UnknownSeries told total old new cause is = cause
@@ -303,6 +349,9 @@ next_some total book rule o clear is so = let P : Option Edit → Type 0 = λ x.
 -- an outcome that isn't the other
 pub err_ok : {T E : Type 0} (x : T) (e : E) → ◌≡◌ {A = Result T E} (Err e) (Ok x) → ⊥
 err_ok x e never = cc
+
+pub ok_err : {T E : Type 0} (x : T) (e : E) → ◌≡◌ {A = Result T E} (Ok x) (Err e) → ⊥
+ok_err x e never = cc
 
 pub ok_apart : {E : Type 0} → ◌≡◌ {A = Result Bool E} (Ok true) (Ok false) → ⊥
 ok_apart never = cc

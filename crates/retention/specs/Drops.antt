@@ -8,7 +8,7 @@ use Rattle.series_book.specs.declared.one_series.Series.{Series}
 use Rattle.series_book.specs.declared.edits.Edit.{Edit}
 use Rattle.series_book.specs.Edits.{apply, id_of}
 use Rattle.series_book.specs.EditLists.{book_behind, after_edits}
-use Rattle.retention.specs.Sweeps.{Found, found_time, slot_time, sweeps}
+use Rattle.retention.specs.Sweeps.{Found, found_time, slot_time, sweeps, sweeps_some}
 
 -- each of the edits is accepted, one after the other
 abbrev pub AreAccepted : ℕ → List Series → List Edit → Type 0
@@ -54,6 +54,10 @@ ForNamed IsSo = (total : ℕ) (book : List Series) (name : List ℕ) (id : ℕ) 
 -- the book behind the clears of a rule
 abbrev pub book_swept : ℕ → List Series → Rule → List Series
 book_swept total book rule = after_edits total book (sweeps total book rule)
+
+-- the book behind a step of at most so many clears of a rule
+abbrev pub book_stepped : ℕ → List Series → Rule → ℕ → List Series
+book_stepped total book rule most = after_edits total book (sweeps_some total book rule most)
 
 -- of so many pages in all so many are free beside those of the book, or it stores nothing
 abbrev pub HasFree : ℕ → ℕ → List Series → Type 0

@@ -1,10 +1,11 @@
 -- What calls leave of a store as it is, whatever its pages are.
-use Rattle.std.specs.Prelude.{ℕ, ◌≡◌, ◌≤◌, length}
+use Rattle.std.specs.Prelude.{ℕ, ◌≡◌, ◌≤◌, ◌+◌, ◌*◌, length}
 use Rattle.block_disk.specs.View.{View, Now, Passes}
 use Rattle.gate_pages.specs.declared.pages.Pages.{Ghosts}
 use Rattle.gate_pages.specs.Pages.{GoesOn, Quiet}
 use Rattle.page_space.specs.declared.superblock.Superblock.{Superblock}
 use Rattle.series_catalog.specs.declared.catalog.Catalog.{Catalog}
+use Rattle.series_book.specs.declared.limits.TheConstants.{MOST_SERIES}
 use Rattle.series_store.specs.Shown as shown
 use Rattle.series_store.specs.declared.store.Store.{Store}
 
@@ -23,6 +24,18 @@ pub record Looks (told_old told_new : Type 0) (old new under under' : View) (s s
   pub writes : new.writes ≡ old.writes
   pub superblock : s' ≡ s
   pub catalog_is : catalog' ≡ catalog
+
+-- at most so many commits, each of at most 42 pages
+pub record CommitsFew (most : ℕ) (old new : View) : Type 0 where
+  pub syncs : new.syncs ≤ old.syncs + 4 * most
+  pub writes : new.writes ≤ old.writes + 87 * most
+
+-- a look for a clear asks each series, of which it reads at most 105 blocks, and a clear reads 96 more
+abbrev pub look_reads : ℕ
+look_reads = 105 * MOST_SERIES
+
+abbrev pub clear_reads : ℕ
+clear_reads = look_reads + 96
 
 -- what clears move: no series goes away, and no count falls
 pub record Carries (told_old told_new : Type 0) (old new under under' : View) (total total' count count' : ℕ) : Type 0 where

@@ -1,5 +1,5 @@
 -- One clear of a rule is done.
-use Rattle.std.specs.Prelude.{ℕ, ◌≡◌, ◌⊎◌, Bool, true, false, List, [], Result, Ok, IfErr, OnOk, IfOk}
+use Rattle.std.specs.Prelude.{ℕ, ◌≡◌, ◌⊎◌, Bool, true, false, List, [], length, Result, Ok, IfErr, OnOk, IfOk}
 use Rattle.block_disk.specs.View.{Image, View, Passes}
 use Rattle.gate_pages.specs.Pages.{Quiet}
 use Rattle.series_book.specs.declared.edits.Edit.{Edit}
@@ -12,7 +12,8 @@ use Rattle.retention.specs.declared.rule.Rule.{Rule}
 use Rattle.retention.specs.declared.sweep_error.SweepError.{SweepError}
 use Rattle.retention.specs.declared.sweep_error.SweepError.TheVariants.{UnknownSeries, DiskFault, Damaged, NoMemory}
 use Rattle.retention.specs.Steps.{IsNext}
-use Rattle.retention.specs.Sweeps.{sweeps}
+use Rattle.retention.specs.Moving.{CommitsFew}
+use Rattle.retention.specs.Sweeps.{sweeps, sweeps_some}
 
 -- what an error of a clear is for a sweep; a clear of slots that were found isn't refused, and `NotAStore` comes from no edit
 abbrev pub clear_error : StoreError → SweepError
@@ -61,8 +62,9 @@ abbrev pub DidOrNone : ℕ → List Series → Rule → Image → Bool → Type 
 DidOrNone total book rule image true = DidNext total book rule image
 DidOrNone total book rule image false = HadNone total book rule image
 
--- what a call did that does the next clear, if there is one
+-- what a call did that does the next clear, if there is one; it commits nothing where there is none
 pub record StepsSo (total : ℕ) (book : List Series) (rule : Rule) (result : Result Bool SweepError) (old new : View) : Type 0 where
+  pub commits : CommitsFew (length (sweeps_some total book rule 1)) old new
   pub done : IfOk result (DidOrNone total book rule new.image)
   pub stops : IfErr result (KeepsFor total book new.image)
   pub moments : Passes old new (NowOrNext total book rule) (Quiet old)

@@ -1,5 +1,5 @@
 -- What a sweep did, and why it ended.
-use Rattle.std.specs.Prelude.{ℕ, ℤ, ◌≡◌, ◌/◌, ◌≤◌, List, [], take, length, Option, None, Some, MatchOption}
+use Rattle.std.specs.Prelude.{ℕ, ℤ, ◌≡◌, ◌/◌, ◌≤◌, nat_lt, List, [], take, length, Option, None, Some, MatchOption}
 use Rattle.block_disk.specs.Counts.{HasRisen}
 use Rattle.block_disk.specs.View.{Image, View, Passes}
 use Rattle.gate_pages.specs.declared.pages.Pages.{Ghosts}
@@ -22,8 +22,11 @@ use Rattle.retention.specs.declared.rule.Rule.{Rule}
 use Rattle.retention.specs.declared.sweep_error.SweepError.{SweepError}
 use Rattle.retention.specs.declared.sweep_error.SweepError.TheVariants.{UnknownSeries, DiskFault, Damaged, NoMemory}
 use Rattle.retention.specs.declared.swept.Swept.{Swept}
+use Rattle.retention.specs.declared.swept.SweptSome.{SweptSome}
+use Rattle.retention.specs.Drops.{book_stepped}
+use Rattle.retention.specs.Moving.{CommitsFew}
 use Rattle.retention.specs.Steps.{IsNext}
-use Rattle.retention.specs.Sweeps.{Found, NamesNone, clear_of, range_end, range_first, sweeps}
+use Rattle.retention.specs.Sweeps.{Found, NamesNone, clear_of, range_end, range_first, sweeps, sweeps_some}
 
 -- all clears of the rule were done, so many, and behind them so many pages are in use
 pub record IsSwept (total : ℕ) (book : List Series) (rule : Rule) (swept : Swept) (image : Image) : Type 0 where
@@ -31,11 +34,23 @@ pub record IsSwept (total : ℕ) (book : List Series) (rule : Rule) (swept : Swe
   pub used : swept.used ≡ pages_of (after_edits total book (sweeps total book rule))
   pub stands : StandsForBook image total (after_edits total book (sweeps total book rule))
 
--- the pages stand for the book behind some first clears of the rule
-pub record IsAfterSome (total : ℕ) (book : List Series) (rule : Rule) (image : Image) : Type 0 where
+-- at most so many first clears of the rule were done, and behind them so many pages are in use; there are more exactly where
+-- the rule makes more clears than that
+pub record IsSweptSome (total : ℕ) (book : List Series) (rule : Rule) (most : ℕ) (swept : SweptSome) (image : Image) : Type 0 where
+  pub clears : swept.clears ≡ length (sweeps_some total book rule most)
+  pub used : swept.used ≡ pages_of (book_stepped total book rule most)
+  pub more : swept.more ≡ nat_lt most (length (sweeps total book rule))
+  pub stands : StandsForBook image total (book_stepped total book rule most)
+
+-- the pages stand for the book behind some first ones of these edits
+pub record IsAfterFirst (total : ℕ) (book : List Series) (clears : List Edit) (image : Image) : Type 0 where
   pub done : ℕ
-  pub few : done ≤ length (sweeps total book rule)
-  pub stands : StandsForBook image total (after_edits total book (take done (sweeps total book rule)))
+  pub few : done ≤ length clears
+  pub stands : StandsForBook image total (after_edits total book (take done clears))
+
+-- the pages stand for the book behind some first clears of the rule
+abbrev pub IsAfterSome : ℕ → List Series → Rule → Image → Type 0
+IsAfterSome total book rule image = IsAfterFirst total book (sweeps total book rule) image
 
 -- why not all clears were done, where the pages stood for the book
 abbrev pub StopsSo : ℕ → List Series → Rule → Image → SweepError → Type 0
@@ -43,6 +58,13 @@ StopsSo total book rule image UnknownSeries = NamesNone book rule
 StopsSo total book rule image DiskFault = Unit {0}
 StopsSo total book rule image (Damaged page) = ⊥
 StopsSo total book rule image NoMemory = IsAfterSome total book rule image
+
+-- why not all clears of a step were done, where the pages stood for the book
+abbrev pub StopsSomeSo : ℕ → List Series → Rule → ℕ → Image → SweepError → Type 0
+StopsSomeSo total book rule most image UnknownSeries = NamesNone book rule
+StopsSomeSo total book rule most image DiskFault = Unit {0}
+StopsSomeSo total book rule most image (Damaged page) = ⊥
+StopsSomeSo total book rule most image NoMemory = IsAfterFirst total book (sweeps_some total book rule most) image
 
 -- an error of nodes over pages, and what it is for a sweep
 abbrev pub IsOfPages : NodeError → Type 0
@@ -136,3 +158,12 @@ module _ {P : Type 0} {g : Ghosts P} where
   -- meanwhile a crash leaves the book behind some first clears of the rule
   abbrev pub PassesSome : ℕ → List Series → Rule → Store P g → Store P g → Type 0
   PassesSome total book rule old new = Passes (shown.view old) (shown.view new) (IsAfterSome total book rule) (Quiet (shown.view old))
+
+  -- the same of a step
+  abbrev pub PassesStep : ℕ → List Series → Rule → ℕ → Store P g → Store P g → Type 0
+  PassesStep total book rule most old new =
+      Passes (shown.view old) (shown.view new) (IsAfterFirst total book (sweeps_some total book rule most)) (Quiet (shown.view old))
+
+  -- at most so many commits, each of at most 42 pages, whatever is answered
+  abbrev pub Commits : ℕ → Store P g → Store P g → Type 0
+  Commits most old new = CommitsFew most (shown.view old) (shown.view new)

@@ -115,6 +115,10 @@ sweeps total book (Before name time) = clears_if name (named book name) (λ seri
 sweeps total book (Last name count) = clears_if name (named book name) (λ series. length series.slots - count)
 sweeps total book (Free pages) = frees total pages (values_of book) book
 
+-- the clears of a rule that a step of at most so many makes: its first ones
+abbrev pub sweeps_some : ℕ → List Series → Rule → ℕ → List Edit
+sweeps_some total book rule most = take most (sweeps total book rule)
+
 -- the rule names a series that the book hasn't
 abbrev pub NamesNone : List Series → Rule → Type 0
 NamesNone book (Before name time) = id_of name book ≡ None

@@ -1,5 +1,5 @@
 //! A series of a store is asked for its first stored slot.
-ghost use Rattle.std.specs.Prelude.{◌≡◌, ◌≤◌, ◌<◌, ℤ, List, None, Option, length, IfOk, IfErr, IfSome};
+ghost use Rattle.std.specs.Prelude.{◌≡◌, ◌≤◌, ◌<◌, ◌+◌, ℤ, List, None, Option, length, IfOk, IfErr, IfSome};
 ghost use Rattle.chart_world.specs.Faults.{CountsFault, fault_in};
 ghost use Rattle.om3_coeff.specs.View.{Agrees};
 ghost use Rattle.om3_coeff.specs.Walks.{IsFirstStored};
@@ -41,6 +41,7 @@ pub(crate) fn selected<P: Pages>(store: &mut Store<P>, id: u16) -> Axis
     ensures bad { TellsBad store.new }
     ensures whole { shown.ForSeries store.old id (λ total book series. TellsNone store.new) }
     ensures faults { CountsFault None (shown.view store.old) (shown.view store.new) }
+    ensures reads { (shown.view store.new).reads ≡ (shown.view store.old).reads }
     ensures looks { LooksOnly store.old store.new }
 {
     let info = store.info(id);
@@ -52,7 +53,8 @@ pub(crate) fn selected<P: Pages>(store: &mut Store<P>, id: u16) -> Axis
     }
 }
 
-/// The first stored slot among some first slots of the selected series, with its value.
+/// The first stored slot among some first slots of the selected series, with its value. It reads 105 blocks at most: the tree
+/// has at most 35 levels.
 pub(crate) fn first_stored<P: Pages>(
     store: &mut Store<P>,
     end: u64,
@@ -63,6 +65,7 @@ pub(crate) fn first_stored<P: Pages>(
     ensures slot { IfOk result (λ found. IfSome found (λ p. p.0 < end)) }
     ensures cause { IfErr result (IsAskCause (shown.nodes store.old) (shown.nodes store.new)) }
     ensures faults { CountsFault (fault_in sweep_fault result) (shown.view store.old) (shown.view store.new) }
+    ensures reads { (shown.view store.new).reads ≤ (shown.view store.old).reads + 105 }
     ensures looks { LooksOnly store.old store.new }
 {
     match first_in(store, 0, end) {

@@ -1,5 +1,5 @@
 //! The next clear of a rule that names a series.
-ghost use Rattle.std.specs.Prelude.{◌≡◌, ◌≤◌, ◌<◌, ◌/◌, length, IfOk, IfErr, IfSome};
+ghost use Rattle.std.specs.Prelude.{◌≡◌, ◌≤◌, ◌<◌, ◌+◌, ◌/◌, length, IfOk, IfErr, IfSome};
 ghost use Rattle.chart_world.specs.Faults.{CountsFault, fault_in};
 ghost use Rattle.series_book.specs.declared.limits.TheConstants.{MOST_SLOTS};
 ghost use Rattle.series_book.specs.declared.one_series.Series.{Series};
@@ -47,6 +47,7 @@ fn next_of<P: Pages>(
     ensures outside { shown.ForSeries store.old id (λ total book series. IfErr result IsOutside) }
     ensures cause { IfErr result (λ e. ReadFails e store.old store.new) }
     ensures faults { CountsFault (fault_in sweep_fault result) (shown.view store.old) (shown.view store.new) }
+    ensures reads { (shown.view store.new).reads ≤ (shown.view store.old).reads + 105 }
     ensures looks { LooksOnly store.old store.new }
 {
     let axis = selected(store, id);
@@ -75,6 +76,7 @@ pub(crate) fn next_named<P: Pages>(
     ensures outside { shown.ForBook store.old (λ total book. IfErr result IsOutside) }
     ensures cause { IfErr result (λ e. ReadFails e store.old store.new) }
     ensures faults { CountsFault (fault_in sweep_fault result) (shown.view store.old) (shown.view store.new) }
+    ensures reads { (shown.view store.new).reads ≤ (shown.view store.old).reads + 105 }
     ensures looks { LooksOnly store.old store.new }
 {
     let Some(info) = store.series(name) else {

@@ -1,7 +1,8 @@
 //! The next clear of a rule that frees pages.
-ghost use Rattle.std.specs.Prelude.{◌≡◌, ◌<◌, ◌/◌, Option, Some, length, IfOk, IfErr, IfSome};
+ghost use Rattle.std.specs.Prelude.{◌≡◌, ◌<◌, ◌≤◌, ◌+◌, ◌*◌, ◌/◌, Option, Some, length, IfOk, IfErr, IfSome};
 ghost use Rattle.chart_world.specs.Faults.{CountsFault, fault_in};
 ghost use Rattle.series_book.specs.Edits.{IsEdit};
+ghost use Rattle.series_book.specs.declared.limits.TheConstants.{MOST_SERIES};
 ghost use Rattle.series_store.specs.Shown as shown;
 ghost use Rattle.retention.specs.declared.rule.Rule.TheVariants.{Free};
 ghost use Rattle.retention.specs.Drops.{IsOldest};
@@ -27,6 +28,7 @@ fn first_of<P: Pages>(store: &mut Store<P>, id: u16) -> Result<Option<Oldest>, S
     ensures outside { shown.ForSeries store.old id (λ total book series. IfErr result IsOutside) }
     ensures cause { IfErr result (λ e. ReadFails e store.old store.new) }
     ensures faults { CountsFault (fault_in sweep_fault result) (shown.view store.old) (shown.view store.new) }
+    ensures reads { (shown.view store.new).reads ≤ (shown.view store.old).reads + 105 }
     ensures looks { LooksOnly store.old store.new }
 {
     let axis = selected(store, id);
@@ -63,6 +65,7 @@ fn oldest<P: Pages>(store: &mut Store<P>) -> Result<Option<Oldest>, SweepError>
     ensures outside { shown.ForBook store.old (λ total book. IfErr result IsOutside) }
     ensures cause { IfErr result (λ e. ReadFails e store.old store.new) }
     ensures faults { CountsFault (fault_in sweep_fault result) (shown.view store.old) (shown.view store.new) }
+    ensures reads { (shown.view store.new).reads ≤ (shown.view store.old).reads + 105 * MOST_SERIES }
     ensures looks { LooksOnly store.old store.new }
 {
     let count = store.len() as u16;
@@ -104,6 +107,7 @@ pub(crate) fn next_free<P: Pages>(
     ensures outside { shown.ForBook store.old (λ total book. IfErr result IsOutside) }
     ensures cause { IfErr result (λ e. ReadFails e store.old store.new) }
     ensures faults { CountsFault (fault_in sweep_fault result) (shown.view store.old) (shown.view store.new) }
+    ensures reads { (shown.view store.new).reads ≤ (shown.view store.old).reads + 105 * MOST_SERIES }
     ensures looks { LooksOnly store.old store.new }
 {
     let free = store.total() - store.used();

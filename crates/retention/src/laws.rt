@@ -1,5 +1,5 @@
 //! What follows from the definitions. The functions do nothing: their contracts are the laws.
-ghost use Rattle.std.specs.Prelude.{◌≡◌, ℕ, ℤ, ◌+◌, ◌-◌, ◌<◌, ◌≤◌, ◌<ℤ◌, ◌↔◌, List, [], ◌∷◌, None, Some, length};
+ghost use Rattle.std.specs.Prelude.{◌≡◌, ℕ, ℤ, ◌+◌, ◌-◌, ◌<◌, ◌≤◌, ◌<ℤ◌, ◌↔◌, List, [], ◌∷◌, None, Some, drop, length};
 ghost use Rattle.series_book.specs.declared.one_series.Series.{Series};
 ghost use Rattle.series_book.specs.Books.{IsBook};
 ghost use Rattle.series_book.specs.EditLists.{book_behind};
@@ -7,7 +7,7 @@ ghost use Rattle.series_book.specs.Edits.{apply};
 ghost use Rattle.series_book.specs.Pages.{pages_of};
 ghost use Rattle.retention.specs.declared.rule.Rule.{Rule};
 ghost use Rattle.retention.specs.declared.rule.Rule.TheVariants.{Before, Last, Free};
-ghost use Rattle.retention.specs.Drops.{AreAccepted, ForNamed, HasFree, HoldsNothing, IsOldest, LosesIn, book_swept};
+ghost use Rattle.retention.specs.Drops.{AreAccepted, ForNamed, HasFree, HoldsNothing, IsOldest, LosesIn, book_stepped, book_swept};
 ghost use Rattle.retention.specs.Sweeps.{Found, clear_page, oldest, slot_time, slots_before, sweeps};
 
 /// Each clear of a rule is accepted, one after the other, and leaves a book.
@@ -48,4 +48,13 @@ pub fn free_goes_on()
     ensures nothing { (total pages : ℕ) (book : List Series) → oldest book ≡ None → sweeps total book (Free pages) ≡ [] }
     ensures next { (total pages : ℕ) (book : List Series) (found : Found) → IsBook book → total - pages_of book < pages → oldest book ≡ Some found
         → sweeps total book (Free pages) ≡ clear_page found ∷ sweeps total (book_behind book (apply book total (clear_page found))) (Free pages) }
+{}
+
+/// Steps put together are the sweep: behind some first clears the rule makes the later ones of the same list, two steps come
+/// to one of as many clears, and one that isn't cut is the sweep.
+pub fn steps_go_on()
+    ensures rest { (total : ℕ) (book : List Series) (rule : Rule) (most : ℕ) → IsBook book → sweeps total (book_stepped total book rule most) rule ≡ drop most (sweeps total book rule) }
+    ensures together { (total : ℕ) (book : List Series) (rule : Rule) (first second : ℕ) → IsBook book → book_stepped total (book_stepped total book rule first) rule second ≡ book_stepped total book rule (first + second) }
+    ensures all { (total : ℕ) (book : List Series) (rule : Rule) (most : ℕ) → length (sweeps total book rule) ≤ most → book_stepped total book rule most ≡ book_swept total book rule }
+    ensures books { (total : ℕ) (book : List Series) (rule : Rule) (most : ℕ) → IsBook book → IsBook (book_stepped total book rule most) }
 {}

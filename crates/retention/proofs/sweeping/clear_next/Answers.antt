@@ -1,4 +1,4 @@
-use Rattle.std.proofs.Common.{Option, IfSome, ap, arith, sym, subst}
+use Rattle.std.proofs.Common.{Option, IfSome, ap, sym, subst}
 use Rattle.block_disk.specs.View.{Image}
 use Rattle.series_store.specs.Shown as shown
 use Rattle.stored_book.specs.Standing.{StandsForBook}
@@ -6,16 +6,40 @@ use Rattle.std.proofs.Common.{None}
 use Rattle.page_space.specs.declared.superblock.Superblock.{Superblock}
 use Rattle.series_book.specs.Edits.{IsEdit}
 use Rattle.series_book.specs.declared.edits.Edit.{Edit}
-use Rattle.retention.proofs.LookLemmas.{carries_looks, carries_then, read_later}
+use Rattle.retention.proofs.LookLemmas.{carries_looks, carries_then, commits_looks, commits_then, read_later}
 use Rattle.chart_world.specs.FaultLaws.{counts_then, disk_stays}
 use Rattle.retention.specs.Faults.{sweep_fault}
 use Rattle.retention.proofs.SweepLemmas.{err_ok, looks_sound, next_none, next_some, ok_apart, step_done, step_fails, step_none, step_stops}
 use Rattle.retention.proofs.sweeping.clear_next.Goals as goal
 
+-- commits
+
+pub returns-in-Err-clause-commits : goal.returns-in-Err-clause-commits
+returns-in-Err-clause-commits g c = commits_looks 1 _ _ _ _ _ _ _ _ _ _ c.in-Err.ensures.looks
+
+pub returns-in-Err-clause-idle : goal.returns-in-Err-clause-idle
+returns-in-Err-clause-idle g c = λ is. commits_looks 0 _ _ _ _ _ _ _ _ _ _ c.in-Err.ensures.looks
+
+pub returns-in_default-clause-commits : goal.returns-in_default-clause-commits
+returns-in_default-clause-commits g c = commits_looks 1 _ _ _ _ _ _ _ _ _ _ c.in-Ok.ensures.looks
+
+pub returns-in_default-clause-idle : goal.returns-in_default-clause-idle
+returns-in_default-clause-idle g c = λ is. commits_looks 0 _ _ _ _ _ _ _ _ _ _ c.in-Ok.ensures.looks
+
+pub returns-in-Ok-do_clear-clause-commits : goal.returns-in-Ok-do_clear-clause-commits
+returns-in-Ok-do_clear-clause-commits g c =
+    commits_then 0 1 (shown.view c.args.store.now) (shown.view c.next_clear.new.store) (shown.view c.do_clear.new.store) (commits_looks 0 _ _ _ _ _ _ _ _ _ _ c.in-Ok.ensures.looks) c.in-Ok-do_clear.ensures.commits
+
+pub returns-clause-commits : goal.returns-clause-commits
+returns-clause-commits g c =
+    commits_then 0 1 (shown.view c.args.store.now) (shown.view c.next_clear.new.store) (shown.view c.do_clear.new.store) (commits_looks 0 _ _ _ _ _ _ _ _ _ _ c.in-Ok.ensures.looks) c.in-Err-do_clear.ensures.commits
+
+-- what was done
+
 pub returns-in-Err-clause-steps : goal.returns-in-Err-clause-steps
 returns-in-Err-clause-steps g c = λ total book told stands.
     step_fails total book c.args.rule.now c.in-Err.error (shown.view c.args.store.now) (shown.view c.next_clear.new.store) (g.met.P.Pages.rests (shown.pages c.args.store.now) c.requires.sound) stands
-    (c.in-Err.ensures.looks.image told) c.in-Err.ensures.looks.time (c.in-Err.ensures.outside total book told stands)
+    (c.in-Err.ensures.looks.image told) c.in-Err.ensures.looks.time (c.in-Err.ensures.outside total book told stands) (commits_looks 0 _ _ _ _ _ _ _ _ _ _ c.in-Err.ensures.looks)
 
 pub returns-in-Ok-do_clear-clause-steps : goal.returns-in-Ok-do_clear-clause-steps
 returns-in-Ok-do_clear-clause-steps g c = λ total book told stands.
@@ -24,6 +48,7 @@ returns-in-Ok-do_clear-clause-steps g c = λ total book told stands.
     let next = next_some total book c.args.rule.now c.in-Ok.next c.in-Some.clear c.in-Some.is (c.in-Ok.ensures.next total book told stands) in
     step_done total book c.args.rule.now c.in-Some.clear next c.in-Ok-do_clear.field-0 (shown.view c.args.store.now) (shown.view c.next_clear.new.store) (shown.view c.do_clear.new.store) (g.met.P.Pages.rests (shown.pages c.args.store.now) c.requires.sound) stands
     c.in-Ok.ensures.looks.time (c.in-Ok-do_clear.ensures.done total book (c.in-Ok.ensures.looks.told told) stands' next.after next.slots next.accepted)
+    (returns-in-Ok-do_clear-clause-commits g c)
 
 pub returns-clause-steps : goal.returns-clause-steps
 returns-clause-steps g c = λ total book told stands.
@@ -32,6 +57,7 @@ returns-clause-steps g c = λ total book told stands.
     let next = next_some total book c.args.rule.now c.in-Ok.next c.in-Some.clear c.in-Some.is (c.in-Ok.ensures.next total book told stands) in
     step_stops total book c.args.rule.now c.in-Some.clear next c.in-Err-do_clear.error (shown.view c.args.store.now) (shown.view c.next_clear.new.store) (shown.view c.do_clear.new.store) (g.met.P.Pages.rests (shown.pages c.args.store.now) c.requires.sound) stands
     c.in-Ok.ensures.looks.time (c.in-Err-do_clear.ensures.done total book (c.in-Ok.ensures.looks.told told) stands' next.after next.slots next.accepted)
+    (returns-clause-commits g c)
 
 pub returns-in-Ok-do_clear-clause-faults : goal.returns-in-Ok-do_clear-clause-faults
 returns-in-Ok-do_clear-clause-faults g c = counts_then None (shown.view c.args.store.now) (shown.view c.next_clear.new.store) (shown.view c.do_clear.new.store) c.in-Ok.ensures.faults c.in-Ok-do_clear.ensures.faults
@@ -48,12 +74,6 @@ do_clear-requires-clause-is_edit g c = let P : Option Edit → Type 0 = λ x. If
 pub returns-in-Err-clause-carries : goal.returns-in-Err-clause-carries
 returns-in-Err-clause-carries g c = carries_looks _ _ _ _ _ _ _ _ _ _ c.in-Err.ensures.looks
 
-pub returns-in-Err-clause-syncs : goal.returns-in-Err-clause-syncs
-returns-in-Err-clause-syncs g c = omega (arith, c.in-Err.ensures.looks.syncs)
-
-pub returns-in-Err-clause-idle : goal.returns-in-Err-clause-idle
-returns-in-Err-clause-idle g c = λ is. omega (arith, c.in-Err.ensures.looks.syncs)
-
 pub returns-in-Err-clause-cause : goal.returns-in-Err-clause-cause
 returns-in-Err-clause-cause g c = c.in-Err.ensures.cause
 
@@ -66,16 +86,10 @@ returns-in-Err-clause-sound_for g c = looks_sound c.in-Err.error (shown.view c.n
 pub returns-in_default-clause-steps : goal.returns-in_default-clause-steps
 returns-in_default-clause-steps g c = λ total book told stands.
     step_none total book c.args.rule.now (shown.view c.args.store.now) (shown.view c.next_clear.new.store) (g.met.P.Pages.rests (shown.pages c.args.store.now) c.requires.sound) stands
-    (c.in-Ok.ensures.looks.image told) c.in-Ok.ensures.looks.time (next_none total book c.args.rule.now c.in-Ok.next c.in_default.is (c.in-Ok.ensures.next total book told stands))
+    (c.in-Ok.ensures.looks.image told) c.in-Ok.ensures.looks.time (commits_looks 0 _ _ _ _ _ _ _ _ _ _ c.in-Ok.ensures.looks) (next_none total book c.args.rule.now c.in-Ok.next c.in_default.is (c.in-Ok.ensures.next total book told stands))
 
 pub returns-in_default-clause-carries : goal.returns-in_default-clause-carries
 returns-in_default-clause-carries g c = carries_looks _ _ _ _ _ _ _ _ _ _ c.in-Ok.ensures.looks
-
-pub returns-in_default-clause-syncs : goal.returns-in_default-clause-syncs
-returns-in_default-clause-syncs g c = omega (arith, c.in-Ok.ensures.looks.syncs)
-
-pub returns-in_default-clause-idle : goal.returns-in_default-clause-idle
-returns-in_default-clause-idle g c = λ is. omega (arith, c.in-Ok.ensures.looks.syncs)
 
 pub returns-in_default-clause-faults : goal.returns-in_default-clause-faults
 returns-in_default-clause-faults g c = c.in-Ok.ensures.faults
@@ -86,9 +100,6 @@ returns-in_default-clause-sound g c = c.in-Ok.ensures.looks.fit c.requires.sound
 pub returns-in-Ok-do_clear-clause-carries : goal.returns-in-Ok-do_clear-clause-carries
 returns-in-Ok-do_clear-clause-carries g c = carries_then _ _ _ _ _ _ _ _ _ _ _ _ _ _ _ (carries_looks _ _ _ _ _ _ _ _ _ _ c.in-Ok.ensures.looks) c.in-Ok-do_clear.ensures.carries
 
-pub returns-in-Ok-do_clear-clause-syncs : goal.returns-in-Ok-do_clear-clause-syncs
-returns-in-Ok-do_clear-clause-syncs g c = omega (arith, c.in-Ok.ensures.looks.syncs, c.in-Ok-do_clear.ensures.syncs)
-
 pub returns-in-Ok-do_clear-clause-idle : goal.returns-in-Ok-do_clear-clause-idle
 returns-in-Ok-do_clear-clause-idle g c = λ is. absurd (ok_apart is)
 
@@ -97,9 +108,6 @@ returns-in-Ok-do_clear-clause-sound g c = c.in-Ok-do_clear.ensures.sound
 
 pub returns-clause-carries : goal.returns-clause-carries
 returns-clause-carries g c = carries_then _ _ _ _ _ _ _ _ _ _ _ _ _ _ _ (carries_looks _ _ _ _ _ _ _ _ _ _ c.in-Ok.ensures.looks) c.in-Err-do_clear.ensures.carries
-
-pub returns-clause-syncs : goal.returns-clause-syncs
-returns-clause-syncs g c = omega (arith, c.in-Ok.ensures.looks.syncs, c.in-Err-do_clear.ensures.syncs)
 
 pub returns-clause-idle : goal.returns-clause-idle
 returns-clause-idle g c = λ is. absurd (err_ok _ _ is)

@@ -1,4 +1,4 @@
-use Rattle.std.proofs.Common.{sym, subst}
+use Rattle.std.proofs.Common.{sym, subst, arith}
 use Rattle.series_store.specs.Shown as shown
 use Rattle.retention.specs.Sweeping.{IsReadCause, IsSoundFor}
 use Rattle.retention.specs.declared.sweep_error.SweepError.{SweepError}
@@ -40,3 +40,9 @@ returns-in-Err-clause-faults g c =
     let new = c.edit.new.self in
     let P : SweepError → Type 0 = λ e. CountsFault (sweep_fault e) (shown.view store) (shown.view new) in
     subst P (sym c.clear_error.ensures) (clear_counts c.in-Err.cause (shown.IsTold store) (shown.numbers store) (shown.view store) (shown.view new) c.edit.ensures.moves.beside c.in-Err.ensures.quiet_err c.in-Err.ensures.cause)
+
+pub returns-in-Ok-clause-commits : goal.returns-in-Ok-clause-commits
+returns-in-Ok-clause-commits g c = record { syncs = omega (arith, c.edit.ensures.moves.syncs.high); writes = omega (arith, c.edit.ensures.moves.writes.high) }
+
+pub returns-in-Err-clause-commits : goal.returns-in-Err-clause-commits
+returns-in-Err-clause-commits g c = record { syncs = omega (arith, c.edit.ensures.moves.syncs.high); writes = omega (arith, c.edit.ensures.moves.writes.high) }

@@ -1,51 +1,65 @@
-use Rattle.std.proofs.Common.{◌≡◌, true, false, refl, sym, ◌∙◌}
-use Rattle.retention.proofs.SweepLemmas.{not_unknown, true_false}
+use Rattle.series_store.specs.Shown as shown
+use Rattle.retention.specs.declared.sweep_error.SweepError.TheVariants.{UnknownSeries}
+use Rattle.retention.proofs.StepLemmas.{err_moves, whole_commits, whole_moments, whole_stops, whole_swept}
+use Rattle.retention.proofs.SweepLemmas.{ok_err}
 use Rattle.retention.proofs.sweeping.sweep.Goals as goal
 
-pub returns-then-names_none-clause-unknown : goal.returns-then-names_none-clause-unknown
-returns-then-names_none-clause-unknown g c = λ total book told stands. (λ same. c.names_none.ensures.none total book told stands c.if-names_none.true, λ names. refl)
-
-pub returns-then-names_none-clause-stops : goal.returns-then-names_none-clause-stops
-returns-then-names_none-clause-stops g c = λ total book told stands. c.names_none.ensures.none total book told stands c.if-names_none.true
-
-pub returns-clause-unknown : goal.returns-clause-unknown
-returns-clause-unknown g c = λ total book told stands. (
-  λ same. absurd (not_unknown c.sweep_all.result c.sweep_all.ensures.known same),
-  λ names. let both : true ≡ false = sym (c.names_none.ensures.some total book told stands names) ∙ c.if-names_none.false in absurd (true_false both),
+pub returns-in-Ok-clause-unknown : goal.returns-in-Ok-clause-unknown
+returns-in-Ok-clause-unknown g c = λ total book told stands. (
+  λ same. absurd (ok_err _ UnknownSeries same),
+  λ names. absurd (ok_err c.in-Ok.swept UnknownSeries ((c.in-Ok.ensures.unknown total book told stands).1 names)),
 )
 
-pub returns-clause-untouched : goal.returns-clause-untouched
-returns-clause-untouched g c = λ same. absurd (not_unknown c.sweep_all.result c.sweep_all.ensures.known same)
+pub returns-in-Ok-clause-untouched : goal.returns-in-Ok-clause-untouched
+returns-in-Ok-clause-untouched g c = λ same. absurd (ok_err _ UnknownSeries same)
 
-pub returns-clause-done : goal.returns-clause-done
-returns-clause-done g c = c.sweep_all.ensures.done
+pub returns-in-Ok-clause-done : goal.returns-in-Ok-clause-done
+returns-in-Ok-clause-done g c = λ total book told stands.
+    whole_swept total book c.args.rule.now c.in-Ok.swept _ (shown.image c.sweep_some.new.store) stands.store.is_book c.from.ensures (c.in-Ok.ensures.done total book told stands)
 
-pub returns-clause-stops : goal.returns-clause-stops
-returns-clause-stops g c = c.sweep_all.ensures.stops
+pub returns-in-Ok-clause-moments : goal.returns-in-Ok-clause-moments
+returns-in-Ok-clause-moments g c = λ total book told stands. whole_moments total book c.args.rule.now (shown.view c.args.store.now) (shown.view c.sweep_some.new.store) stands.store.is_book (c.in-Ok.ensures.moments total book told stands)
 
-pub returns-clause-moments : goal.returns-clause-moments
-returns-clause-moments g c = c.sweep_all.ensures.moments
+pub returns-in-Ok-clause-carries : goal.returns-in-Ok-clause-carries
+returns-in-Ok-clause-carries g c = c.in-Ok.ensures.carries
 
-pub returns-clause-carries : goal.returns-clause-carries
-returns-clause-carries g c = c.sweep_all.ensures.carries
+pub returns-in-Ok-clause-commits : goal.returns-in-Ok-clause-commits
+returns-in-Ok-clause-commits g c = λ total book told stands. whole_commits total book c.args.rule.now (shown.view c.args.store.now) (shown.view c.sweep_some.new.store) (c.in-Ok.ensures.commits total book told stands)
 
-pub returns-clause-syncs : goal.returns-clause-syncs
-returns-clause-syncs g c = c.sweep_all.ensures.syncs
+pub returns-in-Ok-clause-each : goal.returns-in-Ok-clause-each
+returns-in-Ok-clause-each g c = c.in-Ok.ensures.each
 
-pub returns-clause-cause : goal.returns-clause-cause
-returns-clause-cause g c = c.sweep_all.ensures.cause
+pub returns-in-Ok-clause-faults : goal.returns-in-Ok-clause-faults
+returns-in-Ok-clause-faults g c = c.in-Ok.ensures.faults
 
-pub returns-clause-faults : goal.returns-clause-faults
-returns-clause-faults g c = c.sweep_all.ensures.faults
+pub returns-in-Ok-clause-sound : goal.returns-in-Ok-clause-sound
+returns-in-Ok-clause-sound g c = c.in-Ok.ensures.sound
 
-pub returns-clause-sound : goal.returns-clause-sound
-returns-clause-sound g c = c.sweep_all.ensures.sound
+pub returns-in-Err-clause-unknown : goal.returns-in-Err-clause-unknown
+returns-in-Err-clause-unknown g c = λ total book told stands.
+    let known = c.in-Err.ensures.unknown total book told stands in
+    (λ same. known.0 (err_moves c.in-Err.error UnknownSeries same), λ names. err_moves c.in-Err.error UnknownSeries (known.1 names))
 
-pub returns-clause-sound_for : goal.returns-clause-sound_for
-returns-clause-sound_for g c = c.sweep_all.ensures.sound_for
+pub returns-in-Err-clause-untouched : goal.returns-in-Err-clause-untouched
+returns-in-Err-clause-untouched g c = λ same. c.in-Err.ensures.untouched (err_moves c.in-Err.error UnknownSeries same)
 
-pub returns-then-names_none-clause-untouched : goal.returns-then-names_none-clause-untouched
-returns-then-names_none-clause-untouched g c = λ same. refl
+pub returns-in-Err-clause-stops : goal.returns-in-Err-clause-stops
+returns-in-Err-clause-stops g c = λ total book told stands. whole_stops c.in-Err.error total book c.args.rule.now (shown.image c.sweep_some.new.store) stands.store.is_book (c.in-Err.ensures.stops total book told stands)
 
-pub returns-then-names_none-clause-sound_for : goal.returns-then-names_none-clause-sound_for
-returns-then-names_none-clause-sound_for g c = c.requires.sound
+pub returns-in-Err-clause-moments : goal.returns-in-Err-clause-moments
+returns-in-Err-clause-moments g c = λ total book told stands. whole_moments total book c.args.rule.now (shown.view c.args.store.now) (shown.view c.sweep_some.new.store) stands.store.is_book (c.in-Err.ensures.moments total book told stands)
+
+pub returns-in-Err-clause-carries : goal.returns-in-Err-clause-carries
+returns-in-Err-clause-carries g c = c.in-Err.ensures.carries
+
+pub returns-in-Err-clause-commits : goal.returns-in-Err-clause-commits
+returns-in-Err-clause-commits g c = λ total book told stands. whole_commits total book c.args.rule.now (shown.view c.args.store.now) (shown.view c.sweep_some.new.store) (c.in-Err.ensures.commits total book told stands)
+
+pub returns-in-Err-clause-cause : goal.returns-in-Err-clause-cause
+returns-in-Err-clause-cause g c = c.in-Err.ensures.cause
+
+pub returns-in-Err-clause-faults : goal.returns-in-Err-clause-faults
+returns-in-Err-clause-faults g c = c.in-Err.ensures.faults
+
+pub returns-in-Err-clause-sound_for : goal.returns-in-Err-clause-sound_for
+returns-in-Err-clause-sound_for g c = c.in-Err.ensures.sound_for
