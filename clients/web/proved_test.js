@@ -48,6 +48,7 @@ function drawn(client, stream, size) {
 
 const SHARED = {
   done: ["slots"], refused: ["number", "a", "b", "name", "meaning"], opened: ["session", "cache"], closed: ["session"], live: ["session", "on"],
+  catalog: ["total", "used"], values: ["series", "next"], swept: ["clears", "used", "more"],
   view: ["session", "series", "w", "h", "t0", "t1", "lo", "hi", "start", "step", "slots"], rows: ["session", "w", "h", "lo", "hi"],
 }; // prettier-ignore
 const told = (found) => found.map(({ frame, ...rest }) => [frame.kind, SHARED[frame.kind].map((name) => frame[name]), rest]);

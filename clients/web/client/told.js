@@ -31,7 +31,7 @@ export function readAxis(fields) {
 }
 
 /** The least and the greatest stored value, or null where there is none. */
-export function readSpan(fields, slots) {
+function readSpan(fields, slots) {
   const size = MOST * fields.byte(0, slots > 0 ? 1 : 0);
   const least = fields.signed(-size, size);
   const greatest = fields.signed(least, size);

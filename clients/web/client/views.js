@@ -1,6 +1,7 @@
 /** What views and rows show, and what a session's client keeps for the next view, by the rules of docs/FORMATS.md. */
-import { MOST, MOST_SLOTS, Stopped } from "./fields.js";
+import { MOST, Stopped } from "./fields.js";
 import { Picture, SMALL, divided, greatest, heightOf, isWithin, least } from "./picture.js";
+import { readAxis } from "./told.js";
 
 const EXACT = 2 ** 53; // up to this size whole numbers are exact
 const SIZES = Array.from({ length: 36 }, (_, level) => 2 ** level); // the slots of a key, by its level
@@ -111,11 +112,7 @@ export class View {
     fields.require(this.t0 < this.t1, 8);
     this.lo = fields.signed(-MOST, MOST);
     this.hi = fields.signed(this.lo, MOST);
-    this.start = fields.signed(-MOST, MOST);
-    this.step = fields.long(1, 2 ** 31);
-    this.slots = fields.unsigned(MOST_SLOTS);
-    const lastTime = BigInt(this.start) + BigInt(this.slots - 1) * BigInt(this.step);
-    fields.require(this.slots === 0 || lastTime <= 2 * MOST, 8);
+    Object.assign(this, readAxis(fields));
     this.has = fields.byte(0, this.slots > 0 ? 1 : 0);
     const size = MOST * this.has;
     this.min = fields.signed(-size, size);

@@ -7,7 +7,7 @@ use Rattle.chart_client.specs.Holdings.{holding_of}
 use Rattle.chart_client.specs.declared.errors.ClientError.TheVariants.{Missing, BadCoefficient, UnknownSession, NoMemory}
 use Rattle.chart_client.specs.declared.holding.Holding.{Holding}
 use Rattle.chart_frames.specs.declared.frame.Frame.{Frame}
-use Rattle.chart_frames.specs.declared.frame.Frame.TheVariants.{Done, Refused, Opened, Closed, View as ViewOf, Rows, Live as LiveOf}
+use Rattle.chart_frames.specs.declared.frame.Frame.TheVariants.{Done, Refused, Opened, Closed, View as ViewOf, Rows, Live as LiveOf, Report}
 use Rattle.chart_frames.specs.declared.frame.ViewFrame.{ViewFrame}
 use Rattle.chart_service.proofs.Lasts.{somebody}
 use Rattle.chart_service.specs.Replies.{AnswersBy, MovesLast, MovesIn, RepliesToLine}
@@ -33,6 +33,7 @@ IsAside (Closed session) ss = ⊥
 IsAside (ViewOf view) ss = ⊥
 IsAside (Rows rows) ss = ⊥
 IsAside (LiveOf n on) ss = (s : Session) × (session_of n ss ≡ Some s)
+IsAside (Report report) ss = ⊥
 
 -- ---- it changes nothing, and draws nothing
 
@@ -47,6 +48,7 @@ aside_draws (Closed session) old new holdings aside same mirrors = absurd aside
 aside_draws (ViewOf view) old new holdings aside same mirrors = absurd aside
 aside_draws (Rows rows) old new holdings aside same mirrors = absurd aside
 aside_draws (LiveOf n on) old new holdings aside same mirrors = λ drawing now accepts. (mirrors_on old new holdings now same accepts.2 mirrors, accepts.0)
+aside_draws (Report report) old new holdings aside same mirrors = absurd aside
 
 refused_view : (number a b : ℕ) (view : ViewFrame) → Refused number a b ≡ ViewOf view → ⊥
 refused_view number a b view is = cc
@@ -97,6 +99,7 @@ aside_accepts (LiveOf n on) ss holdings aside mirrors = λ e. elim e as (λ x. R
   | UnknownSession m ↦ λ r. absurd (is_held n m ss holdings aside.0 aside.1 mirrors r.0 r.1)
   | NoMemory ↦ λ r. refl
 ]
+aside_accepts (Report report) ss holdings aside mirrors = absurd aside
 
 -- ---- the answers to such lines are so
 

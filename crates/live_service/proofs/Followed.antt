@@ -4,7 +4,7 @@ use Rattle.std.specs.Prelude.{All, is_none, nat_lt, slice_get}
 use Rattle.std.proofs.lemmas.Bool.{eqb-true, eq-eqb, both_ways}
 use Rattle.std.proofs.lemmas.List.Elements.{All-filter, All-weaker, filter_passes}
 use Rattle.chart_frames.specs.declared.frame.Frame.{Frame}
-use Rattle.chart_frames.specs.declared.frame.Frame.TheVariants.{Done, Refused, Opened, Closed, View as ViewOf, Rows, Live as LiveOf}
+use Rattle.chart_frames.specs.declared.frame.Frame.TheVariants.{Done, Refused, Opened, Closed, View as ViewOf, Rows, Live as LiveOf, Report}
 use Rattle.chart_grid.specs.declared.axis.Axis.{Axis}
 use Rattle.chart_grid.specs.declared.grid.Grid.{Grid}
 use Rattle.chart_service.proofs.Others.{viewed_others, without_others}
@@ -254,6 +254,7 @@ pushed_can (EditMeant name) (Closed session) book ss followed all = no_number ss
 pushed_can (EditMeant name) (ViewOf view) book ss followed all = no_number ss
 pushed_can (EditMeant name) (Rows rows) book ss followed all = no_number ss
 pushed_can (EditMeant name) (LiveOf session on) book ss followed all = no_number ss
+pushed_can (EditMeant name) (Report report) book ss followed all = no_number ss
 
 -- before the first line
 pub first_well : (live : LiveState) → live.followed ≡ [] → live.pending ≡ [] → FollowsWell live

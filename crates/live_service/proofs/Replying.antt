@@ -5,7 +5,7 @@ use Rattle.block_disk.specs.Counts.{HasRisen}
 use Rattle.block_disk.specs.View.{Image, View, Passes}
 use Rattle.block_disk.proofs.Passing.{passes_weaker}
 use Rattle.chart_frames.specs.declared.frame.Frame.{Frame}
-use Rattle.chart_frames.specs.declared.frame.Frame.TheVariants.{Done, Refused, Opened, Closed, View as ViewOf, Rows, Live as LiveOf}
+use Rattle.chart_frames.specs.declared.frame.Frame.TheVariants.{Done, Refused, Opened, Closed, View as ViewOf, Rows, Live as LiveOf, Report}
 use Rattle.chart_service.specs.Replies.{Replied, line_text, refused as refused_by}
 use Rattle.chart_service.specs.State.{State}
 use Rattle.chart_service.specs.ReadingBlocks.{ReadsLine, ReadsRead}
@@ -46,6 +46,7 @@ changes_in book names (Edit name) (Closed session) series says is = is
 changes_in book names (Edit name) (ViewOf view) series says is = is
 changes_in book names (Edit name) (Rows rows) series says is = is
 changes_in book names (Edit name) (LiveOf session on) series says is = is
+changes_in book names (Edit name) (Report report) series says is = is
 
 -- ---- a line that asks nothing of live views
 

@@ -57,6 +57,54 @@ frames-preserved-in_ok-draw_frame-in-Some-2 g c =
       disk = stays_then (view c.args.streams.now) (view c.frames.streams) (view c.draw_frame.new.streams) inv.disk made.disk;
     }
 
+pub frames-preserved-in_ok-draw_frame-in-Some-3 : goal.frames-preserved-in_ok-draw_frame-in-Some-3
+frames-preserved-in_ok-draw_frame-in-Some-3 g c =
+    let sent = g.S.Streams.sent in
+    let view = g.S.Disk.view in
+    let inv = c.frames.invariant in
+    let made = c.in_ok-draw_frame-in-Some.ensures in
+    let takes = takes_so c.frames.decoder c.next.new.self c.in_ok-frame.field-0 c.in-Some.frame c.in_ok-frame.ensures.answers c.in-Some.is in
+    record {
+      drawn = drawn_frame c.args.every c.args.decoder.now c.frames.decoder c.next.new.self c.in-Some.frame c.args.client.now c.frames.client c.draw_frame.new.client
+          (sent c.args.streams.now) (sent c.frames.streams) (sent c.draw_frame.new.streams) takes made.done inv.drawn;
+      send_faults = made.quiet_sends (done_is_no_err _ _) ∙ inv.send_faults;
+      left = made.left ∙ inv.left;
+      read_faults = made.read_faults ∙ inv.read_faults;
+      disk = stays_then (view c.args.streams.now) (view c.frames.streams) (view c.draw_frame.new.streams) inv.disk made.disk;
+    }
+
+pub frames-preserved-in_ok-draw_frame-in-Some-4 : goal.frames-preserved-in_ok-draw_frame-in-Some-4
+frames-preserved-in_ok-draw_frame-in-Some-4 g c =
+    let sent = g.S.Streams.sent in
+    let view = g.S.Disk.view in
+    let inv = c.frames.invariant in
+    let made = c.in_ok-draw_frame-in-Some.ensures in
+    let takes = takes_so c.frames.decoder c.next.new.self c.in_ok-frame.field-0 c.in-Some.frame c.in_ok-frame.ensures.answers c.in-Some.is in
+    record {
+      drawn = drawn_frame c.args.every c.args.decoder.now c.frames.decoder c.next.new.self c.in-Some.frame c.args.client.now c.frames.client c.draw_frame.new.client
+          (sent c.args.streams.now) (sent c.frames.streams) (sent c.draw_frame.new.streams) takes made.done inv.drawn;
+      send_faults = made.quiet_sends (done_is_no_err _ _) ∙ inv.send_faults;
+      left = made.left ∙ inv.left;
+      read_faults = made.read_faults ∙ inv.read_faults;
+      disk = stays_then (view c.args.streams.now) (view c.frames.streams) (view c.draw_frame.new.streams) inv.disk made.disk;
+    }
+
+pub frames-preserved-in_ok-draw_frame-in-Some-5 : goal.frames-preserved-in_ok-draw_frame-in-Some-5
+frames-preserved-in_ok-draw_frame-in-Some-5 g c =
+    let sent = g.S.Streams.sent in
+    let view = g.S.Disk.view in
+    let inv = c.frames.invariant in
+    let made = c.in_ok-draw_frame-in-Some.ensures in
+    let takes = takes_so c.frames.decoder c.next.new.self c.in_ok-frame.field-0 c.in-Some.frame c.in_ok-frame.ensures.answers c.in-Some.is in
+    record {
+      drawn = drawn_frame c.args.every c.args.decoder.now c.frames.decoder c.next.new.self c.in-Some.frame c.args.client.now c.frames.client c.draw_frame.new.client
+          (sent c.args.streams.now) (sent c.frames.streams) (sent c.draw_frame.new.streams) takes made.done inv.drawn;
+      send_faults = made.quiet_sends (done_is_no_err _ _) ∙ inv.send_faults;
+      left = made.left ∙ inv.left;
+      read_faults = made.read_faults ∙ inv.read_faults;
+      disk = stays_then (view c.args.streams.now) (view c.frames.streams) (view c.draw_frame.new.streams) inv.disk made.disk;
+    }
+
 pub frames-smaller : goal.frames-smaller
 frames-smaller g c =
     shorter c.frames.decoder c.next.new.self c.in-Some.frame c.length_is_told.ensures

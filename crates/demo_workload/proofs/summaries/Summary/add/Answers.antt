@@ -39,3 +39,8 @@ pub returns-in-Live-clause-summary : goal.returns-in-Live-clause-summary
 returns-in-Live-clause-summary c = λ frames pictures is.
     let now : Summary = c.args.self.now in
     added_so frames pictures c.args.frame.now c.args.picture.now _ now now.done now.refused now.views now.sent c.black.result is c.in-Live.is (sym (add-zero now.done)) (sym (add-zero now.refused)) (sym (add-zero now.views)) (sym (add-zero now.sent)) c.black.ensures.pixels
+
+pub returns-in-Report-clause-summary : goal.returns-in-Report-clause-summary
+returns-in-Report-clause-summary c = λ frames pictures is.
+    let now : Summary = c.args.self.now in
+    added_so frames pictures c.args.frame.now c.args.picture.now _ now now.done now.refused now.views now.sent c.black.result is c.in-Report.is (sym (add-zero now.done)) (sym (add-zero now.refused)) (sym (add-zero now.views)) (sym (add-zero now.sent)) c.black.ensures.pixels
