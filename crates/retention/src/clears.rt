@@ -18,7 +18,7 @@ fn distance(axis: Axis, time: i128) -> u128
 }
 
 /// How many slots of a series stand before a time.
-fn slots_before(axis: Axis, time: i128) -> u64
+pub fn slots_before(axis: Axis, time: i128) -> u64
     requires step { 1 ≤ axis.step }
     ensures before { (series : Series) → IsAxisOf series axis → result ≡ slots_before series time }
     ensures few { result ≤ axis.slots }

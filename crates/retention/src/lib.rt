@@ -19,6 +19,7 @@ mod sweep_error;
 mod sweeping;
 mod swept;
 
+pub use clears::slots_before;
 pub use rule::Rule;
 pub use sweep_error::SweepError;
 pub use sweeping::{sweep, sweep_some};
