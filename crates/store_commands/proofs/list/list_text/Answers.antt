@@ -1,4 +1,4 @@
-use Rattle.std.proofs.Common.{◌<◌, ◌≤◌, length, arith}
+use Rattle.std.proofs.Common.{◌<◌, ◌≤◌, length, arith, refl}
 use Rattle.series_catalog.specs.Catalogs.{entry_of}
 use Rattle.series_store.proofs.AskLemmas.{there}
 use Rattle.series_store.proofs.NameLemmas.{as_long, entry_there}
@@ -24,13 +24,13 @@ loop-id-preserved g c = record {
       let catalog = shown.catalog c.args.store.now in
       elim c.match-series_at.branch [
         | in-Some+in_ok-add_series w ↦
-            let one = there catalog c.loop-id.id (w.in-Some.ensures.there.0 tt) in
+            let one = there catalog c.loop-id.id (w.in-Some.ensures.there.0 refl) in
             let is = w.in-Some.ensures.stored one.0 one.1 in
             records_step (map entry_of catalog) c.loop-id.id c.loop-id.text.items c.match-series_at.text.items w.in-Some.series.name.now w.in-Some.series.axis w.in-Some.series.scale (entry_of one.0) (entry_there catalog c.loop-id.id one.0 one.1) is.name is.start is.step is.slots is.scale c.loop-id.invariant.records
             (let added = w.in_ok-add_series.ensures.line in let same = w.text-is in cc)
         | in_default w ↦
             let low : c.loop-id.id < length catalog = omega (arith, c.loop-id-test.true, c.loop-id.auto.id-end, c.len-id-end.ensures.count) in
-            absurd (w.in_default.ensures.there.1 low)
+            absurd (cc (w.in_default.ensures.there.1 low))
       ];
 }
 
