@@ -1,3 +1,2 @@
-pub mod DamageLemmas
 pub mod ChartLemmas
 pub mod OneLemmas

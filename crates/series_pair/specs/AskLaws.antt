@@ -25,7 +25,7 @@ use Rattle.series_store.specs.declared.store.Store.{Store}
 use Rattle.stored_book.specs.Standing.{StandsForBook}
 use Rattle.tree_walk.specs.declared.tree.Tree.{Tree}
 use Rattle.series_pair.specs.Damage.{IsBadOnWay}
-use Rattle.series_pair.proofs.DamageLemmas.{way_at, way_later}
+use Rattle.series_pair.specs.DamageLaws.{way_at, way_later}
 use Rattle.series_pair.specs.Asking.{ArePair, Causes, GoesPair, IsPair, IsReady, KeepsPair, count, pair_view}
 use Rattle.series_pair.specs.Pairs.{counted, side_of, slots_at, slots_of}
 use Rattle.series_pair.specs.declared.store_pair.StorePair.{StorePair}
