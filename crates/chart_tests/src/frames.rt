@@ -1,4 +1,5 @@
 //! Frames that come in small pieces: a long one, and reports.
+ghost use Rattle.std.specs.Prelude.{◌<◌};
 
 use chart_frames::{Decoder, encode};
 use std::alloc::Global;
@@ -64,7 +65,9 @@ fn a_view_comes_in_small_pieces(rt: HostRuntime) -> Result<(), Fail> {
 }
 
 /// What comes out of a decoder that reports go into, in pieces of this size.
-fn passed(alloc: Global, size: usize) -> Result<Vec<u8>, Fail> {
+fn passed(alloc: Global, size: usize) -> Result<Vec<u8>, Fail>
+    requires { 0 < size }
+{
     let mut decoder = Decoder::new(alloc);
     let mut out = Vec::new(alloc);
     for piece in bytes_of(alloc, REPORTS)?.chunks(size) {
