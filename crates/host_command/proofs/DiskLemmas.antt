@@ -9,6 +9,7 @@ use Rattle.chart_service.specs.Serving.{told}
 use Rattle.chart_service.proofs.DiskKept.{risen_since}
 use Rattle.chart_world.specs.Fronts.{says}
 use Rattle.chart_world.specs.LineLaws.{lines_none}
+use Rattle.disk_store.proofs.Opened.{syncs_few}
 use Rattle.disk_store.proofs.Lowered.{lowered_is, lowered_readable}
 use Rattle.disk_store.specs.Held.{HoldsBook}
 use Rattle.disk_store.specs.Openings.{Opens}
@@ -322,7 +323,7 @@ costs_on count old mid new left_mid left counted opens same costs =
       reads = mid.reads;
       syncs = mid.syncs;
       few_reads = opens.reads.high;
-      few_syncs = opens.syncs.high;
+      few_syncs = syncs_few (page_count old.size) old mid opens.few;
       costs = λ total book holds. costs total book (held old mid opens total book holds);
     }
 
@@ -331,6 +332,6 @@ costs_unopened old new left opens = told_each left (λ input. CostsHosting old n
   reads = new.reads;
   syncs = new.syncs;
   few_reads = opens.reads.high;
-  few_syncs = opens.syncs.high;
+  few_syncs = syncs_few (page_count old.size) old new opens.few;
   costs = λ total book holds. none_cost input (record { live = begun_live total book; reads = new.reads; syncs = new.syncs });
 })

@@ -11,6 +11,7 @@ use Rattle.store_commands.specs.Books.{HoldsAgain, OfBook, Holds}
 use Rattle.store_commands.specs.Traffic.{Traffic}
 use Rattle.hosted_lines.specs.Running.{CostsLines, EndsSo, IsAhead}
 use Rattle.live_command.specs.Ended.{IsLiveCause, begun_live}
+use Rattle.disk_store.specs.Openings.{SyncsOpening}
 
 -- At each moment a crash leaves an image that recovers to a book with each edit whose Done was sent whole by then, and with
 -- at most 64 edits more.
@@ -23,12 +24,12 @@ abbrev pub CostsFrom : ℕ → View → View → List ℕ → ℕ → ℕ → Ty
 CostsFrom count old new input reads syncs =
     OfBook count old (λ total book. CostsLines input (record { live = begun_live total book; reads = reads; syncs = syncs }) new.reads new.syncs)
 
--- an opening reads 200 blocks at most and syncs seven times, and then they cost
+-- an opening reads 200 blocks at most and syncs as often as it may, and then they cost
 pub record CostsHosting (old new : View) (input : List ℕ) : Type 0 where
   pub reads : ℕ
   pub syncs : ℕ
   pub few_reads : reads ≤ old.reads + 200
-  pub few_syncs : syncs ≤ old.syncs + 7
+  pub few_syncs : SyncsOpening (page_count old.size) old syncs
   pub costs : CostsFrom (page_count old.size) old new input reads syncs
 
 -- what was done and sent by the book that the disk held, and which it holds now
