@@ -20,7 +20,7 @@ use Rattle.series_book.specs.declared.one_series.Series.{Series}
 use Rattle.series_pair.specs.Derived.{AreSumRows, ShowsRange}
 use Rattle.series_pair.specs.declared.sum_error.SumError.{SumError}
 use Rattle.series_pair.specs.declared.sum_error.SumError.TheVariants as sum
-use Rattle.series_store.specs.Asking.{IsBadPage}
+use Rattle.series_pair.specs.Damage.{IsBadOnWay}
 
 -- the frame of a refusal, which tells no numbers more
 abbrev pub refused : DeriveRefusal → Frame
@@ -66,5 +66,5 @@ error_reply sum.NoMemory = Err NoMemory
 -- why there was no answer, whatever the pages are
 abbrev pub IsSumCause : ServiceError → Type 0 → ℕ → View → View → Type 0
 IsSumCause DiskFault told total old new = HasRisen old.faults new.faults
-IsSumCause (Damaged page) told total old new = IsBadPage told total new page
+IsSumCause (Damaged page) told total old new = IsBadOnWay told total new page
 IsSumCause NoMemory told total old new = ⊤
