@@ -11,9 +11,9 @@ use store_commands::{check_store, load_series};
 const CREATED: &[u8] = b"create a 0 1 2\n";
 
 /// So many rows of this value, from time 10,000 on, each of 7 bytes and those of the value.
-fn rows(alloc: Global, count: u32, value: &str) -> Result<Vec<u8>, Fail> {
+fn rows(alloc: Global, count: u16, value: &str) -> Result<Vec<u8>, Fail> {
     let mut input = Vec::new(alloc);
-    for time in 10_000..10_000 + count {
+    for time in 10_000..10_000 + u32::from(count) {
         let line = format!(in alloc; "{time},{value}\n")?;
         input.extend_from_slice(line.as_bytes())?;
     }
