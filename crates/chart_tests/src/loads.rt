@@ -65,12 +65,3 @@ fn runs_are_stored_by_groups(rt: HostRuntime) -> Result<(), Fail> {
     assert_eq!(rt; syncs_of(alloc, input.as_slice())?, 12);
     Ok(())
 }
-
-/// One take brings 32 runs of rows of 8 bytes, for which two commits have room.
-#[test]
-fn commits_have_room_for_many_runs(rt: HostRuntime) -> Result<(), Fail> {
-    let alloc = rt.alloc();
-    let input = rows(alloc, 8_192, "1")?;
-    assert_eq!(rt; syncs_of(alloc, input.as_slice())?, 8);
-    Ok(())
-}
