@@ -61,15 +61,6 @@ narrowed_none list key = record {
   behind = λ i d more within. absurd (omega (arith, more, within));
 }
 
--- what two comparisons show together
-pub narrowed_both : (list : List (Key × Coef)) (key : Key) (from to : ℕ) → from ≤ to → Narrowed list key from (length list) → Narrowed list key 0 to → Narrowed list key from to
-narrowed_both list key from to order above below = record {
-  order = order;
-  within = below.within;
-  before = above.before;
-  behind = below.behind;
-}
-
 pub narrowed_up : (list : List (Key × Coef)) (key : Key) (from to middle next : ℕ) (x : Key × Coef) → AllPairs Precedes list → Narrowed list key from to
     → middle < to → next ≡ middle + 1 → x ≡ get_or list middle x → ComesBefore x.0 key → Narrowed list key next to
 narrowed_up list key from to middle next x order h less is at before = record {

@@ -1,5 +1,5 @@
 -- Reports that were read, part by part.
-use Rattle.std.proofs.Common.{◌≡◌, ℕ, ℤ, zero, suc, pos, ◌+◌, ◌-◌, ◌*◌, ◌/◌, ◌%◌, ◌^◌, ◌<◌, ◌≤◌, inl, inr, Bool, true, false, cond, leb, eqb, List, [], ◌∷◌, ◌++◌, length, take, drop, Result, Err, refl, sym, ap, ◌∙◌, subst, arith, append_assoc, length-append}
+use Rattle.std.proofs.Common.{◌≡◌, ℕ, ℤ, zero, suc, ◌+◌, ◌-◌, ◌*◌, ◌/◌, ◌%◌, ◌^◌, ◌<◌, ◌≤◌, inl, inr, Bool, true, false, cond, leb, eqb, List, [], ◌∷◌, ◌++◌, length, take, drop, Result, Err, refl, sym, ap, ◌∙◌, subst, arith, append_assoc, length-append}
 use Rattle.std.specs.Prelude.{All}
 use Rattle.std.specs.Bool.{IsTrue}
 use Rattle.std.specs.List.{list_all}
@@ -7,7 +7,7 @@ use Rattle.std.proofs.lemmas.Bool.{and_parts, or_cases, leb-true, eqb-true}
 use Rattle.std.proofs.lemmas.List.{take-append-drop, length-take-le, append-nil}
 use Rattle.std.proofs.lemmas.List.Elements.{All-push}
 use Rattle.series_book.specs.Names.{is_name}
-use Rattle.whole_number.specs.Range.{IsValue, IsTime}
+use Rattle.whole_number.specs.Range.{IsValue}
 use Rattle.chart_frames.specs.declared.limits.TheConstants.{MOST_SLOTS}
 use Rattle.chart_frames.specs.declared.fields.Stop.{Stop}
 use Rattle.chart_frames.specs.declared.fields.Stop.TheVariants.{More, Bad}
@@ -19,10 +19,10 @@ use Rattle.chart_frames.specs.declared.values_reading.Room.{Room}
 use Rattle.chart_frames.specs.Format.{Format, number_bytes}
 use Rattle.chart_frames.specs.Reading.{read}
 use Rattle.chart_frames.specs.Fields.{is_catalog_length, is_blank, is_padded, padded_field, listed_fields, series_list, are_counts, lesser, run_fields, runs_fields, value_field, values_list}
-use Rattle.chart_frames.specs.Frames.{number_of_flag, name_number, Fits, FitsListed, FitRuns}
-use Rattle.chart_frames.specs.Spelled.{signed_bytes, framed, listed_before, series_before, catalog_before, run_before, runs_before, values_before, asked_before, counts_before, frame_before}
+use Rattle.chart_frames.specs.Frames.{number_of_flag, name_number, FitsListed, FitRuns}
+use Rattle.chart_frames.specs.Spelled.{signed_bytes, listed_before, series_before, run_before, runs_before, values_before}
 use Rattle.chart_frames.specs.Items.{Fails}
-use Rattle.chart_frames.specs.ReportParts.{catalog_frame, values_frame, PushesListed, room_behind, runs_in, PushesRun, PushesValue}
+use Rattle.chart_frames.specs.ReportParts.{PushesListed, room_behind, runs_in, PushesRun, PushesValue}
 use Rattle.chart_frames.proofs.Numbers.{IsBytes, number_bytes_at}
 use Rattle.chart_frames.proofs.Names.{padded_spelled}
 use Rattle.chart_frames.proofs.FormatLaws.{read_there, read_short}
@@ -123,17 +123,6 @@ count_few length count h e =
     let long = and_parts (leb 11 length) _ h in
     let whole = and_parts (eqb ((length - 11) % 70) 0) _ long.1 in
     omega (arith, e, leb-true ((length - 11) / 70) 512 whole.1)
-
--- the catalog that was read
-pub catalog_whole : (size total used count : ℕ) (series : List ListedSeries) (bytes mid rest : List ℕ) → is_catalog_length size ≡ true → 11 + 70 * count ≡ size → total < 2 ^ 32 → used < 2 ^ 32
-    → length series ≡ count → All FitsListed series → bytes ≡ catalog_before total used count mid → mid ≡ series_before series rest
-    → Fits (catalog_frame total used series) × (framed size 8 bytes ≡ frame_before (catalog_frame total used series) rest)
-catalog_whole size total used count series bytes mid rest long sized pages full counted fits is mid_is = (
-  record { pages = pages; full = full; most = omega (arith, count_few size count long sized, counted); series = fits },
-  ap (λ (p : List ℕ). framed size 8 p) (is ∙ ap (catalog_before total used count) mid_is)
-      ∙ ap (λ (n : ℕ). framed n 8 (catalog_before total used count (series_before series rest))) (sym sized)
-      ∙ ap (λ (n : ℕ). framed (11 + 70 * n) 8 (catalog_before total used n (series_before series rest))) (sym counted),
-)
 
 -- ---- runs
 
@@ -295,26 +284,3 @@ none_of : (more : ℕ) → more ≤ 1 → eqb more 1 ≡ false → more ≡ 0
 none_of zero h e = refl
 none_of (suc zero) h e = absurd cc
 none_of (suc (suc n)) h e = absurd (omega (arith, h))
-
--- the frame that was read
-pub values_whole : (size series more : ℕ) (next : ℤ) (counted_runs counted : ℕ) (runs : List Run) (values : List ℤ) (bytes mid rest : List ℕ) → are_counts size counted_runs counted ≡ true
-    → series < 512 → more ≤ 1 → IsTime next → (more ≡ 0 → next ≡ pos 0) → length runs ≡ counted_runs → length values ≡ counted → FitRuns 0 MOST_SLOTS counted runs → All IsValue values
-    → bytes ≡ asked_before series more next (counts_before counted_runs counted mid) → mid ≡ runs_before runs (values_before values rest)
-    → Fits (values_frame series (eqb more 1) next runs values) × (framed size 9 bytes ≡ frame_before (values_frame series (eqb more 1) next runs values) rest)
-values_whole size series more next counted_runs counted runs values bytes mid rest counts known flag time none many_runs many fit fits is mid_is =
-    let kept = counts_kept size counted_runs counted counts in
-    let tail : List ℕ = runs_before runs (values_before values rest) in (
-      record {
-        known = known;
-        next = time;
-        none_left = λ e. none (none_of more flag e);
-        most = omega (arith, kept.most, many);
-        runs = subst (λ (n : ℕ). FitRuns 0 MOST_SLOTS n runs) (sym many) fit;
-        values = fits;
-      },
-      ap (λ (p : List ℕ). framed size 9 p) (is ∙ ap (λ (p : List ℕ). asked_before series more next (counts_before counted_runs counted p)) mid_is)
-          ∙ ap (λ (n : ℕ). framed n 9 (asked_before series more next (counts_before counted_runs counted tail))) (sym kept.sized)
-          ∙ ap (λ (n : ℕ). framed (16 + (16 * n + 8 * counted)) 9 (asked_before series more next (counts_before n counted tail))) (sym many_runs)
-          ∙ ap (λ (n : ℕ). framed (16 + (16 * length runs + 8 * n)) 9 (asked_before series more next (counts_before (length runs) n tail))) (sym many)
-          ∙ ap (λ (n : ℕ). framed (16 + (16 * length runs + 8 * length values)) 9 (asked_before series n next (counts_before (length runs) (length values) tail))) (sym (flag_of more flag)),
-    )

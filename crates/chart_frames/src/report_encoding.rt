@@ -4,7 +4,7 @@ ghost use Rattle.series_book.specs.Names.{is_name};
 ghost use Rattle.whole_number.specs.Range.{IsValue};
 ghost use Rattle.chart_frames.specs.Format.{number_bytes};
 ghost use Rattle.chart_frames.specs.Frames.{number_of_flag, FitsCatalog, FitsValues, FitsReport};
-ghost use Rattle.chart_frames.specs.Spelled.{signed_bytes, framed, name_before, facts_before, listed_before, series_before, catalog_before, run_before, runs_before, values_before, asked_before, counts_before, report_before};
+ghost use Rattle.chart_frames.specs.Spelled.{framed, name_before, facts_before, listed_before, series_before, catalog_before, run_before, runs_before, values_before, asked_before, counts_before, report_before};
 
 use crate::encoding::{
     number_of_flag, put_byte, put_long, put_short, put_signed, put_start, put_two, put_word,

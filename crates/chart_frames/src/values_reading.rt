@@ -1,11 +1,11 @@
 // The fields of a frame of stored values.
-ghost use Rattle.std.specs.Prelude.{◌≡◌, ◌==◌, ◌<◌, ◌≤◌, ◌+◌, ◌-◌, ◌*◌, ◌++◌, [], ℕ, ℤ, pos, suc, List, length, All, IsTrue, IfOk, IfErr};
+ghost use Rattle.std.specs.Prelude.{◌≡◌, ◌==◌, ◌<◌, ◌≤◌, ◌+◌, ◌-◌, ◌*◌, ◌++◌, [], ℕ, pos, suc, length, All, IsTrue, IfOk, IfErr};
 ghost use Rattle.whole_number.specs.Range.{IsTime, IsValue};
 ghost use Rattle.chart_frames.specs.declared.limits.TheConstants.{MOST_SLOTS};
 ghost use Rattle.chart_frames.specs.declared.reports.Run.{Run};
 ghost use Rattle.chart_frames.specs.Format.{Format, number_bytes};
 ghost use Rattle.chart_frames.specs.Reading.{Reads, read};
-ghost use Rattle.chart_frames.specs.Fields.{lesser, takes_of, is_values_length, value_field, more_field, next_time_field, are_counts, counts_fields, asked_fields, run_fields, runs_fields, values_list, stored_values, values_fields};
+ghost use Rattle.chart_frames.specs.Fields.{lesser, takes_of, value_field, more_field, next_time_field, are_counts, counts_fields, asked_fields, run_fields, runs_fields, values_list, stored_values, values_fields};
 ghost use Rattle.chart_frames.specs.Frames.{Fits, FitsRun, FitRuns};
 ghost use Rattle.chart_frames.specs.Spelled.{signed_bytes, framed, asked_before, counts_before, run_before, runs_before, values_before, frame_before};
 ghost use Rattle.chart_frames.specs.Items.{Fails};

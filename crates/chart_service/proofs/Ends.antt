@@ -4,11 +4,10 @@ use Rattle.std.specs.Prelude.{IsErrAnd, OnOk}
 use Rattle.std.proofs.Math.Dec.{eqb}
 use Rattle.std.proofs.lemmas.Bool.{eqb-false}
 use Rattle.block_disk.specs.View.{Image, View}
-use Rattle.chart_world.specs.declared.line_answer.LineFault.{LineFault}
 use Rattle.chart_world.specs.declared.line_answer.LineFault.TheVariants as fault
 use Rattle.chart_service.specs.Answering.{EndsAtBad}
 use Rattle.chart_service.specs.Making.{IsReplyEnd}
-use Rattle.chart_service.specs.Serving.{end_of, end_of_step}
+use Rattle.chart_service.specs.Serving.{end_of_step}
 use Rattle.chart_service.specs.Serving as serving
 use Rattle.chart_service.specs.Stepping.{NamesBad, IsUnchangedFor}
 use Rattle.chart_service.specs.declared.failure.AnswerEnd.{AnswerEnd}
@@ -49,26 +48,6 @@ error_is (Ok v) e is = absurd is
 error_is (Err x) e is = ap Err is
 
 -- ---- the ends of a fault of the input
-
-pub fault_read : {T F : Type 0} (f : LineFault) → ◌≡◌ {A = Result T (AnswerEnd F)} (Err (Serve (end_of f))) (Err (Serve ReadFault)) → f ≡ fault.ReadFault
-fault_read fault.ReadFault is = refl
-fault_read fault.InputTooLong is = differ is refl
-
-pub fault_unsent : {T F A : Type 0} (f : LineFault) → ◌≡◌ {A = Result T (AnswerEnd F)} (Err (Serve (end_of f))) (Err (Serve SendFault)) → A
-fault_unsent fault.ReadFault is = differ is refl
-fault_unsent fault.InputTooLong is = differ is refl
-
-pub fault_disk : {T F A : Type 0} (f : LineFault) → ◌≡◌ {A = Result T (AnswerEnd F)} (Err (Serve (end_of f))) (Err (Serve DiskFault)) → A
-fault_disk fault.ReadFault is = differ is refl
-fault_disk fault.InputTooLong is = differ is refl
-
-pub fault_long : {T F : Type 0} (f : LineFault) → ◌≡◌ {A = Result T (AnswerEnd F)} (Err (Serve (end_of f))) (Err (Serve InputTooLong)) → f ≡ fault.InputTooLong
-fault_long fault.ReadFault is = differ is refl
-fault_long fault.InputTooLong is = refl
-
-pub fault_bad : (told : Type 0) (count : ℕ) (image : Image) (f : LineFault) → serving.EndsAtBad told count image (end_of f)
-fault_bad told count image fault.ReadFault = tt
-fault_bad told count image fault.InputTooLong = tt
 
 -- ---- the ends of a step
 

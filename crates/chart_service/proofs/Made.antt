@@ -2,24 +2,21 @@
 use Rattle.std.proofs.Common.{◌≡◌, ℕ, ◌+◌, ◌-◌, ◌^◌, ◌<◌, ◌≤◌, List, [], ◌∷◌, ◌++◌, length, Option, None, Some, IfSome, take, refl, ap, subst, sym, ◌∙◌, inl, inr, append_assoc, arith, length-append}
 use Rattle.std.proofs.lemmas.List.{append-nil}
 use Rattle.std.proofs.Math.Seq.{take-append-add}
-use Rattle.block_disk.specs.Streams.{sent_after, left_after}
+use Rattle.block_disk.specs.Streams.{sent_after}
 use Rattle.block_disk.specs.SentLaws.{sent_more}
-use Rattle.chart_world.specs.declared.line_answer.LineFault.{LineFault}
 use Rattle.chart_world.specs.declared.line_answer.LineFault.TheVariants as fault
-use Rattle.chart_world.specs.Fronts.{IsWhole}
 use Rattle.chart_world.specs.LineLaws.{told_so}
-use Rattle.chart_world.specs.StandsLaws.{told_with}
-use Rattle.chart_world.specs.Reading.{Reading, unread, input_length, NoLineIn}
+use Rattle.chart_world.specs.Reading.{Reading, unread}
 use Rattle.chart_frames.specs.declared.frame.Frame.{Frame}
 use Rattle.chart_service.specs.Answering.{ReplyFails, EndsAt}
 use Rattle.chart_service.specs.Making.{Makes, AreMade, LinesDone, LinesCut, DoesFirst, LinesStopAt}
-use Rattle.chart_service.specs.Serving.{RepliesToAll, Answers, KeepsBook, SendsSome, most_ahead, end_of}
+use Rattle.chart_service.specs.Serving.{RepliesToAll, Answers, KeepsBook, SendsSome, most_ahead}
 use Rattle.chart_service.specs.State.{State}
 use Rattle.chart_service.specs.declared.failure.AnswerEnd.{AnswerEnd}
 use Rattle.chart_service.specs.declared.failure.AnswerEnd.TheVariants.{Serve, Reply}
 use Rattle.chart_service.specs.declared.failure.ServeEnd.TheVariants.{ReadFault, SendFault, DiskFault, Damaged, InputTooLong, NoMemory}
 use Rattle.chart_service.specs.Telling.{replies_joined}
-use Rattle.chart_service.proofs.Progress.{Progress, Grows, PassesLines, SplitLines, split_lines, answers_more, answered_at, none_or_some, taken_at, within_at, next_at, kept_at, first_at}
+use Rattle.chart_service.proofs.Progress.{Progress, Grows, PassesLines, SplitLines, split_lines, answers_more, answered_at, none_or_some, next_at, kept_at, first_at}
 use Rattle.chart_service.proofs.Sending.{made_one}
 
 pub made_for : {S F : Type 0} (makes : Makes S F) (v w : S) (lines others : List (Option (List ℕ))) (frames : List Frame) (text : List ℕ) → AreMade makes v w lines frames text → AreMade makes v w others frames text
@@ -44,19 +41,6 @@ made_joined makes v w x lines more all (f ∷ fs) answers text reply next made =
 
 pub made_grows : {S F : Type 0} (makes : Makes S F) (v w x : S) (more : List (Option (List ℕ))) (answers : List Frame) (reply : List ℕ) → AreMade makes w x more answers reply → Grows (AreMade makes v w) (AreMade makes v x) more answers reply
 made_grows makes v w x more answers reply next = λ lines frames text made. made_joined makes v w x lines more (lines ++ more) frames answers text reply next made
-
--- at a fault of the lines
-pub lines_fault : {S F : Type 0} (makes : Makes S F) (o : Option (List ℕ)) (r r' : Reading) (left left' : Option (List ℕ)) (old state : State) (v w : S) (before now : Option (List ℕ)) (f : LineFault)
-    → r.given ≤ 2 ^ 32 → (f ≡ fault.ReadFault → IfSome o (λ input. IsWhole (take r.given input))) → (f ≡ fault.ReadFault → NoLineIn (r'.taken - r.given) (unread r left)) → (f ≡ fault.InputTooLong → NoLineIn (2 ^ 32 - r.given) (unread r left)) → (f ≡ fault.InputTooLong → 2 ^ 32 < r'.taken)
-    → left' ≡ left_after (r'.taken - r.given) (unread r left) → r.taken ≡ r.given + length r.pending → input_length r'.taken left' ≡ input_length r.taken left
-    → IfSome o (λ input. Progress (AreMade makes v w) input (unread r left) r.given old state before now)
-    → IfSome o (λ input. EndsAt makes v w input old state left' before now (Serve (end_of f)))
-lines_fault makes o r r' left left' old state v w before now fault.ReadFault few whole read far past after counted total =
-    told_with (λ input. Progress (AreMade makes v w) input (unread r left) r.given old state before now) (λ input. IsWhole (take r.given input)) (λ input. EndsAt makes v w input old state left' before now (Serve ReadFault)) o
-    (λ input front. taken_at (AreMade makes v w) input old state before now (unread r left) left' r.given (r'.taken - r.given) front (read refl) after) (whole refl)
-lines_fault makes o r r' left left' old state v w before now fault.InputTooLong few whole read far past after counted total =
-    told_so (λ input. Progress (AreMade makes v w) input (unread r left) r.given old state before now) (λ input. EndsAt makes v w input old state left' before now (Serve InputTooLong)) o
-    (λ input. within_at (AreMade makes v w) input old state before now r r' left left' few (far refl) (past refl) counted total)
 
 -- want of memory, where nothing more was sent
 some_at : {S F : Type 0} (makes : Makes S F) (o : Option (List ℕ)) (old new : State) (v w : S) (left before now later : Option (List ℕ)) (w' : S) → later ≡ now

@@ -22,7 +22,7 @@ use Rattle.zoom_session.specs.declared.errors.PlanError.{PlanError}
 use Rattle.zoom_session.specs.declared.errors.PlanError.TheVariants.{TooLarge, Node, NoMemory}
 use Rattle.zoom_session.specs.declared.session.Session.{Session}
 use Rattle.zoom_session.specs.declared.view_spec.ViewSpec.{ViewSpec}
-use Rattle.zoom_session.specs.Sessions.{session_of, is_open, viewed, without}
+use Rattle.zoom_session.specs.Sessions.{session_of, is_open, viewed}
 use Rattle.chart_service.specs.Kinds.{IsRefusal}
 use Rattle.chart_service.specs.Opening.{OpensBy}
 use Rattle.chart_service.specs.State.{State}
@@ -129,17 +129,6 @@ reads_by_text (Some text) filter w o old new is reads = tt
 -- what comes of it, whatever the pages are
 pub looked_viewed : (number : ℕ) (frame : Frame) (ss ss' : List Session) (told told' : Type 0) (old new under under' : View) (s s' : Superblock) (catalog catalog' : List StoredSeries) → Fits frame → OpensBy frame ss ss' → (IsRefusal frame → ⊥) → Looks told told' old new under under' s s' catalog catalog' → Looked (Some number) (Ok frame) ss ss' told told' old new under under' s s' catalog catalog'
 looked_viewed number frame ss ss' told told' old new under under' s s' catalog catalog' fits opens none looks = record { fits = fits; opens = opens; lost = tt; kept = λ refuses. absurd (none refuses); looks = looks; cause = tt }
-
--- it was, and there was no memory to keep it
-pub looked_lost : (number : ℕ) (ss mid ss' : List Session) (told told' : Type 0) (old new under under' : View) (s s' : Superblock) (catalog catalog' : List StoredSeries) → mid ≡ ss → ss' ≡ without number mid → Looks told told' old new under under' s s' catalog catalog' → Looked (Some number) (Err step.NoMemory) ss ss' told told' old new under under' s s' catalog catalog'
-looked_lost number ss mid ss' told told' old new under under' s s' catalog catalog' same closed looks = record {
-  fits = tt;
-  opens = tt;
-  lost = inr (closed ∙ ap (λ (l : List Session). without number l) same);
-  kept = λ other. absurd (other refl);
-  looks = looks;
-  cause = tt;
-}
 
 planned_at : (book : Option Series) (spec : ViewSpec) (session : Option Session) (p : Planned) (r : Result Planned PlanError) → r ≡ Ok p → IsSomeAnd book (λ series. PlansOrStops series spec session r) → IsSomeAnd book (λ series. IsPlannedFor series spec session p)
 planned_at None spec session p r is planned = planned

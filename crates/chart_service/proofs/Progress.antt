@@ -1,15 +1,15 @@
 -- How far the lines of an input are answered, whatever text stands for their frames.
 use Rattle.std.proofs.Common.{◌≡◌, ◌≤◌, ℕ, ◌+◌, ◌-◌, ◌^◌, ◌<◌, ◌⊎◌, List, [], ◌∷◌, ◌++◌, length, take, drop, Option, Some, None, IfSome, refl, ap, subst, inl, inr, sym, ◌∙◌, arith, append_assoc, length-append}
-use Rattle.std.specs.List.{filter, after_first}
+use Rattle.std.specs.List.{filter}
 use Rattle.std.proofs.lemmas.List.{take-append-drop, append-nil}
 use Rattle.block_disk.specs.Streams.{sent_after, left_after}
 use Rattle.block_disk.specs.SentLaws.{sent_none, sent_more}
-use Rattle.chart_world.specs.Lines.{is_line_feed, lines, NoLineFeed}
+use Rattle.chart_world.specs.Lines.{lines, NoLineFeed}
 use Rattle.chart_world.specs.StandsLaws.{whole_given}
 use Rattle.chart_world.specs.Reading.{Reading, unread_input, unread, told_lines, input_length, NoLineIn}
-use Rattle.chart_world.specs.LineLaws.{lines_none, pieces, piece_ends, piece_line, told_behind, told_more, no_rest}
-use Rattle.chart_world.specs.Fronts.{says, IsWhole, BeginsWith, Gives, first_piece}
-use Rattle.chart_world.specs.FrontLaws.{passes, told_split, whole_joined}
+use Rattle.chart_world.specs.LineLaws.{lines_none, told_behind, no_rest}
+use Rattle.chart_world.specs.Fronts.{says, IsWhole, BeginsWith}
+use Rattle.chart_world.specs.FrontLaws.{told_split, whole_joined}
 use Rattle.chart_frames.specs.declared.frame.Frame.{Frame}
 use Rattle.chart_service.specs.Answering.{Telling}
 use Rattle.chart_service.specs.State.{State}
@@ -37,23 +37,6 @@ pub record PassedLines (input front rest : List ℕ) (bytes : Option (List ℕ))
 abbrev pub PassesLines : Reading → Reading → Option (List ℕ) → Option (List ℕ) → List (Option (List ℕ)) → Type 0
 PassesLines r r' left left' all =
     (input front rest : List ℕ) → unread r left ≡ Some rest → r.given ≡ length front → BeginsWith input front rest → PassedLines input front rest (unread r' left') r'.given all
-
--- a line of the input is given
-pub one_passed : (r r' : Reading) (left left' line : Option (List ℕ)) → Gives r r' left left' line → r'.given ≤ 2 ^ 32 → PassesLines r r' left left' (unless_empty line)
-one_passed r r' left left' line given early input front rest told_rest counted begins =
-    let q = passes input front rest r r' left left' line told_rest counted begins given in
-    record {
-      piece = first_piece rest;
-      later = after_first is_line_feed rest;
-      whole = q.whole;
-      told_piece = ap (filter says) (piece_line rest line q.lines_are);
-      told_all = told_more front (first_piece rest) line q.whole (piece_line rest line q.lines_are);
-      here = record { split = pieces rest; whole = piece_ends rest };
-      told_rest = q.told_rest;
-      begins = q.begins;
-      counted = q.counted;
-      early = early;
-    }
 
 nothing_behind : (front piece : List ℕ) → front ++ piece ≡ [] → piece ≡ []
 nothing_behind [] piece none = none

@@ -389,9 +389,6 @@ kept-first ps seen places news start capacity i key gone kept same first told go
     kept-dropped ps places news start capacity i key first.coef kept at (λ j less. ap (λ l. get_or l j None) (sym same) ∙ first.before j less) told
     (sym (ap (λ (o : Option ℕ). length news + (if is_some o then 1 else 0)) there) ∙ counted)
 
-pub first-bound : (ps seen : List (Option (SeriesKey × Coef))) (i : ℕ) (key : SeriesKey) → seen ≡ ps → IsFirstHeld seen i key → i < length ps
-first-bound ps seen i key same first = held-within ps i (key, first.coef) (ap (λ l. get_or l i None) (sym same) ∙ first.is)
-
 pub pairs-first : (ps seen : List (Option (SeriesKey × Coef))) (i : ℕ) (key : SeriesKey) → seen ≡ ps → IsFirstHeld seen i key
     → reverse (shown (set ps i None)) ≡ take (length (reverse (shown ps)) - 1) (reverse (shown ps))
 pairs-first ps seen i key same first =

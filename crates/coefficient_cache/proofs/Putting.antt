@@ -1,5 +1,5 @@
 -- What a put does to a list, and how a list is packed and compared.
-use Rattle.std.proofs.Common.{◌≡◌, ℕ, suc, ◌+◌, ◌-◌, ◌<◌, ◌≤◌, true, false, cond, List, [], ◌∷◌, ◌++◌, length, take, drop, get_or, reverse, Option, Some, None, is_some, refl, sym, ap, ◌∙◌, subst, arith, length-append, length-drop, get_or-drop, take-append-drop, append-nil, take_all}
+use Rattle.std.proofs.Common.{◌≡◌, ℕ, suc, ◌+◌, ◌-◌, ◌<◌, ◌≤◌, true, false, cond, List, [], ◌∷◌, ◌++◌, length, take, drop, get_or, reverse, Option, Some, None, refl, sym, ap, ◌∙◌, subst, arith, length-append, length-drop, get_or-drop, take-append-drop, append-nil, take_all}
 use Rattle.std.specs.Option.{option_map_or}
 use Rattle.std.specs.List.{IsDistinct}
 use Rattle.std.specs.Map.{keys_of, lookup, remove_entry}
@@ -24,10 +24,6 @@ put-there es n k v h =
 put-missing : (es : List (SeriesKey × Coef)) (n : ℕ) (k : SeriesKey) (v : Coef) → lookup (key_eq k) es ≡ None → with_coef k v ∷ take (n - 1) es ≡ put_entries key_eq es n k v
 put-missing es n k v h =
     sym (ap (λ (o : Option (SeriesKey × Coef)). option_map_or (λ e. with_coef e.0 v ∷ remove_entry (key_eq k) es) o (with_coef k v ∷ take (n - 1) es)) (entry_none (key_eq k) es h))
-
--- a put of a key that is there
-pub put-held : (es : List (SeriesKey × Coef)) (n : ℕ) (k : SeriesKey) (w : Coef) → lookup (key_eq k) es ≡ Some w → (v : Coef) → with_coef k v ∷ remove_entry (key_eq k) es ≡ put_entries key_eq es n k v
-put-held es n k w h = λ v. put-there es n k v (ap is_some h)
 
 -- a put in a list that isn't full
 pub put-roomy : (es : List (SeriesKey × Coef)) (n : ℕ) (k : SeriesKey) → length es < n → (v : Coef) → with_coef k v ∷ remove_entry (key_eq k) es ≡ put_entries key_eq es n k v

@@ -1,8 +1,8 @@
 -- A list that has the needed pairs in front, in the order in which a view leaves them, stays as it is.
-use Rattle.std.proofs.Common.{◌≡◌, ℕ, ◌≤◌, ◌+◌, ◌<◌, Bool, true, false, cond, not, ◌&&◌, ◌||◌, List, [], ◌∷◌, ◌++◌, length, take, drop, get_or, reverse, Some, is_some, refl, sym, ap, ◌∙◌, subst, append_assoc}
+use Rattle.std.proofs.Common.{◌≡◌, ℕ, ◌≤◌, ◌+◌, ◌<◌, Bool, true, false, cond, not, ◌&&◌, ◌||◌, List, [], ◌∷◌, ◌++◌, length, take, reverse, Some, is_some, refl, sym, ap, ◌∙◌, subst, append_assoc}
 use Rattle.std.specs.List.{filter, IsDistinct}
 use Rattle.std.specs.Map.{keys_of, lookup}
-use Rattle.std.proofs.lemmas.List.{reverse-append, take_all, drop_more}
+use Rattle.std.proofs.lemmas.List.{reverse-append, take_all}
 use Rattle.std.proofs.lemmas.List.Elements.{filter-append}
 use Rattle.std.proofs.lemmas.Bool.Decides.{Decides-and}
 use Rattle.std.proofs.lemmas.Map.{lookup-none}
@@ -118,13 +118,3 @@ pub same-pair : (k w : SeriesKey) (v u : Coef) (r : Bool) → r ≡ true → r �
 same-pair k w v u r is told =
     let both = (Decides-and (key_eq k w) (coefficient_eq v u) (Decides-key_eq k w) (Decides-coefficient_eq v u)).0 (sym told ∙ is) in
     (λ i. (both.0 i, both.1 i))
-
--- one more of the needed pairs is the next one of the list
-pub shown-more : (series : ℕ) (needed : List (Key × Coef)) (left : ℕ) (d : Key × Coef) (pairs rest : List (SeriesKey × Coef)) (e : SeriesKey × Coef) → left < length needed
-    → pairs ≡ reverse (in_series series (drop (left + 1) needed)) ++ (e ∷ rest) → e ≡ (series_key series (get_or needed left d).0, (get_or needed left d).1)
-    → pairs ≡ reverse (in_series series (drop left needed)) ++ rest
-shown-more series needed left d pairs rest e within was is =
-    was
-    ∙ (λ i. reverse (in_series series (drop (left + 1) needed)) ++ (is i ∷ rest))
-    ∙ sym (turn (series_key series (get_or needed left d).0, (get_or needed left d).1) (in_series series (drop (left + 1) needed)) rest)
-    ∙ ap (λ l. reverse (in_series series l) ++ rest) (sym (drop_more needed left d within))

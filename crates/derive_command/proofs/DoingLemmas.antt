@@ -186,13 +186,6 @@ chart_fault at sum.DiskFault = refl
 chart_fault at (sum.Damaged page) = refl
 chart_fault at sum.NoMemory = refl
 
--- a refused line tells of none, and has no other cause
-pub refused_cause : (old new : Side) (at : ℕ) (why : DeriveRefusal) (end : End) → end ≡ refused_at at why → IsCause end old new
-refused_cause old new at why end end_is = let P : End → Type 0 = λ e. IsCause e old new in subst P (sym end_is) tt
-
-pub refused_fault : (at : ℕ) (why : DeriveRefusal) (end : End) → end ≡ refused_at at why → end_fault end ≡ None
-refused_fault at why end end_is = ap (λ (e : End). end_fault e) end_is
-
 -- why a picture wasn't sent
 pub text_cause : (old new : Side) (text : List ℕ) (before now : Option (List ℕ)) (end : End) → TextStops text before now end → (end ≡ SendFault → HasRisen old.send_faults new.send_faults) → IsCause end old new
 text_cause old new text before now NoMemory stops risen = tt

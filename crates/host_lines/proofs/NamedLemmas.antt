@@ -1,5 +1,5 @@
 -- What words name.
-use Rattle.std.proofs.Common.{◌≡◌, ℕ, ℤ, true, List, [], ◌∷◌, length, refl, sym, ap, ◌∙◌, subst}
+use Rattle.std.proofs.Common.{◌≡◌, ℕ, ℤ, true, List, [], ◌∷◌, sym, ap, ◌∙◌, subst}
 use Rattle.std.specs.Prelude.{IsTrue}
 use Rattle.whole_number.specs.Numbers.{natural_value, is_integer, integer_value}
 use Rattle.whole_number.proofs.Tests.{spelt_integer}
@@ -11,19 +11,11 @@ use Rattle.retention.specs.declared.rule.Rule.{Rule}
 use Rattle.retention.specs.declared.rule.Rule.TheVariants.{Before, Last, Free}
 use Rattle.derive_command.specs.Requests.{SpellsWords as SpellsRequest}
 use Rattle.derive_command.specs.declared.request.Request.{Request}
-use Rattle.host_lines.specs.declared.asked.HostLine.TheVariants.{Values, Sum, Sweep, Other}
-use Rattle.host_lines.specs.Grammar.{Allow, IsRequestInRange, IsRuleInRange, request_named, rule_named, sum_named, values_named, values_places}
+use Rattle.host_lines.specs.declared.asked.HostLine.TheVariants.{Values, Sum, Sweep}
+use Rattle.host_lines.specs.Grammar.{Allow, request_named, rule_named, sum_named, values_named, values_places}
 use Rattle.host_lines.proofs.PlaceLemmas.{fits_integer, fits_name, integer_read, natural_read}
 
 -- ---- values
-
-pub values_other : (words : List (List ℕ)) → (length words ≡ 3 → ⊥) → Other ≡ values_named words
-unfolding values_named
-values_other [] few = refl
-values_other (a ∷ []) few = refl
-values_other (a ∷ (b ∷ [])) few = refl
-values_other (a ∷ (b ∷ (c ∷ []))) few = absurd (few refl)
-values_other (a ∷ (b ∷ (c ∷ (d ∷ words)))) few = refl
 
 -- the three words are a name and two numbers
 pub values_parts : (words : List (List ℕ)) (name t0 t1 : List ℕ) → words ≡ name ∷ t0 ∷ t1 ∷ [] → Allow values_places words → IsTrue (is_name name) × (is_integer t0 ≡ true) × (is_integer t1 ≡ true)
@@ -37,10 +29,6 @@ unfolding values_named
 values_are words name t0 t1 y z is first second = (λ i. Values name (first i) (second i)) ∙ sym (ap values_named is)
 
 -- ---- sums
-
-pub sum_other : (word : List ℕ) → Other ≡ sum_named (word ∷ [])
-unfolding sum_named
-sum_other word = refl
 
 pub sum_is : (session : List ℕ) (request : Request) (words : List (List ℕ)) → SpellsRequest request words → sum_named (session ∷ words) ≡ Sum (natural_value session) request
 unfolding sum_named
@@ -56,18 +44,6 @@ sum_is session request words s =
     (λ i. record { first = request.first; second = request.second; a = a i; b = b i; w = w i; h = h i; t0 = t0 i; t1 = t1 i; range = range i }) in
     ap (λ (ts : List (List ℕ)). sum_named (session ∷ ts)) s.words_are ∙ ap (Sum (natural_value session)) same
 
-pub sum_range : (request : Request) (words : List (List ℕ)) → SpellsRequest request words → IsRequestInRange request
-sum_range request words s = record {
-  first = s.first_is;
-  second = s.second_is;
-  a = s.a_small;
-  b = s.b_small;
-  w = s.w_is.1;
-  h = s.h_is.1;
-  t0 = s.t0_is.1;
-  t1 = s.t1_is.1;
-}
-
 -- ---- rules
 
 pub rule_is : (rule : Rule) (words : List (List ℕ)) → SpellsRule rule words → rule_named words ≡ Sweep rule
@@ -75,8 +51,3 @@ unfolding rule_named
 rule_is (Before name time) words s = ap rule_named s.1 ∙ ap (λ z. Sweep (Before name z)) (integer_read s.0 time s.3)
 rule_is (Last name count) words s = ap rule_named s.1 ∙ ap (λ n. Sweep (Last name n)) (natural_read s.0 count s.3)
 rule_is (Free pages) words s = ap rule_named s.1 ∙ ap (λ n. Sweep (Free n)) (natural_read s.0 pages s.2)
-
-pub rule_range : (rule : Rule) (words : List (List ℕ)) → SpellsRule rule words → IsRuleInRange rule
-rule_range (Before name time) words s = (s.2, s.3.1)
-rule_range (Last name count) words s = (s.2, s.3.1)
-rule_range (Free pages) words s = s.2.1

@@ -1,5 +1,5 @@
 //! The catalog of a store.
-ghost use Rattle.std.specs.Prelude.{◌≡◌, ◌<◌, ◌≤◌, ◌^◌, ℕ, None, IfOk, IsTrue};
+ghost use Rattle.std.specs.Prelude.{◌≡◌, ◌<◌, ◌≤◌, ◌^◌, ℕ, None, IfOk};
 ghost use Rattle.chart_frames.specs.Frames.{FitsCatalog, FitsListed};
 ghost use Rattle.om3_coeff.specs.Spans.{IsProperIfAny};
 ghost use Rattle.series_book.specs.declared.one_series.Series.{Series};

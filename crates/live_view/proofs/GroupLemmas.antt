@@ -2,7 +2,6 @@
 use Rattle.std.proofs.Common.{◌≡◌, ◌∙◌, ℕ, Bool, true, false, ◌||◌, ◌==◌, List, [], ◌∷◌, ◌++◌, refl, ap, sym, subst, append_assoc, Option, None, Some}
 use Rattle.std.specs.Prelude.{All, filter, is_some, IsTrue}
 use Rattle.std.specs.List.Sorted.{IsStrictlyIncreasing}
-use Rattle.std.proofs.lemmas.List.{append-nil}
 use Rattle.std.proofs.lemmas.List.Kept.{IsStrictlyIncreasing-filter}
 use Rattle.std.proofs.lemmas.List.Elements.{All-filter, All-weaker, filter_passes}
 use Rattle.chart_frames.specs.declared.frame.Frame.{Frame}
@@ -15,19 +14,6 @@ use Rattle.live_view.specs.Groups.{AddsChanged, followers_of, shows_one}
 use Rattle.live_view.specs.Meaning.{name_of}
 use Rattle.live_view.specs.Replies.{Changes, followers, shows}
 use Rattle.live_view.specs.Sessions.{HaveViews, has_view}
-
--- no edit is left
-pub adds_none : (names : List ℕ → Option ℕ → Type 0) (edits : List Edit) (frames : List Frame) (before : List (Option ℕ)) → edits ≡ [] → AddsChanged names edits frames before before
-adds_none names edits frames before none =
-    let A : List Edit → Type 0 = λ l. AddsChanged names l frames before before in
-    subst A (sym none) (record { series = []; changed = refl; are = sym (append-nil before) })
-
--- no frame is left
-pub adds_no_frame : (names : List ℕ → Option ℕ → Type 0) (edits : List Edit) (frames : List Frame) (before : List (Option ℕ)) → frames ≡ [] → AddsChanged names edits frames before before
-adds_no_frame names [] frames before none = record { series = []; changed = refl; are = sym (append-nil before) }
-adds_no_frame names (edit ∷ later) frames before none =
-    let A : List Frame → Type 0 = λ l. AddsChanged names (edit ∷ later) l before before in
-    subst A (sym none) (record { series = []; changed = refl; are = sym (append-nil before) })
 
 -- the next edit, and those behind it
 pub adds_next : (names : List ℕ → Option ℕ → Type 0) (edits later : List Edit) (edit : Edit) (frames others : List Frame) (frame : Frame) (before between now : List (Option ℕ)) (one : Option ℕ)

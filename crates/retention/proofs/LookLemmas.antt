@@ -1,10 +1,10 @@
 -- Calls that read pages and change nothing else.
-use Rattle.std.proofs.Common.{◌≡◌, ℕ, ◌+◌, ◌≤◌, length, refl, sym, ap, subst, ◌∙◌, arith}
+use Rattle.std.proofs.Common.{◌≡◌, ℕ, ◌+◌, ◌≤◌, length, refl, ap, subst, ◌∙◌, arith}
 use Rattle.block_disk.specs.Counts.{HasRisen}
-use Rattle.block_disk.specs.View.{Image, View, Now}
+use Rattle.block_disk.specs.View.{View, Now}
 use Rattle.block_disk.proofs.Passing.{passes_none, passes_weaker, now_back}
 use Rattle.gate_pages.specs.GateLaws.{goes_none, goes_then}
-use Rattle.gate_pages.specs.Pages.{GoesOn, Quiet}
+use Rattle.gate_pages.specs.Pages.{Quiet}
 use Rattle.om3_coeff.specs.View.{NodesView}
 use Rattle.om3_coeff.specs.declared.errors.NodeError.TheVariants as node
 use Rattle.gate_pages.proofs.Moving.{time_then}
@@ -12,8 +12,6 @@ use Rattle.page_space.specs.declared.superblock.Superblock.{Superblock}
 use Rattle.series_catalog.specs.declared.catalog.Catalog.{Catalog}
 use Rattle.series_catalog.specs.Shown.{series_in}
 use Rattle.series_store.specs.Asking.{IsBadPage}
-use Rattle.series_store.specs.Results.{Moves}
-use Rattle.stored_book.specs.Damage.{IsBadForRequest}
 use Rattle.tree_walk.specs.PagedNodes.{Keeps, ground}
 use Rattle.tree_walk.specs.declared.tree.Tree.{Tree}
 use Rattle.retention.specs.Moving.{Carries, CommitsFew, Looks}
@@ -75,13 +73,6 @@ looks_asked told told' old new under under' s s' tree tree' catalog catalog' kep
   catalog_is = same;
 }
 
--- what was bad before a look is so behind it
-pub bad_later : (told told' : Type 0) (old new under under' : View) (s s' : Superblock) (catalog catalog' : Catalog) (total page : ℕ) → Looks told told' old new under under' s s' catalog catalog' → IsBadPage told total old page → IsBadPage told' total new page
-bad_later told told' old new under under' s s' catalog catalog' total page looks bad =
-    let I : Image → Type 0 = λ i. IsBadForRequest old.size i page in
-    let C : ℕ → Type 0 = λ n. IsBadForRequest n new.image page in
-    (bad.0, λ t. subst C (sym looks.size) (subst I (sym (looks.image (looks.was_told t))) (bad.1 (looks.was_told t))))
-
 pub ask_outside : (e : SweepError) (nodes nodes' : NodesView) → ((page : ℕ) → nodes.bad (node.Damaged page) → ⊥) → IsAskCause nodes nodes' e → IsOutside e
 ask_outside UnknownSeries nodes nodes' none cause = absurd cause
 ask_outside DiskFault nodes nodes' none cause = tt
@@ -125,10 +116,6 @@ commits_then n m old mid new first second = record { syncs = omega (arith, first
 
 pub commits_looks : (n : ℕ) (told told' : Type 0) (old new under under' : View) (s s' : Superblock) (catalog catalog' : Catalog) → Looks told told' old new under under' s s' catalog catalog' → CommitsFew n old new
 commits_looks n told told' old new under under' s s' catalog catalog' looks = record { syncs = omega (arith, looks.syncs); writes = omega (arith, looks.writes) }
-
-pub carries_edit : (told told' : Type 0) (old new under under' : View) (total total' count count' : ℕ) → Moves told told' old new → GoesOn under under' → total' ≡ total → count ≤ count' → Carries told told' old new under under' total total' count count'
-carries_edit told told' old new under under' total total' count count' moves on same more =
-    record { told = moves.told; was_told = moves.was_told; size = moves.size; beside = moves.beside; faults = moves.faults; goes_on = on; total_is = same; more = more }
 
 pub carries_then : (told told' told'' : Type 0) (old mid new under under' under'' : View) (total total' total'' count count' count'' : ℕ) → Carries told told' old mid under under' total total' count count' → Carries told' told'' mid new under' under'' total' total'' count' count''
     → Carries told told'' old new under under'' total total'' count count''

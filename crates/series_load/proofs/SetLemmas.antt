@@ -114,9 +114,6 @@ set_is_edit edit name time (v ∷ vs) is some =
 pub part_none : (total : ℕ) (name : List ℕ) (book : List Series) (runs : List Run) (image : Image) → StandsForBook image total book → IsPartDone total name book runs image
 part_none total name book runs image stands = record { done = []; later = runs; split = refl; after = after_none total name book image stands }
 
-pub part_all : (total : ℕ) (name : List ℕ) (book : List Series) (runs : List Run) (image : Image) → IsAfter total name book runs image → IsPartDone total name book runs image
-part_all total name book runs image after = record { done = runs; later = []; split = sym (append-nil runs); after = after }
-
 pub part_then : (total : ℕ) (name : List ℕ) (book mid : List Series) (first second : List Run) (image : Image) → Loads total name book first mid → IsPartDone total name mid second image → IsPartDone total name book (first ++ second) image
 part_then total name book mid first second image loads part = record {
   done = first ++ part.done;

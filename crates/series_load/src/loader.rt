@@ -3,8 +3,7 @@ ghost use Rattle.std.specs.Prelude.{◌≡◌, ◌≢◌, ◌<◌, ◌≤◌, �
 ghost use Rattle.chart_world.specs.Faults.{CountsFault, fault_in};
 ghost use Rattle.run_ends.specs.Faults.{end_fault};
 ghost use Rattle.series_load.specs.Runs.{Run};
-ghost use Rattle.series_load.specs.Sets.{AreEdits};
-ghost use Rattle.series_load.specs.Steps.{AddsReading, IsSoundFor, KeepsRuns, LineAdds, SaysSo, Took, closed};
+ghost use Rattle.series_load.specs.Steps.{AddsReading, IsSoundFor, SaysSo, Took, closed};
 ghost use Rattle.series_load.specs.Shown as loads;
 ghost use Rattle.series_store.specs.Shown as shown;
 ghost use Rattle.run_ends.specs.declared.ending.End.TheVariants.{NoMemory};

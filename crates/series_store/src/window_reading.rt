@@ -1,5 +1,5 @@
 //! The stored values of a window of slots are read, page by page.
-ghost use Rattle.std.specs.Prelude.{◌≡◌, ◌≢◌, ◌<◌, ◌≤◌, ◌+◌, ◌-◌, ◌^◌, ℕ, ℤ, List, Option, Some, length, slice_get, IfErr, IfOk, OnOk};
+ghost use Rattle.std.specs.Prelude.{◌≡◌, ◌≢◌, ◌<◌, ◌≤◌, ◌+◌, ◌-◌, ◌^◌, ℤ, List, Option, Some, length, slice_get, IfErr, IfOk, OnOk};
 ghost use Rattle.om3_coeff.specs.Keys.{first_slot, end_slot, page_levels};
 ghost use Rattle.om3_coeff.specs.Spans.{IsProperIfAny};
 ghost use Rattle.page_space.specs.Shown as spaces;

@@ -1,15 +1,11 @@
 -- Laws of the codes of statuses.
-use Rattle.std.proofs.Common.{◌≡◌, ◌≢◌, ℕ, zero, suc, ◌≤◌, ◌⊎◌, List, [], ◌∷◌, Option, refl, inl, inr, arith}
+use Rattle.std.proofs.Common.{◌≡◌, ◌≢◌, ℕ, zero, suc, ◌≤◌, ◌⊎◌, List, [], ◌∷◌, Option, inl, inr, arith}
 use Rattle.block_disk.specs.Counts.{HasRisen}
 use Rattle.block_disk.specs.Streams.{sent_after}
 use Rattle.std.specs.Prelude.{Contains}
 use Rattle.disk_store.specs.declared.causes.OpeningCause.TheVariants as opening
 use Rattle.disk_store.specs.Openings.{IsOutside}
-use Rattle.run_ends.specs.Statuses.{code_of, place_of}
-use Rattle.run_ends.specs.declared.ending.End.{End}
-use Rattle.run_ends.specs.declared.ending.End.TheVariants.{Done, NoMemory, SendFault}
 use Rattle.store_commands.specs.Books.{SendsPartOf}
-use Rattle.store_commands.specs.Sending.{IsSent}
 
 -- the codes whose place is 0 are at most 6
 pub low_code : (code : ℕ) → Contains (0 ∷ 3 ∷ 4 ∷ 5 ∷ 6 ∷ []) code → code ≤ 6
@@ -28,39 +24,6 @@ pub record IsSentAs (text : List ℕ) (before now : Option (List ℕ)) (sends se
   pub none : code ≡ 3 → now ≡ before
   pub send : code ≡ 5 → HasRisen sends sends_now
   pub part : code ≡ 5 → SendsPartOf text before now
-
-pub sent_as : (end : End) (text : List ℕ) (before now : Option (List ℕ)) (sends sends_now : ℕ) → IsSent end text before now sends sends_now → IsSentAs text before now sends sends_now (code_of end) (place_of end)
-sent_as Done text before now sends sends_now sent = record {
-  codes = inl refl;
-  place_is = refl;
-  whole = λ is. sent;
-  none = λ is. absurd (omega (arith, is));
-  send = λ is. absurd (omega (arith, is));
-  part = λ is. absurd (omega (arith, is));
-}
-sent_as NoMemory text before now sends sends_now sent = record {
-  codes = inr (inl refl);
-  place_is = refl;
-  whole = λ is. absurd (omega (arith, is));
-  none = λ is. sent;
-  send = λ is. absurd (omega (arith, is));
-  part = λ is. absurd (omega (arith, is));
-}
-sent_as SendFault text before now sends sends_now sent = record {
-  codes = inr (inr refl);
-  place_is = refl;
-  whole = λ is. absurd (omega (arith, is));
-  none = λ is. absurd (omega (arith, is));
-  send = λ is. sent.0;
-  part = λ is. sent.1;
-}
-sent_as end text before now sends sends_now sent = absurd sent
-
--- the codes of a sending
-pub sent_code : (code : ℕ) → (code ≡ 0) ⊎ ((code ≡ 3) ⊎ (code ≡ 5)) → (code ≤ 5) × (code ≢ 4)
-sent_code code (inl is) = (omega (arith, is), λ same. omega (arith, is, same))
-sent_code code (inr (inl is)) = (omega (arith, is), λ same. omega (arith, is, same))
-sent_code code (inr (inr is)) = (omega (arith, is), λ same. omega (arith, is, same))
 
 -- with another code than 0 and 5 it sent nothing
 pub unsent : (code : ℕ) (before now : Option (List ℕ)) → (code ≡ 0) ⊎ ((code ≡ 3) ⊎ (code ≡ 5)) → (code ≡ 3 → now ≡ before) → (code ≡ 0 → ⊥) → (code ≡ 5 → ⊥) → now ≡ before

@@ -1,16 +1,15 @@
 //! The way from the root to a key.
 ghost use Rattle.std.specs.Prelude.{◌≡◌, ◌≢◌, ◌≤◌, ◌<◌, ◌+◌, ◌-◌, ◌*◌, ◌^◌, ◌⊎◌, Some, false, IsTrue, IfSome, IfOk, IfErr, OnOk, OnErr};
-ghost use Rattle.block_disk.specs.Blocks.{IsBlock};
 ghost use Rattle.om3_coeff.specs.declared.errors.NodeError.TheVariants.{Damaged};
 ghost use Rattle.om3_coeff.specs.Keys.{page_levels as levels_of, height, IsNode, MayFollow};
 ghost use Rattle.om3_coeff.specs.declared.key.Key.{Key};
-ghost use Rattle.node_page.specs.Fields.{level_at, child_at};
+ghost use Rattle.node_page.specs.Fields.{child_at};
 ghost use Rattle.node_page.specs.Layout.{KeepsLayout};
 ghost use Rattle.node_page.specs.Places.{page_level as level_of_page};
 ghost use Rattle.page_space.specs.Shown as shown;
 ghost use Rattle.tree_walk.specs.Paths.{path_child as child_on_path};
 ghost use Rattle.tree_walk.specs.Trails.{IsLinked, LeadsTo, LeadsToAny};
-ghost use Rattle.tree_walk.specs.Holding.{IsBadPage, IsHit, IsNear, IsSameAbove};
+ghost use Rattle.tree_walk.specs.Holding.{IsHit, IsNear, IsSameAbove};
 ghost use Rattle.tree_walk.specs.Walk as walk;
 
 use crate::held_page::HeldPage;
