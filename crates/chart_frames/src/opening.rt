@@ -333,7 +333,7 @@ fn kind_start_at(bytes: &[u8]) -> Result<((u32, u8), &[u8]), Stop>
     Ok(((length, kind), rest))
 }
 
-// The frame at the front, up to its items; a report as a whole.
+/// The frame at the front, up to its items; a report as a whole.
 pub fn opening_at(alloc: Global, bytes: &[u8]) -> Result<(Opening, &[u8]), ItemStop>
     ensures ok { IfOk result (λ x. Opens bytes.now x.0 x.1.now) }
     ensures err { IfErr result (λ e. Fails e (read frame_fields bytes.now)) }
