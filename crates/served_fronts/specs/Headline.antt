@@ -1,6 +1,7 @@
--- What is promised of served charts: over any list of runs, each begun on what a crash of the one before left, no acknowledged
--- edit is lost, and of any front of the bytes that were sent `draw` sends the pictures of the book. Books.antt has the book after
--- lines, Answers.antt what is said to lines and what is drawn of it; this is the rest, in the order in which it is needed.
+-- What is promised of served charts, over any list of runs, each begun on what a crash of the one before left: where lines are
+-- served, or answered by texts, no acknowledged edit is lost, and of any front of a serving's answers `draw` sends the pictures of
+-- the book. Of runs that watch, look or change less is said (IsExact). Books.antt has the book after lines, Answers.antt what is
+-- said to lines and what is drawn of it; this is the rest, in the order in which it is needed. The program comes in by IsRun alone.
 use Rattle.std.specs.Prelude.{⊤, ◌≡◌, ℕ, ◌+◌, ◌≤◌, List, [], ◌∷◌, ◌++◌, length, take, Option}
 use Rattle.series_book.specs.declared.one_series.Series.{Series}
 use Rattle.block_disk.specs.View.{Image}
@@ -13,8 +14,9 @@ use Rattle.served_fronts.specs.Texts.{AreTexted}
 
 -- ---- runs
 
--- what a run is for: it serves lines, it answers them by texts, it answers them and follows views, it leaves the book alone, or it
--- changes the book otherwise
+-- What a run is for: it serves lines (the command `serve`), it answers them by texts (`run`), it answers them and follows views
+-- (`live`), it leaves the book alone, or it changes the book otherwise. Of each command `task_of` says it
+-- (crates/chart_program/specs/Exact.antt).
 pub data Task : Type 0 where
   serves : Task
   runs : Task
@@ -22,8 +24,8 @@ pub data Task : Type 0 where
   looks : Task
   changes : Task
 
--- A run over a disk, and a crash at a moment of it or at its end: what stood on the disk at first, the input, all bytes that the
--- run sent, its status, how many bytes were sent by the crash, and what the crash left.
+-- A run over a disk, told to its end, and a crash at one of its moments, or at the end: what stood on the disk at first, the input,
+-- all bytes that the run sends by its end, its status there, how many of them were sent by the crash, and what the crash left.
 pub record Run : Type 0 where
   pub task : Task
   pub begins : Image
@@ -35,7 +37,8 @@ pub record Run : Type 0 where
 
 -- ---- what is promised of a run
 
--- Some first lines of the input say these requests, and these are answers to them, over a book and with no session open.
+-- Some first ones of the lines of the input that aren't empty (`told`) say these requests, and the replies of these answers fit
+-- them, over a book and with no session open.
 pub record AnswersFirst (total : ℕ) (book : List Series) (input : List ℕ) (requests : List (Option Request)) (answers : List Answer) : Type 0 where
   pub lines : List Line
   pub later : List Line
@@ -43,7 +46,8 @@ pub record AnswersFirst (total : ℕ) (book : List Series) (input : List ℕ) (r
   pub said : AreSaid lines requests
   pub fit : AreAnswers total book [] requests answers
 
--- The bytes that were sent begin those of such answers, which are so; with status 0 they are those of the answers to all lines.
+-- All bytes that the run sends are the first ones of such answers, for which AreSo holds (AreFrames, or AreTexted). With status 0
+-- they are all bytes of the answers to all lines.
 pub record Says (AreSo : List Answer → Type 0) (total : ℕ) (book : List Series) (run : Run) : Type 0 where
   pub requests : List (Option Request)
   pub answers : List Answer
@@ -53,8 +57,8 @@ pub record Says (AreSo : List Answer → Type 0) (total : ℕ) (book : List Seri
   pub bytes : bytes_of answers ≡ run.sent ++ unsent
   pub all : run.status ≡ 0 → (first.later ≡ []) × (unsent ≡ [])
 
--- The crash of a serving left the book after some first lines. All bytes that were sent by then are of the answers to these: so
--- each edit is in the book whose answer stands whole in them. At most 64 of these lines have answers that don't.
+-- The next book is that after some first lines. All bytes sent by the crash are the first ones of the answers to these: so it has
+-- each edit whose answer stands whole in them. At most 64 of these lines have answers that don't.
 pub record LeavesBook (total : ℕ) (book : List Series) (run : Run) (next : List Series) : Type 0 where
   pub requests : List (Option Request)
   pub answers : List Answer
@@ -65,8 +69,8 @@ pub record LeavesBook (total : ℕ) (book : List Series) (run : Run) (next : Lis
   pub few : length answers ≤ length (whole_in run.by_then answers) + 64
   pub next_is : next ≡ after_requests total book requests
 
--- The same of texts, where requests behind these may have been done ahead: of what answers those nothing was sent, and with them
--- there are at most 64 whose texts weren't sent whole.
+-- The same of texts. The lines of `requests` have texts, which begin with all that was sent by the crash; those of `ahead`, behind
+-- them, are done too, and nothing was sent for them. Of both together at most 64 have no text that was sent whole.
 pub record LeavesAhead (total : ℕ) (book : List Series) (run : Run) (next : List Series) : Type 0 where
   pub requests : List (Option Request)
   pub ahead : List (Option Request)
@@ -82,7 +86,7 @@ pub record LeavesAhead (total : ℕ) (book : List Series) (run : Run) (next : Li
   pub few : length lines ≤ length (whole_in run.by_then texts) + 64
   pub next_is : next ≡ after_requests total book (requests ++ ahead)
 
--- the crash left the book after some first lines
+-- the next book is that after some first lines; what was sent isn't looked at
 pub record LeavesLines (total : ℕ) (book : List Series) (input : List ℕ) (next : List Series) : Type 0 where
   pub lines : List Line
   pub later : List Line
@@ -99,9 +103,10 @@ IsExact watches total book run next = LeavesLines total book run.input next
 IsExact looks total book run next = next ≡ book
 IsExact changes total book run next = ⊤
 
--- ---- what a run of the program is, as the clause `exact` of its call has it
+-- ---- what is taken of each run: the clause `exact` of the program's call gives it (crates/chart_program/src/top.rt)
 
--- Where the disk stood for a book, this is so, and what the crash left stands for the next one.
+-- Where the disk stood for a book, the run was exact from it to some next book, and what the crash left stands for that one, with as
+-- many pages. Of a run over a disk that stands for no book nothing is taken.
 abbrev pub IsRun : ℕ → Run → Type 0
 IsRun count run =
     (total : ℕ) (book : List Series) → RecoversTo count run.begins total book
