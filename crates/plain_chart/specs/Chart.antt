@@ -23,7 +23,8 @@ place g range s = record { x = column g s.time; y = height_in g range s }
 abbrev pub places : Grid → ValueRange → List Sample → List Point
 places g range samples = map (place g range) samples
 
--- the canvas has the grid's size, and is black just in the raster of the samples
+-- The canvas has the grid's size, and is black just in the raster of the samples: each is joined to the next one, also over slots
+-- that hold nothing or are left out by a filter.
 pub record IsChart (g : Grid) (range : ValueRange) (samples : List Sample) (c : Canvas) : Type 0 where
   pub width : c.w ≡ g.w
   pub height : c.h ≡ g.h

@@ -116,7 +116,7 @@ pub record IsAsked (book : List Series) (name : List ℕ) (w h : ℕ) (t0 t1 : �
   pub range : view.range ≡ range_spec word
   pub filter : HasFilter text view.filter
 
--- why a session isn't answered it
+-- The causes for which a session may be refused it: without any it is shown. Where MayLack alone holds it may be either.
 abbrev pub CantShow : List Series → List ℕ → ℕ → ℕ → ℤ → ℤ → RangeWord → Option (List ℕ) → OpenSession → Type 0
 CantShow book name w h t0 t1 word text s =
     IsBadFilter text ⊎ (HasNone book name ⊎ (IsBadWindow t0 t1 ⊎ ((IsBadSide w ⊎ IsBadSide h) ⊎ (IsBadRange word
@@ -269,7 +269,8 @@ pub record SendsPictures (answers : List Answer) (before now : Option (List ℕ)
   pub are : ArePictures answers pictures
   pub sent : now ≡ sent_after pictures before
 
--- Of any front of what a client gets, cut anywhere, `draw` sends the pictures of the answers that stand whole in it.
+-- Of any front of what a client gets, cut anywhere in its first 2^32 bytes, `draw`, where it has memory and no stream fails, sends the
+-- pictures of the answers that stand whole in it.
 abbrev pub FrontsAreDrawn : List Answer → Type 0
 FrontsAreDrawn answers =
     (got : List Answer) (n : ℕ) (left before now : Option (List ℕ)) → Reach answers got → n ≤ 2 ^ 32
@@ -311,7 +312,7 @@ pub record SendsCovers (answers : List Answer) (before now : Option (List ℕ)) 
   pub are : AreCovers answers covers
   pub sent : now ≡ sent_after covers before
 
--- Of any front of what a client gets, cut anywhere, `cover` sends the covers and the pictures of the answers that stand whole in it.
+-- The same of `cover`, which sends the covers and the pictures of these answers.
 abbrev pub FrontsAreCovered : List Answer → Type 0
 FrontsAreCovered answers =
     (every : ℕ) (got : List Answer) (n : ℕ) (left before now : Option (List ℕ)) → Reach answers got → n ≤ 2 ^ 32

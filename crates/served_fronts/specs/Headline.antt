@@ -1,6 +1,6 @@
 -- What is promised of served charts, over any list of runs, each begun on what a crash of the one before left: where lines are
 -- served, or answered by texts, no acknowledged edit is lost, and of any front of a serving's answers `draw` sends the pictures of
--- the book. Of runs that watch, look or change less is said (IsExact). Books.antt has the book after lines, Answers.antt what is
+-- the book as it was at each view's line. Of runs that watch, look or change less is said (IsExact). Books.antt has the book after lines, Answers.antt what is
 -- said to lines and what is drawn of it; this is the rest, in the order in which it is needed. The program comes in by IsRun alone.
 use Rattle.std.specs.Prelude.{⊤, ◌≡◌, ℕ, ◌+◌, ◌≤◌, List, [], ◌∷◌, ◌++◌, length, take, Option}
 use Rattle.series_book.specs.declared.one_series.Series.{Series}
@@ -25,7 +25,8 @@ pub data Task : Type 0 where
   changes : Task
 
 -- A run over a disk, told to its end, and a crash at one of its moments, or at the end: what stood on the disk at first, the input,
--- all bytes that the run sends by its end, its status there, how many of them were sent by the crash, and what the crash left.
+-- all bytes that the run sends by its end, its status there, how many of them were sent by the crash, and what the crash left. Where
+-- the power failed, no byte behind these was sent.
 pub record Run : Type 0 where
   pub task : Task
   pub begins : Image
@@ -46,8 +47,8 @@ pub record AnswersFirst (total : ℕ) (book : List Series) (input : List ℕ) (r
   pub said : AreSaid lines requests
   pub fit : AreAnswers total book [] requests answers
 
--- All bytes that the run sends are the first ones of such answers, for which AreSo holds (AreFrames, or AreTexted). With status 0
--- they are all bytes of the answers to all lines.
+-- All bytes that the run sends are the first ones of such answers, for which AreSo holds: AreFrames, of which `draw` makes the
+-- right pictures, or AreTexted, in which the pictures stand. With status 0 they are all bytes of the answers to all lines.
 pub record Says (AreSo : List Answer → Type 0) (total : ℕ) (book : List Series) (run : Run) : Type 0 where
   pub requests : List (Option Request)
   pub answers : List Answer
@@ -95,7 +96,8 @@ pub record LeavesLines (total : ℕ) (book : List Series) (input : List ℕ) (ne
   pub said : AreSaid lines requests
   pub next_is : next ≡ after_requests total book requests
 
--- From one book to the next a run was exact. What a run leaves that changes the book otherwise isn't said here.
+-- From one book to the next a run was exact. Of runs that watch or look nothing is said of the bytes sent, and of those that change
+-- the book otherwise nothing at all.
 abbrev pub IsExact : Task → ℕ → List Series → Run → List Series → Type 0
 IsExact serves total book run next = Says AreFrames total book run × LeavesBook total book run next
 IsExact runs total book run next = Says AreTexted total book run × LeavesAhead total book run next
@@ -105,8 +107,8 @@ IsExact changes total book run next = ⊤
 
 -- ---- what is taken of each run: the clause `exact` of the program's call gives it (crates/chart_program/src/top.rt)
 
--- Where the disk stood for a book, the run was exact from it to some next book, and what the crash left stands for that one, with as
--- many pages. Of a run over a disk that stands for no book nothing is taken.
+-- Where the disk, which has `count` pages, stood for a book that may take `total` of them, the run was exact from it to some next book,
+-- and what the crash left stands for that one. Of a run over a disk that stands for no book nothing is taken.
 abbrev pub IsRun : ℕ → Run → Type 0
 IsRun count run =
     (total : ℕ) (book : List Series) → RecoversTo count run.begins total book
