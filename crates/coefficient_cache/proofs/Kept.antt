@@ -28,7 +28,7 @@ some_pair e = Some e
 pair_in : (e f : SeriesKey × Coef) → ◌≡◌ {A = Option (SeriesKey × Coef)} (Some e) (Some f) → e ≡ f
 pair_in e f h = ap (λ (o : Option (SeriesKey × Coef)). option_map_or (λ x. x) o e) h
 
-key_in : (k l : SeriesKey) (v w : Coef) → ◌≡◌ {A = Option (SeriesKey × Coef)} (Some (k, v)) (Some (l, w)) → k ≡ l
+pub key_in : (k l : SeriesKey) (v w : Coef) → ◌≡◌ {A = Option (SeriesKey × Coef)} (Some (k, v)) (Some (l, w)) → k ≡ l
 key_in k l v w h = ap (λ (o : Option (SeriesKey × Coef)). option_map_or (λ x. x.0) o k) h
 
 pub num_in : (i j : ℕ) → ◌≡◌ {A = Option ℕ} (Some i) (Some j) → i ≡ j
@@ -109,7 +109,7 @@ apart-shown (Some e ∷ ps) h =
     IsDistinct-cons key_eq e.0 (keys_of (shown ps)) (none-among e.0 (shown ps) (none_passes_from_lookup (key_eq e.0) (shown ps) behind))
     (apart-shown ps (λ i j k v w a b. let same : suc i ≡ suc j = h (suc i) (suc j) k v w a b in omega (arith, same)))
 
-turned-keys : (es : List (SeriesKey × Coef)) → keys_of (reverse es) ≡ reverse (keys_of es)
+pub turned-keys : (es : List (SeriesKey × Coef)) → keys_of (reverse es) ≡ reverse (keys_of es)
 turned-keys [] = refl
 turned-keys (e ∷ es) =
     ap keys_of (reverse-append (e ∷ []) es)

@@ -9,3 +9,4 @@ pub mod Empty
 pub mod Kept
 pub mod Putting
 pub mod Apart
+pub mod Fronts

@@ -66,14 +66,14 @@ module _ (pairs : List (SeriesKey × Coef)) (apart : IsDistinct key_eq (keys_of 
       ∙ nothing-sent series es (g ∷ rest) next
 
   -- all of them are hits
-  all-hits : (all rest : List (SeriesKey × Coef)) → pairs ≡ reverse all ++ rest → hits pairs all ≡ all
+  pub all-hits : (all rest : List (SeriesKey × Coef)) → pairs ≡ reverse all ++ rest → hits pairs all ≡ all
   all-hits [] rest is = refl
   all-hits (e ∷ es) rest is =
       let next = is ∙ turn e es rest in
       ap (λ b. cond b (e ∷ hits pairs es) (hits pairs es)) (ap (λ l. has l e.0) next ∙ there (reverse es) e rest)
       ∙ ap (λ l. e ∷ l) (all-hits es (e ∷ rest) next)
 
-  no-news : (all rest : List (SeriesKey × Coef)) → pairs ≡ reverse all ++ rest → news pairs all ≡ []
+  pub no-news : (all rest : List (SeriesKey × Coef)) → pairs ≡ reverse all ++ rest → news pairs all ≡ []
   no-news [] rest is = refl
   no-news (e ∷ es) rest is =
       let next = is ∙ turn e es rest in
@@ -97,7 +97,7 @@ kept front xs (y ∷ ys) d =
     ap (λ b. cond (not b) (y ∷ filter q ys) (filter q ys)) (past front (xs ++ y ∷ ys) y.0 d (there xs y ys))
     ∙ ap (λ l. y ∷ l) (kept front (xs ++ y ∷ []) ys (subst (λ l. IsDistinct key_eq (keys_of (front ++ l))) (sym (append_assoc xs (y ∷ []) ys)) d))
 
-rest-others : (all rest : List (SeriesKey × Coef)) → IsDistinct key_eq (keys_of (reverse all ++ rest)) → others (reverse all ++ rest) all ≡ rest
+pub rest-others : (all rest : List (SeriesKey × Coef)) → IsDistinct key_eq (keys_of (reverse all ++ rest)) → others (reverse all ++ rest) all ≡ rest
 rest-others all rest d =
     let q : SeriesKey × Coef → Bool = λ e. not (has all e.0) in
     filter-append q (reverse all) rest

@@ -1,10 +1,11 @@
 -- Pairs in the order in which they were put into a list, and which of them are held.
-use Rattle.std.specs.Prelude.{ℕ, ◌≡◌, ◌-◌, ◌<◌, ◌≤◌, Bool, List, [], ◌∷◌, length, take, get_or, Option, None, Some}
+use Rattle.std.specs.Prelude.{ℕ, ◌≡◌, ◌-◌, ◌<◌, ◌≤◌, Bool, List, [], ◌∷◌, length, map, take, drop, get_or, Option, None, Some}
 use Rattle.std.specs.Option.{option_map_or}
 use Rattle.std.specs.Map.{lookup, lookup_entry, remove_entry}
 use Rattle.om3_coeff.specs.declared.coef.Coef.{Coef}
 use Rattle.coefficient_cache.specs.declared.series_key.SeriesKey.{SeriesKey}
-use Rattle.coefficient_cache.specs.Pairs.{key_eq}
+use Rattle.om3_coeff.specs.declared.key.Key.{Key}
+use Rattle.coefficient_cache.specs.Pairs.{series_key, key_eq}
 use Rattle.coefficient_cache.specs.Caches.{IsCapacity}
 
 -- those that are held
@@ -33,3 +34,22 @@ pub record IsFirstHeld (puts : List (Option (SeriesKey × Coef))) (i : ℕ) (k :
 -- and a new one pushes the last pair out of a full list
 abbrev pub put_entries : {K V : Type 0} → (K → K → Bool) → List (K × V) → ℕ → K → V → List (K × V)
 put_entries eq es n k v = option_map_or (λ e. (e.0, v) ∷ remove_entry (eq k) es) (lookup_entry (eq k) es) ((k, v) ∷ take (n - 1) es)
+
+-- the same places hold pairs, of the same keys
+abbrev pub AreAlike : List (Option (SeriesKey × Coef)) → List (Option (SeriesKey × Coef)) → Type 0
+AreAlike [] [] = Unit {0}
+AreAlike [] (q ∷ qs) = ⊥
+AreAlike (p ∷ ps) [] = ⊥
+AreAlike (None ∷ ps) (None ∷ qs) = AreAlike ps qs
+AreAlike (None ∷ ps) (Some f ∷ qs) = ⊥
+AreAlike (Some e ∷ ps) (None ∷ qs) = ⊥
+AreAlike (Some e ∷ ps) (Some f ∷ qs) = (e.0 ≡ f.0) × AreAlike ps qs
+
+-- needed pairs of a series as they are put
+abbrev pub put_in : ℕ → List (Key × Coef) → List (Option (SeriesKey × Coef))
+put_in series needed = map (λ e. Some (series_key series e.0, e.1)) needed
+
+-- the last pairs are of the needed keys, in order
+pub record HasKeys (puts : List (Option (SeriesKey × Coef))) (series : ℕ) (needed : List (Key × Coef)) : Type 0 where
+  pub fits : length needed ≤ length puts
+  pub alike : AreAlike (drop (length puts - length needed) puts) (put_in series needed)

@@ -2,6 +2,7 @@
 use Rattle.std.specs.Prelude.{ℕ, Bool, ◌≡◌, ◌≢◌, not, ◌==◌, List, ◌++◌, Some, map, reverse, take, All, AllPairs, filter}
 use Rattle.std.specs.List.{filter_map}
 use Rattle.std.specs.Option.{option_map}
+use Rattle.std.specs.Map.{keys_of}
 use Rattle.om3_coeff.specs.declared.key.Key.{Key}
 use Rattle.om3_coeff.specs.declared.coef.Coef.{Coef}
 use Rattle.coefficient_cache.specs.declared.series_key.SeriesKey.{SeriesKey}
@@ -58,3 +59,12 @@ of_series series pairs = filter (λ e. e.0.series == series) pairs
 pub record IsInFront (pairs : List (SeriesKey × Coef)) (series : ℕ) (needed : List (Key × Coef)) : Type 0 where
   pub rest : List (SeriesKey × Coef)
   pub is : pairs ≡ reverse (in_series series needed) ++ rest
+
+-- Pairs of just the needed keys stood at the front of the list, the one that is needed last before the others, and now
+-- have their needed coefficients.
+pub record RenewsFront (old new : List (SeriesKey × Coef)) (series : ℕ) (needed : List (Key × Coef)) : Type 0 where
+  pub front : List (SeriesKey × Coef)
+  pub rest : List (SeriesKey × Coef)
+  pub was : old ≡ reverse front ++ rest
+  pub keys : keys_of front ≡ keys_of (in_series series needed)
+  pub is : new ≡ reverse (in_series series needed) ++ rest

@@ -96,21 +96,25 @@ impl CoefficientCache {
         if self.list.is_in_front(series, needed) {
             return Ok(Coefs::from_vec(sent));
         }
+        let mut from = 0;
         for (key, coef) in needed {
-            if !self.holds(series, *key, *coef) {
+            let (is_held, next) = self.holds(from, series, *key, *coef);
+            if !is_held {
                 sent.push((*key, *coef))?;
             }
+            from = next;
         }
         Ok(Coefs::from_vec(sent))
     }
 
-    // Whether the list holds the key with this coefficient.
-    fn holds(&self, series: u16, key: Key, coef: Coef) -> bool
-        ensures { result ≡ holds self.now.pairs (series_key series key, coef) }
+    // Whether the list holds the key with this coefficient, and where to look for the next one.
+    fn holds(&self, from: usize, series: u16, key: Key, coef: Coef) -> (bool, usize)
+        ensures { result.0 ≡ holds self.now.pairs (series_key series key, coef) }
     {
-        match self.find(series, key) {
-            Some(held) => coef == held,
-            None => false,
+        let (found, next) = self.list.find_near(from, SeriesKey::new(series, key));
+        match found {
+            Some(held) => (coef == held, next),
+            None => (false, next),
         }
     }
 
@@ -133,6 +137,9 @@ impl CoefficientCache {
         // It brings in what holds of every list: no two keys are the same, and it is within its capacity.
         let _length = self.list.len();
         if self.list.is_in_front(series, needed) {
+            return Ok(());
+        }
+        if self.list.renew_front(series, needed) {
             return Ok(());
         }
         let is_new = renew_hits(&mut self.list, alloc, series, needed)?;

@@ -1,14 +1,14 @@
 //! A list of pairs, the one that was put last before the others.
 
-ghost use Rattle.std.specs.Prelude.{◌≡◌, ◌==◌, ◌<◌, ◌≤◌, ◌-◌, ◌∷◌, ◌&&◌, ℕ, [], false, length, take, reverse, get_or, if◌then◌else◌, None, Some, IfSome, IfNone, IfOk, OnOk, IsTrue};
+ghost use Rattle.std.specs.Prelude.{◌≡◌, ◌==◌, ◌<◌, ◌≤◌, ◌-◌, ◌∷◌, ◌++◌, ◌&&◌, ℕ, [], false, length, take, reverse, get_or, if◌then◌else◌, None, Some, IfSome, IfNone, IfOk, OnOk, IsTrue, IsFalse};
 ghost use Rattle.std.specs.List.{IsDistinct};
 ghost use Rattle.std.specs.Option.{option_map};
 ghost use Rattle.std.specs.Map.{keys_of, remove_entry};
 ghost use Rattle.coefficient_cache.specs.Pairs.{key_eq, coefficient_eq, coefficient_at, has};
-ghost use Rattle.coefficient_cache.specs.Views.{IsInFront};
+ghost use Rattle.coefficient_cache.specs.Views.{IsInFront, RenewsFront};
 ghost use Rattle.coefficient_cache.specs.Caches.{IsCapacity, IsValid};
 ghost use Rattle.om3_coeff.specs.declared.coef.Coef.{Coef};
-ghost use Rattle.coefficient_cache.specs.Puts.{shown, IsFirstHeld, put_entries};
+ghost use Rattle.coefficient_cache.specs.Puts.{shown, IsFirstHeld, HasKeys, put_entries, put_in};
 
 use crate::series_key::SeriesKey;
 use om3_coeff::{Coef, Key};
@@ -42,8 +42,11 @@ impl Model for PairList {
     ghost invariant = { λ l. AreKept l.puts.items l.places.entries l.start l.capacity };
 }
 
-// So many places may be empty, and half as many as there are pairs.
+// So many places may be empty, and three quarters as many as there are pairs.
 const SPARE: usize = 1_024;
+
+// At so many places the next key is looked for before it is looked up.
+const NEAR: usize = 8;
 
 impl PairList {
     /// An empty list. It takes no memory.
@@ -85,10 +88,32 @@ impl PairList {
     pub(crate) fn find(&self, key: SeriesKey) -> Option<Coef>
         ensures { result ≡ coefficient_at self.now.pairs key }
     {
+        self.look_up(key).0
+    }
+
+    /// The coefficient of a key, and the place behind its pair, or behind all where it isn't held.
+    fn look_up(&self, key: SeriesKey) -> (Option<Coef>, usize)
+        ensures { result.0 ≡ coefficient_at self.now.pairs key }
+    {
         let Some(place) = self.places.get(&key) else {
-            return None;
+            return (None, self.puts.len());
         };
-        coef_of(self.puts[*place])
+        (coef_of(self.puts[*place]), place.saturating_add(1))
+    }
+
+    /// The coefficient of a key, and where to look for the next one. The key is looked for at some places
+    /// from this one on, and looked up where it isn't there: keys are mostly needed in the order in
+    /// which they were.
+    pub(crate) fn find_near(&self, from: usize, key: SeriesKey) -> (Option<Coef>, usize)
+        ensures { result.0 ≡ coefficient_at self.now.pairs key }
+    {
+        let puts = self.puts.as_slice();
+        for place in from..from.saturating_add(NEAR).min(puts.len()) {
+            if is_of(puts[place], key) {
+                return (coef_of(puts[place]), place.saturating_add(1));
+            }
+        }
+        self.look_up(key)
     }
 
     /// Whether the needed pairs are the first ones of the list, the one that is needed last before the
@@ -109,11 +134,25 @@ impl PairList {
         true
     }
 
-    /// Makes room for so many pairs more.
+    /// Gives the first pairs of the list their needed coefficients, where they are of just the needed
+    /// keys, in the order in which a view leaves them. Whether they are. It looks nothing up.
+    pub(crate) fn renew_front(&mut self, series: u16, needed: &[(Key, Coef)]) -> bool
+        ensures front { IsTrue result → RenewsFront self.old.pairs self.new.pairs series needed.now }
+        ensures other { IsFalse result → self.new ≡ self.old }
+        ensures capacity { self.new.capacity ≡ self.old.capacity }
+    {
+        if !have_keys(self.puts.as_slice(), series, needed) {
+            return false;
+        }
+        set_coefs(&mut self.puts, series, needed);
+        true
+    }
+
+    /// Makes room for so many pairs more, and for as many that are put again.
     pub(crate) fn reserve(&mut self, count: usize) -> Result<(), AllocError>
         ensures { self.new ≡ self.old }
     {
-        self.puts.reserve(count)?;
+        self.puts.reserve(count.saturating_mul(2))?;
         self.places.reserve(count)
     }
 
@@ -141,18 +180,25 @@ impl PairList {
         self.drop_last();
     }
 
-    /// The same of a key that is in the list; no other one is put. Whether it is.
-    pub(crate) fn put_again(&mut self, key: SeriesKey, coef: Coef) -> Result<bool, AllocError>
-        ensures there { IfOk result (λ there. there ≡ has self.old.pairs key) }
+    /// The same of a key that is in the list; no other one is put. Whether it is, and where to look for the
+    /// next one; this one is looked for as `find_near` does.
+    pub(crate) fn put_again(
+        &mut self,
+        from: usize,
+        key: SeriesKey,
+        coef: Coef,
+    ) -> Result<(bool, usize), AllocError>
+        ensures there { IfOk result (λ r. r.0 ≡ has self.old.pairs key) }
         ensures pairs { OnOk result (self.new.pairs ≡
             (if has self.old.pairs key then put_entries key_eq self.old.pairs self.old.capacity key coef else self.old.pairs)) }
         ensures capacity { self.new.capacity ≡ self.old.capacity }
     {
-        if self.find(key).is_none() {
-            return Ok(false);
+        let (held, next) = self.find_near(from, key);
+        if held.is_none() {
+            return Ok((false, next));
         }
         self.add(key, coef)?;
-        Ok(true)
+        Ok((true, next))
     }
 
     /// Puts a pair in front, where there is room for it.
@@ -186,13 +232,14 @@ impl PairList {
         self.start = place;
     }
 
-    /// Packs the list where more than half as many places are empty as there are pairs, and `SPARE`.
+    /// Packs the list where more than three quarters as many places are empty as there are pairs, and
+    /// `SPARE`.
     pub(crate) fn pack(&mut self, alloc: Global) -> Result<(), AllocError>
         ensures pairs { OnOk result (self.new.pairs ≡ self.old.pairs) }
         ensures capacity { self.new.capacity ≡ self.old.capacity }
     {
         let count = self.places.len();
-        if self.puts.len() <= count + count / 2 + SPARE {
+        if self.puts.len() <= count + count / 2 + count / 4 + SPARE {
             return Ok(());
         }
         *self = packed(alloc, self.puts.as_slice(), count, self.capacity)?;
@@ -217,6 +264,43 @@ fn is_put(put: Option<(SeriesKey, Coef)>, key: SeriesKey, coef: Coef) -> bool
     match put {
         Some((held, value)) => is_pair(held, value, key, coef),
         None => false,
+    }
+}
+
+// Whether a pair of this key is held.
+fn is_of(put: Option<(SeriesKey, Coef)>, key: SeriesKey) -> bool
+    ensures { IsTrue result → (v : Coef) × (put ≡ Some (key, v)) }
+{
+    match put {
+        Some((held, _)) => held == key,
+        None => false,
+    }
+}
+
+// Whether the last pairs are of the needed keys, in order, and all are held.
+fn have_keys(puts: &[Option<(SeriesKey, Coef)>], series: u16, needed: &[(Key, Coef)]) -> bool
+    ensures { IsTrue result → HasKeys puts.now series needed.now }
+{
+    if puts.len() < needed.len() {
+        return false;
+    }
+    let front = puts.len() - needed.len();
+    for (i, (key, _)) in needed.iter().enumerate() {
+        if !is_of(puts[front + i], SeriesKey::new(series, *key)) {
+            return false;
+        }
+    }
+    true
+}
+
+// Puts the needed pairs in the place of the last ones.
+fn set_coefs(puts: &mut Vec<Option<(SeriesKey, Coef)>>, series: u16, needed: &[(Key, Coef)])
+    requires { length needed.now ≤ length puts.old.items }
+    ensures { puts.new.items ≡ take (length puts.old.items - length needed.now) puts.old.items ++ put_in series needed.now }
+{
+    let front = puts.len() - needed.len();
+    for (i, (key, coef)) in needed.iter().enumerate() {
+        puts[front + i] = Some((SeriesKey::new(series, *key), *coef));
     }
 }
 

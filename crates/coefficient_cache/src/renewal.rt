@@ -31,9 +31,11 @@ pub(crate) fn renew_hits(
     // It brings in what holds of every list: no two keys are the same.
     let _length = list.len();
     let mut is_new = Vec::with_capacity(alloc, needed.len())?;
+    let mut from = 0;
     for (key, coef) in needed {
-        let is_there = list.put_again(SeriesKey::new(series, *key), *coef)?;
+        let (is_there, next) = list.put_again(from, SeriesKey::new(series, *key), *coef)?;
         is_new.push(!is_there)?;
+        from = next;
     }
     Ok(is_new)
 }

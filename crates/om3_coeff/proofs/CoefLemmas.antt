@@ -5,6 +5,7 @@ use Rattle.std.proofs.lemmas.Result.{IfOk-weaker}
 use Rattle.std.proofs.lemmas.Bool.Decides.{nat_tests}
 use Rattle.std.specs.Prelude.{Option, Some, None, is_some, IsErr, IfOk, Result, Ok, ok_or, int_le}
 use Rattle.std.specs.Int.{int_min, int_max}
+use Rattle.whole_number.specs.Range.{IsValue}
 use Rattle.om3_coeff.specs.declared.span.Span.{Span}
 use Rattle.om3_coeff.specs.declared.coef.Coef.{Coef}
 use Rattle.om3_coeff.specs.Spans.{IsProper, IsProperIfAny, is_proper, hull}
@@ -232,6 +233,30 @@ hull-proper (Some l) (Some r) pl pr = record {
   low = grind (arith, ints, pl.low, pr.low);
   high = grind (arith, ints, pl.high, pr.high);
 }
+
+-- a span whose ends are those of another one, where either is a value
+module _ (s t : Span) (low : IsValue s.min → s.min ≡ t.min) (low_back : IsValue t.min → s.min ≡ t.min)
+    (high : IsValue s.max → s.max ≡ t.max) (high_back : IsValue t.max → s.max ≡ t.max) where
+  same_from : IsProper s → s ≡ t
+  same_from p = span_is t s.min s.max (low p.low) (high p.high)
+
+  same_back : IsProper t → s ≡ t
+  same_back q = span_is t s.min s.max (low_back q.low) (high_back q.high)
+
+  none_of : (b : Bool) → is_proper t ≡ b → is_proper s ≡ false → cond false (Some s) None ≡ cond b (Some t) None
+  none_of true e f = absurd (not_both (is_proper s) (ap is_proper (same_back (proper_is t e)) ∙ e) f)
+  none_of false e f = refl
+
+  proper_alike : (b : Bool) → is_proper s ≡ b → cond b (Some s) None ≡ proper_only t
+  proper_alike true e = ap₂ (λ (a : Bool) (x : Span). cond a (Some x) None) (sym e ∙ ap is_proper (same_from (proper_is s e))) (same_from (proper_is s e))
+  proper_alike false e = none_of (is_proper t) refl e
+
+-- a part whose ends were answered is the exact one
+pub part_is : (low high : ℤ) (t : Span) → (IsValue low → low ≡ t.min) → (IsValue t.min → low ≡ t.min) → (IsValue high → high ≡ t.max) → (IsValue t.max → high ≡ t.max)
+    → proper_only (record { min = low; max = high }) ≡ proper_only t
+part_is low high t a b c d =
+    let s : Span = record { min = low; max = high } in
+    proper_alike s t a b c d (is_proper s) refl
 
 -- the code's parts
 both_proper : (a b : Bool) (l r : Span) → cond (is_some (cond a (Some l) None) && is_some (cond b (Some r) None)) (Some (let p : Option Span × Option Span = (cond a (Some l) None, cond b (Some r) None) in p)) None

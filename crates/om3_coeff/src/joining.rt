@@ -7,7 +7,9 @@ ghost use Rattle.om3_coeff.specs.Coefs.{coef_of, parts, proper_only, left_part, 
 use crate::coef::Coef;
 use crate::errors::BadCoef;
 use crate::span::Span;
-use whole_number::limits::GREATEST_VALUE;
+
+// The greatest value that a slot holds.
+const GREATEST: i64 = 1_000_000_000_000_000_000;
 
 /// The coefficient of a key whose halves have these spans, and the span of the key.
 pub fn join(left: Option<Span>, right: Option<Span>) -> (Coef, Option<Span>)
@@ -132,71 +134,80 @@ fn one_part(span: Span, coef: Coef) -> Option<Span>
     if coef.dmin != 0 || coef.dmax != 0 {
         return None;
     }
-    checked(i128::from(span.min), i128::from(span.max))
+    checked(span)
 }
 
 fn left_part(span: Span, coef: Coef) -> Option<Span>
     ensures { result ≡ proper_only (left_part span coef) }
 {
-    checked(
-        same_or_raised(coef.dmin <= 0, span.min, coef.dmin),
-        same_or_raised(coef.dmax >= 0, span.max, coef.dmax),
-    )
+    checked(Span {
+        min: left_min(span, coef),
+        max: left_max(span, coef),
+    })
 }
 
 fn right_part(span: Span, coef: Coef) -> Option<Span>
     ensures { result ≡ proper_only (right_part span coef) }
 {
-    checked(
-        lowered_or_same(coef.dmin <= 0, span.min, coef.dmin),
-        lowered_or_same(coef.dmax >= 0, span.max, coef.dmax),
-    )
-}
-
-// An end of the whole span, or one that is so much higher.
-fn same_or_raised(same: bool, end: i64, by: i64) -> i128
-    ensures { result ≡ (if same then end else end +ℤ by) }
-{
-    if same {
-        i128::from(end)
-    } else {
-        i128::from(end) + i128::from(by)
-    }
-}
-
-// An end of the whole span that is so much lower, or that end.
-fn lowered_or_same(lower: bool, end: i64, by: i64) -> i128
-    ensures { result ≡ (if lower then end -ℤ by else end) }
-{
-    if lower {
-        i128::from(end) - i128::from(by)
-    } else {
-        i128::from(end)
-    }
-}
-
-// The span with these ends, where it is ordered and in range.
-fn checked(min: i128, max: i128) -> Option<Span>
-    ensures span { IfSome result (λ span. span ≡ record { min = min; max = max }) }
-    ensures some { is_some result ≡ is_proper (record { min = min; max = max }) }
-{
-    if !fits(min, max) {
-        return None;
-    }
-    Some(Span {
-        min: min as i64,
-        max: max as i64,
+    checked(Span {
+        min: right_min(span, coef),
+        max: right_max(span, coef),
     })
 }
 
-// Whether the ends are those of a span that is ordered and in range.
-#[tactic(auto, unfolding(crate::specs::Spans::is_proper))]
-fn fits(min: i128, max: i128) -> bool
-    ensures proper { result ≡ is_proper (record { min = min; max = max }) }
-    ensures low { IsTrue result → IsValue min }
-    ensures high { IsTrue result → IsValue max }
+// The ends of the halves. Where one doesn't fit in 64 bits it is no value, and what is answered for it
+// isn't either.
+fn left_min(span: Span, coef: Coef) -> i64
+    ensures value { IsValue result → result ≡ (left_part span coef).min }
+    ensures exact { IsValue (left_part span coef).min → result ≡ (left_part span coef).min }
 {
-    min <= max
-        && min.unsigned_abs() <= u128::from(GREATEST_VALUE)
-        && max.unsigned_abs() <= u128::from(GREATEST_VALUE)
+    if coef.dmin > 0 {
+        return span.min.saturating_add(coef.dmin);
+    }
+    span.min
+}
+
+fn left_max(span: Span, coef: Coef) -> i64
+    ensures value { IsValue result → result ≡ (left_part span coef).max }
+    ensures exact { IsValue (left_part span coef).max → result ≡ (left_part span coef).max }
+{
+    if coef.dmax < 0 {
+        return span.max.saturating_add(coef.dmax);
+    }
+    span.max
+}
+
+fn right_min(span: Span, coef: Coef) -> i64
+    ensures value { IsValue result → result ≡ (right_part span coef).min }
+    ensures exact { IsValue (right_part span coef).min → result ≡ (right_part span coef).min }
+{
+    if coef.dmin < 0 {
+        return span.min.saturating_sub(coef.dmin);
+    }
+    span.min
+}
+
+fn right_max(span: Span, coef: Coef) -> i64
+    ensures value { IsValue result → result ≡ (right_part span coef).max }
+    ensures exact { IsValue (right_part span coef).max → result ≡ (right_part span coef).max }
+{
+    if coef.dmax > 0 {
+        return span.max.saturating_sub(coef.dmax);
+    }
+    span.max
+}
+
+// The span, where it is ordered and in range.
+fn checked(span: Span) -> Option<Span>
+    ensures { result ≡ proper_only span }
+{
+    if fits(span) { Some(span) } else { None }
+}
+
+// Whether a span is ordered and in range.
+#[tactic(auto, unfolding(crate::specs::Spans::is_proper))]
+fn fits(span: Span) -> bool
+    ensures { result ≡ is_proper span }
+{
+    -GREATEST <= span.min && span.min <= span.max && span.max <= GREATEST
 }

@@ -3,7 +3,7 @@ use Rattle.std.specs.Map.{lookup}
 use Rattle.coefficient_cache.specs.Pairs.{key_eq, coefficient_at}
 use Rattle.coefficient_cache.specs.Caches.{Cache}
 use Rattle.coefficient_cache.proofs.Kept.{held-within, not-held, found-at}
-use Rattle.coefficient_cache.proofs.pair_list.PairList.find.Goals as goal
+use Rattle.coefficient_cache.proofs.pair_list.PairList.look_up.Goals as goal
 
 pub returns-in_default : goal.returns-in_default
 returns-in_default c =
