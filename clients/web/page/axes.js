@@ -28,21 +28,30 @@ export function placedTimes(window, w, how) {
   return timeTicks(window.t0, window.t1, most, how).map(({ time, text }) => ({ pixel: columnOf(time, window, w), text }));
 }
 
-export function drawTimeLines(lines, placed) {
-  put(lines, placed, ({ pixel }) => place(make("i", { class: "down" }), "left", edge(pixel)));
+/** Makes the lines of round times; gives what puts them where they belong. */
+export function makeTimeLines(lines, placed) {
+  return making(lines, placed, ({ pixel }) => place(make("i", { class: "down" }), "left", edge(pixel)));
 }
 
-export function drawTimes(labels, placed) {
-  put(labels, placed, ({ pixel, text }) => place(make("span", {}, text), "left", middle(pixel)));
+/** Makes the texts of round times; gives what puts them where they belong. */
+export function makeTimes(labels, placed) {
+  return making(labels, placed, ({ pixel, text }) => place(make("span", {}, text), "left", middle(pixel)));
 }
 
 /** Puts an element for each tick into a parent, where they aren't there already. */
-function put(parent, placed, elementOf) {
+const put = (parent, placed, elementOf) => making(parent, placed, elementOf)();
+
+/** Makes an element for each tick of a parent, where they aren't there already; gives what puts them there. */
+function making(parent, placed, elementOf) {
   const key = `${devicePixelRatio} ${placed.map(({ pixel, text }) => `${pixel} ${text}`)}`;
-  if (parent.dataset.ticks !== key) {
-    parent.dataset.ticks = key;
-    parent.replaceChildren(...placed.map(elementOf));
-  }
+  const isThere = () => parent.dataset.ticks === key;
+  const elements = isThere() ? null : placed.map(elementOf);
+  return () => {
+    if (!isThere()) {
+      parent.dataset.ticks = key;
+      parent.replaceChildren(...(elements ?? placed.map(elementOf)));
+    }
+  };
 }
 
 function place(element, side, where) {

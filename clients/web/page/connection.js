@@ -89,7 +89,7 @@ const isAnswer = ({ kind }, line) => !["opened", "closed"].includes(kind) || /^(
 export class Connection {
   constructor(said) {
     this.said = said; // is told in words which client draws
-    this.turn = Promise.resolve();
+    this.turn = null; // ends with the requests that are under way
     this.cut = new AbortController(); // of what is under way
     this.number = 0; // of the session; 0 while none is open
     this.bytes = 0; // of all frames so far
@@ -100,7 +100,7 @@ export class Connection {
   async begin() {
     this.close();
     this.cut.abort();
-    [this.cut, this.turn] = [new AbortController(), Promise.resolve()];
+    [this.cut, this.turn] = [new AbortController(), null];
     this.drawn = await newClient();
     this.said(this.drawn);
     while (this.number === 0) {
@@ -115,13 +115,17 @@ export class Connection {
   }
 
   /**
-   * Sends lines, and gives an answer for each: its bytes, its frame and picture, or why it was refused. Each is handed to `took` as it
-   * comes, with its place in the list; and while one comes slowly, `covered` gets its covers.
+   * Sends lines, at once where no others are under way, and gives an answer for each: its bytes, its frame and picture, or why it was
+   * refused. Each is handed to `took` as it comes, with its place in the list; and while one comes slowly, `covered` gets its covers.
    */
   ask(lines, took = () => {}, covered = null) {
-    const answers = this.turn.then(() => this.answers(lines, took, covered));
-    this.turn = answers.catch(() => {});
-    return answers;
+    return new Promise((enough, fail) => {
+      const send = () => this.answers(lines, took, covered, enough).catch(fail);
+      const turn = (this.turn ? this.turn.then(send) : send()).then(() => {
+        this.turn = this.turn === turn ? null : this.turn;
+      });
+      this.turn = turn;
+    });
   }
 
   /** Sends the words of views behind the session's number. */
@@ -133,14 +137,14 @@ export class Connection {
     );
   }
 
-  async answers(lines, took, covered) {
+  /** Sends lines, and reads all that comes of them; the answers are handed to `enough` as soon as there is one for each. */
+  async answers(lines, took, covered, enough) {
     const { drawn } = this;
     try {
-      const answers = await this.read(lines, took, covered);
+      const answers = await this.read(lines, took, covered, enough);
       if (answers.length < lines.length) {
         throw new Denied("the answer was broken off", 0);
       }
-      return answers;
     } catch (error) {
       // Unless it was refused as it stands, a frame was lost, and with it what the next ones stand on.
       if (drawn === this.drawn && !(error instanceof Denied && [400, 403].includes(error.status))) {
@@ -150,8 +154,7 @@ export class Connection {
     }
   }
 
-  /** Sends lines, and reads what comes of them. */
-  async read(lines, took, covered) {
+  async read(lines, took, covered, enough) {
     const [asked, answers, frames, { drawn }] = [performance.now(), [], new Frames(), this];
     const response = await post("request", lines.join("\n"), { signal: this.cut.signal });
     const reader = response.body.getReader();
@@ -166,6 +169,9 @@ export class Connection {
         if (isAnswer(answer.frame, lines[answers.length])) {
           answers.push(answer);
           took(answers.length - 1, answer);
+        }
+        if (answers.length === lines.length) {
+          enough(answers);
         }
       }
       if (covered && frames.isSlow()) {

@@ -1,7 +1,7 @@
 /** The page of a store: panels over one window of times, which the address names; what draws them, and what moves them. */
 import { Alarms } from "./alarms.js";
 import { newPanel, readAddress, spellAddress } from "./address.js";
-import { drawTimes, placedTimes } from "./axes.js";
+import { makeTimes, placedTimes } from "./axes.js";
 import { Catalog } from "./catalog.js";
 import { Connection } from "./connection.js";
 import { listenToControls, showControls } from "./controls.js";
@@ -31,6 +31,7 @@ class Page {
     this.picker = new Picker(this);
     this.alarms = new Alarms(this);
     this.line = new Line(this);
+    this.query = location.search; // names what is asked for
     this.look = { unit: "numbers", zone: "", grid: true, painted: "", spelled: String };
     this.wanted = null; // the panels that are to be drawn next, while others are being drawn
     this.isDrawing = false;
@@ -38,7 +39,7 @@ class Page {
   }
 
   asked() {
-    return readAddress(location.search);
+    return readAddress(this.query);
   }
 
   tellClient({ client, words }) {
@@ -57,11 +58,23 @@ class Page {
     return asked.t0 === null ? (this.panels.find(({ window }) => window)?.window ?? windowOf(asked, this.shown(asked), 1000)) : within(asked);
   }
 
-  /** Changes what is asked for, which Back undoes unless it replaces what was there. */
+  /** Changes what is asked for, which Back undoes unless it replaces what was there. The requests leave before the address changes. */
   change(words, { replaces = false, began = performance.now() } = {}) {
-    history[replaces ? "replaceState" : "pushState"](null, "", `${spellAddress({ ...this.asked(), ...words })}${location.hash}`);
+    this.query = spellAddress({ ...this.asked(), ...words });
     this.isAsked = true;
     this.draw(began);
+    this.tellAddress(replaces ? "replaceState" : "pushState");
+  }
+
+  /** Has the browser's address name what is asked for. */
+  tellAddress(how) {
+    history[how](null, "", `${this.query}${location.hash}`);
+  }
+
+  /** Shows what the browser's address names. */
+  goBack() {
+    this.query = location.search;
+    this.draw();
   }
 
   /** Goes to a window; one that follows the end stays there then. */
@@ -205,12 +218,10 @@ class Page {
     setTimeout(() => this.showAsked(asked, window)); // while the answers are on their way
     if (this.panels.length > 0) {
       const some = this.panels.filter(({ spec }) => names === null || spec.names.some((name) => names.includes(name)));
-      let isDrawn = false;
-      const painting = () => {
-        isDrawn = isDrawn || this.drawAxis(window);
-      };
-      await drawPanels(some, window, this, painting);
-      painting();
+      const drawn = drawPanels(some, window, this, () => drawAxis());
+      const drawAxis = this.makeAxis(window); // while the answers are on their way
+      await drawn;
+      drawAxis();
       this.crosshair.show();
       this.tellDrawn(began);
     }
@@ -228,7 +239,8 @@ class Page {
     if (asked.panels.length === 0 && !this.isGreeted) {
       const names = [...this.catalog.series.keys()];
       if (names.length === 1) {
-        history.replaceState(null, "", `${spellAddress({ ...asked, panels: [newPanel(names)] })}${location.hash}`);
+        this.query = spellAddress({ ...asked, panels: [newPanel(names)] });
+        this.tellAddress("replaceState");
       } else {
         this.picker.open(true);
       }
@@ -237,14 +249,16 @@ class Page {
     return this.asked();
   }
 
-  drawAxis(window) {
-    const { w } = this.panels[0].size();
-    const placed = placedTimes(window, w, this.look);
-    drawTimes(part("times"), placed);
-    this.panels.forEach((panel) => panel.drawTimeLines(this.look.grid ? placed : []));
-    tell(part("t0"), this.look.spelled(window.t0));
-    tell(part("t1"), this.look.spelled(window.t1));
-    return true;
+  /** Makes the axis of a window; gives what puts it there. */
+  makeAxis(window) {
+    const placed = placedTimes(window, this.panels[0].size().w, this.look);
+    const lines = this.look.grid ? placed : [];
+    const puts = [makeTimes(part("times"), placed), ...this.panels.map((panel) => panel.makeTimeLines(lines))];
+    const ends = [window.t0, window.t1].map((time) => this.look.spelled(time));
+    return () => {
+      puts.forEach((put) => put());
+      ["t0", "t1"].forEach((id, at) => tell(part(id), ends[at]));
+    };
   }
 
   /** Says in words what is shown, and how many bytes came. */
@@ -276,7 +290,7 @@ function start() {
   const page = new Page();
   listenToControls(page);
   part("edit").hidden = !new URLSearchParams(location.hash.slice(1)).has("edit");
-  addEventListener("popstate", () => page.draw());
+  addEventListener("popstate", () => page.goBack());
   addEventListener("pagehide", () => page.line.end());
   addEventListener("pageshow", (event) => event.persisted && location.reload());
   document.addEventListener("visibilitychange", () => page.draw());

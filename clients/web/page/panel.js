@@ -1,5 +1,5 @@
 /** One panel: its series' names and values, its canvases one above the other, the values beside it, and its settings. */
-import { drawTimeLines, drawValues } from "./axes.js";
+import { drawValues, makeTimeLines } from "./axes.js";
 import { make, signButton, tell } from "./dom.js";
 import { makeGrip } from "./grip.js";
 import { clear, paint, pixelsOf } from "./paint.js";
@@ -132,8 +132,9 @@ export class Panel {
     }
   }
 
-  drawTimeLines(placed) {
-    drawTimeLines(this.lines.times, placed);
+  /** Makes the lines of round times; gives what puts them there. */
+  makeTimeLines(placed) {
+    return makeTimeLines(this.lines.times, placed);
   }
 
   /** Says why nothing was drawn; under a filter's text a mark shows the character at which it can't be read. */

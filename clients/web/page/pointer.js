@@ -55,15 +55,14 @@ class Drag {
       return;
     }
     const began = performance.now();
-    this.go(event);
     const { window, w } = this.panel;
-    const [left, right] = [this.from, this.to].map((share) => timesOf(window, Math.round(share * w), w).from);
-    this.stop();
+    const [left, right] = [this.from, this.placeOf(event)].map((share) => timesOf(window, Math.round(share * w), w).from);
     if (left !== right) {
       const by = left - right;
       const ends = this.isPan ? { t0: window.t0 + by, t1: window.t1 + by } : { t0: least(left, right), t1: greatest(left, right) };
       this.page.move(ends, { began });
     }
+    this.stop();
   }
 }
 
