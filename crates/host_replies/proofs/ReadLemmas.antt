@@ -1,13 +1,20 @@
 -- What reads of a store come to.
-use Rattle.std.proofs.Common.{◌≡◌, ◌≢◌, ◌⊎◌, ℕ, zero, suc, ℤ, ◌+◌, ◌*◌, ◌<◌, ◌≤◌, List, Option, None, Some, sym, ap, subst, arith, inl, inr, ◌∙◌}
+use Rattle.std.proofs.Common.{◌≡◌, ◌≢◌, ◌⊎◌, ◌↔◌, ℕ, zero, suc, ℤ, ◌+◌, ◌*◌, ◌<◌, ◌≤◌, false, IsTrue, List, Option, None, Some, Result, Ok, Err, IfOk, refl, sym, ap, subst, arith, inl, inr, ◌∙◌}
 use Rattle.std.specs.Prelude.{slice_get}
-use Rattle.block_disk.specs.View.{Beside, Image, View}
+use Rattle.std.specs.Result.{is_err}
+use Rattle.block_disk.specs.View.{Image, View}
 use Rattle.chart_frames.specs.declared.frame.Frame.{Frame}
+use Rattle.chart_grid.specs.Limits.{IsBadSide, IsBadWindow, IsWindow}
+use Rattle.chart_grid.specs.Projection.{HasCanvas, ShowsWindow}
+use Rattle.chart_grid.specs.declared.grid.Grid.{Grid}
+use Rattle.chart_grid.specs.declared.grid_error.GridError.{GridError}
+use Rattle.chart_grid.specs.declared.grid_error.GridError.TheVariants as grid
 use Rattle.chart_service.specs.Faulting.{step_fault}
 use Rattle.chart_service.specs.Stepping.{IsOutside}
 use Rattle.chart_service.specs.declared.failure.ServiceError.{ServiceError}
 use Rattle.chart_service.specs.declared.failure.ServiceError.TheVariants.{DiskFault, Damaged, NoMemory}
-use Rattle.chart_world.specs.Faults.{CountsFault, faults_of}
+use Rattle.chart_world.specs.FaultLaws.{counts_disk, counts_no_disk}
+use Rattle.chart_world.specs.Faults.{CountsFault}
 use Rattle.derive_command.specs.declared.request.Request.{Request}
 use Rattle.host_lines.specs.declared.asked.HostLine.TheVariants.{Sum, Values}
 use Rattle.node_page.specs.Fields.{child_at}
@@ -31,10 +38,6 @@ use Rattle.store_commands.specs.Exported.{IsBadForExport}
 use Rattle.stored_book.specs.Records.{entry}
 use Rattle.host_replies.specs.Reading.{read_error}
 use Rattle.host_replies.specs.Replies.{IsReportCause, Tells, TellsValues, TellsValuesOf}
-
--- no call failed
-no_faults : (old new : View) → new.beside ≡ old.beside → new.faults ≡ old.faults → CountsFault None old new
-no_faults old new beside faults = λ i. record { disk = faults i; take = (beside i).read_faults; send = (beside i).send_faults }
 
 some_same : (a b : ℕ) → Some a ≡ Some b → a ≡ b
 some_same a b same = cc
@@ -98,9 +101,9 @@ module _ (told told' : Type 0) (old new under under' : View) (s s' : Superblock)
 pub read_faults : (told : Type 0) (s : Superblock) (id : ℕ) (e : StoreError) (old new : View) → new.beside ≡ old.beside → (e ≢ store.DiskFault → new.faults ≡ old.faults) → IsWindowCause e told s id old new → CountsFault (step_fault (read_error e)) old new
 read_faults told s id (store.Refused refusal) old new beside quiet cause = absurd cause
 read_faults told s id store.NotAStore old new beside quiet cause = absurd cause
-read_faults told s id store.DiskFault old new beside quiet cause = (cause, ap (λ (b : Beside). b.read_faults) beside, ap (λ (b : Beside). b.send_faults) beside)
-read_faults told s id (store.Damaged page) old new beside quiet cause = no_faults old new beside (quiet (λ is. cc))
-read_faults told s id store.NoMemory old new beside quiet cause = no_faults old new beside (quiet (λ is. cc))
+read_faults told s id store.DiskFault old new beside quiet cause = counts_disk old new beside cause
+read_faults told s id (store.Damaged page) old new beside quiet cause = counts_no_disk old new beside (quiet (λ is. cc))
+read_faults told s id store.NoMemory old new beside quiet cause = counts_no_disk old new beside (quiet (λ is. cc))
 
 -- nothing but a fault of the disk and want of memory
 pub read_outside : (e : StoreError) → opening.IsOutside e → IsOutside (read_error e)
@@ -122,3 +125,20 @@ values_told name t0 t1 total book id frame found tells =
       let S : Option Series → Type 0 = λ o. TellsValues o id t0 t1 frame in
       subst S (sym there) (tells named.0 there))
     ])
+
+-- ---- windows
+
+pub window_good : (r : Result Grid GridError) (t0 t1 : ℤ) → IfOk r (λ g. ShowsWindow g t0 t1 × HasCanvas g 1 1) → is_err r ≡ false → IsWindow t0 t1
+window_good (Ok g) t0 t1 shown same =
+    let A : ℤ → Type 0 = λ t. IsWindow t g.t1 in
+    let B : ℤ → Type 0 = λ t. IsWindow t0 t in
+    subst B shown.0.to (subst A shown.0.from g.window)
+window_good (Err e) t0 t1 shown same = cc
+
+pub window_bad : (r : Result Grid GridError) (t0 t1 : ℤ) → ((r ≡ Err grid.BadWindow) ↔ IsBadWindow t0 t1) → ((r ≡ Err grid.BadCanvas) ↔ (IsWindow t0 t1 × (IsBadSide 1 ⊎ IsBadSide 1))) → IsTrue (is_err r) → IsBadWindow t0 t1
+window_bad (Ok g) t0 t1 window canvas is = absurd is
+window_bad (Err grid.BadWindow) t0 t1 window canvas is = window.0 refl
+window_bad (Err grid.BadCanvas) t0 t1 window canvas is = elim (canvas.0 refl).1 [
+  | inl side ↦ elim side [ inl low ↦ absurd (omega (arith, low)) | inr high ↦ absurd (omega (arith, high)) ]
+  | inr side ↦ elim side [ inl low ↦ absurd (omega (arith, low)) | inr high ↦ absurd (omega (arith, high)) ]
+]
