@@ -15,6 +15,8 @@ pub mod FirstOpened
 pub mod World
 pub mod Lowering
 pub mod LinesServed
+pub mod LineAnswers
+pub mod NonePassed
 pub mod Words
 pub mod CommandCodes
 pub mod EndsByCode

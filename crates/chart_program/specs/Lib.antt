@@ -10,6 +10,7 @@ pub mod Ended
 pub mod CommandStatuses
 pub mod Faulting
 pub mod Course
+pub mod LineAnswers
 pub mod Replies
 pub mod Plot
 pub mod Load

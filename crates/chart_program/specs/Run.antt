@@ -7,6 +7,7 @@ use Rattle.om3_coeff.specs.declared.key.Key.{Key}
 use Rattle.run_ends.specs.declared.ending.End.{End}
 use Rattle.run_ends.specs.declared.ending.End.TheVariants.{Missing, BadCoefficient}
 use Rattle.chart_program.specs.Course.{Course, HeldNoBook, OfInput}
+use Rattle.chart_program.specs.LineAnswers.{AreDrawnTexts, NoneIsPassed}
 use Rattle.chart_program.specs.Serve.{ServeDoes, ServesLines}
 use Rattle.chart_program.specs.Served.{AreTexts, RejectsNext}
 
@@ -21,6 +22,6 @@ RunDoes c (Missing number) = OfInput c (λ input. HeldNoBook c × RejectsKey c c
 RunDoes c (BadCoefficient number) = OfInput c (λ input. HeldNoBook c × RejectsKey c client.BadCoefficient number)
 RunDoes c end = ServeDoes AreTexts c end
 
--- the texts of the frames are sent
+-- The texts of the frames are sent; whatever the disk holds, no line was passed over where the command was done.
 abbrev pub OfRun : Course → End → Type 0
-OfRun c end = RunDoes c end × ServesLines AreTexts c end
+OfRun c end = RunDoes c end × ServesLines AreTexts c end × NoneIsPassed AreDrawnTexts c end

@@ -11,6 +11,7 @@ use Rattle.series_book.specs.declared.one_series.Series.{Series}
 use Rattle.stored_book.specs.Damage.{IsBadForRequest}
 use Rattle.chart_program.specs.Course.{AtEachMoment, Course, FoundDamaged, FoundPage, HasFewBlocks, HeldNoBook, IsDoneOrCut, IsLonger, IsShort}
 use Rattle.chart_program.specs.Course.{OfInput, OverStore, Told, ToldLeft}
+use Rattle.chart_program.specs.LineAnswers.{AreSpellings, NoneIsPassed}
 use Rattle.chart_program.specs.Served.{AnswersAll, AnswersFront, AnswersLines, AnswersSome, AnswersTaken, AnswersWithin, LeavesBooks}
 use Rattle.chart_program.specs.Served.{ReadsServing, Says, Spelled, SyncsServing}
 
@@ -45,6 +46,6 @@ pub record ServesLines (IsText : Says) (c : Course) (end : End) : Type 0 where
   pub syncs : OfInput c (SyncsServing c.old c.new)
   pub good : OfInput c (λ input. AreLines c.old c.new input → IsDoneOrCut end)
 
--- the spellings of the frames are sent
+-- The spellings of the frames are sent; whatever the disk holds, no line was passed over where the command was done.
 abbrev pub OfServe : Course → End → Type 0
-OfServe c end = ServeDoes Spelled c end × ServesLines Spelled c end
+OfServe c end = ServeDoes Spelled c end × ServesLines Spelled c end × NoneIsPassed AreSpellings c end

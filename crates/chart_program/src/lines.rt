@@ -8,6 +8,7 @@ ghost use Rattle.store_commands.specs.Traffic.{traffic};
 ghost use Rattle.chart_program.specs.CommandStatuses.{OpensFirst};
 ghost use Rattle.chart_program.specs.Ended.{status_by};
 ghost use Rattle.chart_program.specs.Faulting.{run_fault};
+ghost use Rattle.chart_program.specs.LineAnswers.{AnswersTold, AreDrawnTexts, AreSpellings};
 ghost use Rattle.chart_program.specs.Served.{AreTexts, Spelled, served, in_world};
 ghost use Rattle.chart_program.specs.Traffic.{PagesServed, WorldServed};
 
@@ -30,6 +31,7 @@ use std::alloc::Global;
 /// back.
 pub fn serve_world<W: World>(alloc: Global, world: W) -> (Result<(), LinesEnd>, W)
     ensures serves { WorldServed Spelled ⊥ (W.view world) (W.view result.1) (traffic W.left W.sent W.read_faults W.send_faults world result.1) result.0 }
+    ensures answers { AnswersTold AreSpellings (W.left world) (W.sent world) (W.sent result.1) result.0 }
     ensures first { OpensFirst (W.view world) (traffic W.left W.sent W.read_faults W.send_faults world result.1) result.0 }
     ensures faults { CountsFault (code_fault (status_by result.0).code) (W.view world) (W.view result.1) }
 {
@@ -46,6 +48,7 @@ pub fn serve_world<W: World>(alloc: Global, world: W) -> (Result<(), LinesEnd>, 
 /// of what it shows, and gives the world back.
 pub fn run_world<W: World>(alloc: Global, world: W) -> (Result<(), LinesEnd>, W)
     ensures serves { WorldServed AreTexts (Unit {0}) (W.view world) (W.view result.1) (traffic W.left W.sent W.read_faults W.send_faults world result.1) result.0 }
+    ensures answers { AnswersTold AreDrawnTexts (W.left world) (W.sent world) (W.sent result.1) result.0 }
     ensures first { OpensFirst (W.view world) (traffic W.left W.sent W.read_faults W.send_faults world result.1) result.0 }
     ensures faults { CountsFault (code_fault (status_by result.0).code) (W.view world) (W.view result.1) }
 {
@@ -62,6 +65,7 @@ pub fn run_world<W: World>(alloc: Global, world: W) -> (Result<(), LinesEnd>, W)
 fn serve_lines<W: World>(alloc: Global, store: Store<GatePages<W>>) -> (Result<(), RunEnd>, W)
     requires { AreSound (stored.pages store) }
     ensures serves { let pages = stored.pages store in PagesServed Spelled ⊥ W.view pages result.1 (traffic W.left W.sent W.read_faults W.send_faults (disk pages) result.1) result.0 }
+    ensures answers { AnswersTold AreSpellings (W.left (disk (stored.pages store))) (W.sent (disk (stored.pages store))) (W.sent result.1) result.0 }
     ensures faults { CountsFault (fault_in run_fault result.0) (W.view (disk (stored.pages store))) (W.view result.1) }
 {
     match Service::new(alloc, store) {
@@ -73,6 +77,7 @@ fn serve_lines<W: World>(alloc: Global, store: Store<GatePages<W>>) -> (Result<(
 fn run_lines<W: World>(alloc: Global, store: Store<GatePages<W>>) -> (Result<(), RunEnd>, W)
     requires { AreSound (stored.pages store) }
     ensures serves { let pages = stored.pages store in PagesServed AreTexts (Unit {0}) W.view pages result.1 (traffic W.left W.sent W.read_faults W.send_faults (disk pages) result.1) result.0 }
+    ensures answers { AnswersTold AreDrawnTexts (W.left (disk (stored.pages store))) (W.sent (disk (stored.pages store))) (W.sent result.1) result.0 }
     ensures faults { CountsFault (fault_in run_fault result.0) (W.view (disk (stored.pages store))) (W.view result.1) }
 {
     match Service::new(alloc, store) {
@@ -89,6 +94,7 @@ fn serve_service<W: World>(
     requires sound { AreSound (shown.pages service) }
     requires alone { shown.sessions service ≡ [] }
     ensures serves { let pages = shown.pages service in PagesServed Spelled ⊥ W.view pages result.1 (traffic W.left W.sent W.read_faults W.send_faults (disk pages) result.1) result.0 }
+    ensures answers { AnswersTold AreSpellings (W.left (disk (shown.pages service))) (W.sent (disk (shown.pages service))) (W.sent result.1) result.0 }
     ensures faults { CountsFault (fault_in run_fault result.0) (W.view (disk (shown.pages service))) (W.view result.1) }
 {
     let answer = serve(alloc, &mut service);
@@ -102,6 +108,7 @@ fn run_service<W: World>(
     requires sound { AreSound (shown.pages service) }
     requires alone { shown.sessions service ≡ [] }
     ensures serves { let pages = shown.pages service in PagesServed AreTexts (Unit {0}) W.view pages result.1 (traffic W.left W.sent W.read_faults W.send_faults (disk pages) result.1) result.0 }
+    ensures answers { AnswersTold AreDrawnTexts (W.left (disk (shown.pages service))) (W.sent (disk (shown.pages service))) (W.sent result.1) result.0 }
     ensures faults { CountsFault (fault_in run_fault result.0) (W.view (disk (shown.pages service))) (W.view result.1) }
 {
     one_frame_a_spelling();

@@ -10,6 +10,7 @@ ghost use Rattle.chart_service.specs.Serving.{Serves};
 ghost use Rattle.chart_service.specs.Shown as shown;
 ghost use Rattle.chart_program.specs.Faulting.{run_fault};
 ghost use Rattle.chart_program.specs.Known.{Follows, EndsKnown, ShowsBy};
+ghost use Rattle.chart_program.specs.LineAnswers.{ShowsEach};
 ghost use Rattle.chart_program.specs.Runs.{AreShown, AreShownFrom, EndsAtBad, IsShown, IsShownText, MakesText, RunEndsBy, TextStops, run_answer};
 
 use crate::reply_text::reply_text;
@@ -65,6 +66,8 @@ pub fn run_on<P: PageWorld, V: Show>(
     ensures known { (knows : V → ℕ → Bool) → Follows V.gives knows → KnowsOpen knows show.old (shown.sessions service.old) → IfErr result (EndsKnown V.gives knows) }
     // each frame that closes a session or answers in it names one that is open by those before it, the one that isn't shown too
     ensures named { ShowsBy V.gives show.old show.new (shown.sessions service.old) (P.sent (shown.pages service.old)) (P.sent (shown.pages service.new)) result }
+    // with `Ok` there is one a line, and each may answer its line
+    ensures answers { OnOk result (IfSome (P.left (shown.pages service.old)) (λ input. ShowsEach V.gives show.old show.new (shown.sessions service.old) input (P.sent (shown.pages service.old)) (P.sent (shown.pages service.new)))) }
     ensures bad { IfErr result (EndsAtBad (shown.IsTold service.new) (shown.view service.new).size (shown.image service.new)) }
     ensures serves { Serves (shown.IsTold service.old) (shown.IsTold service.new) (shown.view service.old) (shown.view service.new) }
     ensures goes_on { GoesOn (shown.under service.old) (shown.under service.new) }

@@ -10,6 +10,7 @@ use Rattle.chart_program.specs.Served.{AreTexts, faults_of, ServesLines}
 use Rattle.chart_program.proofs.Telling.{texts_none}
 use Rattle.chart_program.proofs.LinesServed.{made_none}
 use Rattle.store_commands.proofs.Stores.{store_disk, store_count, store_sound}
+use Rattle.chart_program.specs.LineAnswers.{AnswersTold, AreDrawnTexts}
 use Rattle.chart_program.proofs.lines.run_lines.Goals as goal
 
 pub run_service-requires-clause-sound : goal.run_service-requires-clause-sound
@@ -57,3 +58,9 @@ returns-in-Err-clause-faults g c =
     let disk = (stored.pages c.args.store).disk in
     let D : g.row.W.Denot → Type 0 = λ d. CountsFault None (view disk) (view d) in
     subst D (sym (c.disk_of.ensures.disk ∙ store_disk c.in-Err.field-0.value c.args.store c.in-Err.ensures.back)) (counts_none (view disk) (view disk) refl refl refl)
+
+pub returns-in-Ok-clause-answers : goal.returns-in-Ok-clause-answers
+returns-in-Ok-clause-answers g c =
+    let s = g.W.Streams in
+    let D : g.row.W.Denot → Type 0 = λ d. AnswersTold AreDrawnTexts (s.left d) (s.sent d) (s.sent c.run_service.result.1) c.run_service.result.0 in
+    subst D (store_disk c.in-Ok.service.store c.args.store c.in-Ok.ensures.store) c.run_service.ensures.answers

@@ -17,6 +17,8 @@ use Rattle.chart_program.proofs.Knowing.{holds_of, screen_follows, known_first}
 use Rattle.store_commands.specs.TrafficLaws.{read_on}
 use Rattle.store_commands.proofs.Held.{rests_new}
 use Rattle.store_commands.proofs.Stores.{store_disk, store_sound}
+use Rattle.chart_program.specs.LineAnswers.{AnswersTold, AreDrawnTexts}
+use Rattle.chart_program.proofs.LineAnswers.{each_drawn}
 use Rattle.chart_program.proofs.lines.run_service.Goals as goal
 
 pub returns-in-Ok-clause-serves : goal.returns-in-Ok-clause-serves
@@ -82,3 +84,16 @@ returns-in-Err-clause-faults g c =
     let disk = (shown.pages c.args.service).disk in
     let D : g.row.W.Denot → Type 0 = λ d. CountsFault None (view disk) (view d) in
     subst D (sym (c.disk_of-in-Err.ensures.disk ∙ store_disk c.into_store-in-Err.result c.args.service.store c.into_store-in-Err.ensures)) (counts_none (view disk) (view disk) refl refl refl)
+
+pub returns-in-Ok-clause-answers : goal.returns-in-Ok-clause-answers
+returns-in-Ok-clause-answers g c =
+    let sent = g.W.Streams.sent in
+    let disk = (shown.pages c.args.service).disk in
+    let left = g.W.Streams.left disk in
+    let after = c.run_on-answer.new.service in
+    let answer = c.run_on-answer.result in
+    let same_disk = c.disk_of.ensures.disk ∙ store_disk c.into_store.result after.store c.into_store.ensures in
+    let D : g.row.W.Denot → Type 0 = λ d. AnswersTold AreDrawnTexts left (sent disk) (sent d) answer in
+    subst D (sym same_disk)
+    (each_drawn c.one_frame_a_spelling.ensures c.in-Ok.screen c.run_on-answer.new.show c.args.service.sessions left (sent disk)
+    (sent (shown.pages after).disk) answer c.in-Ok.ensures c.requires.alone c.run_on-answer.ensures.answers)

@@ -15,6 +15,8 @@ use Rattle.chart_program.proofs.LinesServed.{serve_made, serve_causes, same_answ
 use Rattle.store_commands.specs.TrafficLaws.{read_on}
 use Rattle.store_commands.proofs.Held.{rests_new}
 use Rattle.store_commands.proofs.Stores.{store_disk, store_sound}
+use Rattle.chart_program.specs.LineAnswers.{AnswersTold, AreSpellings}
+use Rattle.chart_program.proofs.LineAnswers.{each_spelled, told_again}
 use Rattle.chart_program.proofs.lines.serve_service.Goals as goal
 
 pub returns-clause-serves : goal.returns-clause-serves
@@ -59,3 +61,16 @@ returns-clause-faults g c =
     let A : Result (Unit {0}) RunEnd → Type 0 = λ r. CountsFault (fault_in run_fault r) disk (view c.disk_of.result) in
     subst A (sym c.of_serving.ensures)
     (subst D (sym same_disk) (counts_told (fault_in serve_fault answer) (fault_in run_fault (served answer)) disk (view (shown.pages after).disk) (told_served answer) c.serve-answer.ensures.faults))
+
+pub returns-clause-answers : goal.returns-clause-answers
+returns-clause-answers g c =
+    let sent = g.W.Streams.sent in
+    let disk = (shown.pages c.args.service).disk in
+    let left = g.W.Streams.left disk in
+    let after = c.serve-answer.new.service in
+    let answer = c.serve-answer.result in
+    let same_disk = c.disk_of.ensures.disk ∙ store_disk c.into_store.result after.store c.into_store.ensures in
+    let D : g.row.W.Denot → Type 0 = λ d. AnswersTold AreSpellings left (sent disk) (sent d) (served answer) in
+    told_again AreSpellings left (sent disk) (sent c.disk_of.result) (served answer) c.of_serving.result c.of_serving.ensures
+    (subst D (sym same_disk)
+    (each_spelled c.args.service.sessions left (sent disk) (sent (shown.pages after).disk) answer c.requires.alone c.serve-answer.ensures.answers))

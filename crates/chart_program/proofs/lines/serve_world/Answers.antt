@@ -13,6 +13,8 @@ use Rattle.chart_program.specs.Served.{Spelled, faults_of, in_world}
 use Rattle.chart_program.proofs.World.{serves_opened, serves_not, same_faults}
 use Rattle.store_commands.specs.Traffic.{traffic}
 use Rattle.chart_program.proofs.FirstOpened.{first_so}
+use Rattle.chart_program.specs.LineAnswers.{AreSpellings}
+use Rattle.chart_program.proofs.LineAnswers.{told_opened}
 use Rattle.chart_program.proofs.lines.serve_world.Goals as goal
 
 pub returns-in-Ok-clause-serves : goal.returns-in-Ok-clause-serves
@@ -87,3 +89,17 @@ returns-in-Err-clause-faults g c =
     let back = c.in-Err.field-0 in
     let e = c.in-Err.ensures in
     counts_unopened back.cause (view c.args.world) (view back.value) e.opens.beside_is e.cause e.quiet_err
+
+pub returns-in-Ok-clause-answers : goal.returns-in-Ok-clause-answers
+returns-in-Ok-clause-answers g c =
+    let left = g.W.Streams.left in
+    let sent = g.W.Streams.sent in
+    let old = c.args.world in
+    let mid = (stored.pages c.in-Ok.store).disk in
+    let new = c.serve_lines-answer.result.1 in
+    let beside = c.in-Ok.ensures.opens.beside_is in
+    let w = g.met.W.World in
+    told_opened AreSpellings (left mid) (left old) (sent mid) (sent old) (sent new) c.serve_lines-answer.result.0 c.of_answering.result
+    (sym (w.beside_left mid) ∙ ap (λ (b : Beside). b.left) beside ∙ w.beside_left old)
+    (sym (w.beside_sent mid) ∙ ap (λ (b : Beside). b.sent) beside ∙ w.beside_sent old)
+    c.of_answering.ensures c.serve_lines-answer.ensures.answers

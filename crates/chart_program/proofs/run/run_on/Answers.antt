@@ -15,6 +15,8 @@ use Rattle.chart_program.specs.Known.{EndsKnown, ShowsBy}
 use Rattle.chart_program.specs.Runs.{AreShown, RunEndsBy, EndsAtBad, IsShown, run_answer}
 use Rattle.chart_program.proofs.Running.{done_shown, ends_shown, lasts_shown, run_fault, run_bad, run_shown, run_known, run_ok, follows, all_follow, all_known}
 use Rattle.chart_program.proofs.ShownFrames.{named_shown}
+use Rattle.chart_program.proofs.LineAnswers.{each_shown}
+use Rattle.chart_program.specs.LineAnswers.{ShowsEach}
 use Rattle.chart_program.proofs.run.run_on.Goals as goal
 
 pub returns-clause-done : goal.returns-clause-done
@@ -118,3 +120,16 @@ returns-clause-faults g c =
     let told = told_run answer (λ f other is. run_fault gives answer f other unmade is) in
     let P : Result (Unit {0}) RunEnd → Type 0 = λ r. CountsFault (fault_in faulting.run_fault r) old new in
     subst P (sym c.of_answers.ensures) (counts_told (fault_in answer_fault answer) (fault_in faulting.run_fault (run_answer answer)) old new told c.answer_lines-answer.ensures.faults)
+
+pub returns-clause-answers : goal.returns-clause-answers
+returns-clause-answers g c =
+    let gives = g.V.Show.gives in
+    let old = c.args.service.now in
+    let new = c.answer_lines-answer.new.service in
+    let left = g.P.Streams.left (shown.pages old) in
+    let before = g.P.Streams.sent (shown.pages old) in
+    let now = g.P.Streams.sent (shown.pages new) in
+    let v = c.args.show.now in
+    let w = c.answer_lines-answer.new.kept in
+    subst (λ r. OnOk r (IfSome left (λ input. ShowsEach gives v w old.sessions input before now))) (sym c.of_answers.ensures)
+    (each_shown gives v w old.sessions before now left new.sessions c.answer_lines-answer.result c.answer_lines-answer.ensures.gives)

@@ -1,0 +1,68 @@
+-- How a command answers the lines of its input one by one, whatever the disk holds.
+use Rattle.std.specs.Prelude.{◌≡◌, ℕ, List, [], flat_map, All, Option, IfSome, Result, OnOk, ⊤}
+use Rattle.block_disk.specs.Streams.{sent_after}
+use Rattle.chart_client.specs.declared.holding.Holding.{Holding}
+use Rattle.chart_frames.specs.Frames.{Fits, spelling}
+use Rattle.chart_frames.specs.declared.frame.Frame.{Frame}
+use Rattle.chart_service.specs.Kinds.{MayAnswerAll}
+use Rattle.chart_service.specs.Naming.{NameOpen, NameOpened}
+use Rattle.chart_service.specs.Serving.{told}
+use Rattle.drawn_replies.specs.Pictures.{AcceptsAll}
+use Rattle.line_raster.specs.Canvas.{Canvas}
+use Rattle.run_ends.specs.declared.ending.End.{End}
+use Rattle.run_ends.specs.declared.ending.End.TheVariants.{Done}
+use Rattle.served_fronts.specs.Texts.{texts_of}
+use Rattle.zoom_session.specs.Sessions.{is_open}
+use Rattle.zoom_session.specs.declared.session.Session.{Session}
+use Rattle.chart_program.specs.Course.{Course, OfInput}
+use Rattle.chart_program.specs.Runs.{AreShown, Gives}
+
+-- which bytes a command sends of frames
+abbrev pub IsSentOf : Type 1
+IsSentOf = List Frame → List ℕ → Type 0
+
+-- the spellings of the frames, one behind the other
+abbrev pub AreSpellings : IsSentOf
+AreSpellings frames bytes = bytes ≡ flat_map spelling frames
+
+-- The texts of the frames, each with its picture, as a client draws it that held nothing at first and accepts each of them
+-- in order.
+pub record AreDrawnTexts (frames : List Frame) (bytes : List ℕ) : Type 0 where
+  pub drawings : List (Option Canvas)
+  pub held : List Holding
+  pub accepted : AcceptsAll [] frames drawings held
+  pub texts : bytes ≡ texts_of frames drawings
+
+-- As many frames as the input has lines that aren't empty answered them in order, and what was sent is of these frames. Each
+-- may answer its line, by its kind and in the session that the line names, and names sessions that the frames before it
+-- opened.
+pub record AnswersEach (IsSent : IsSentOf) (input : List ℕ) (before now : Option (List ℕ)) : Type 0 where
+  pub frames : List Frame
+  pub fits : All Fits frames
+  pub answers : MayAnswerAll (told input) frames
+  pub named : NameOpened frames
+  pub bytes : List ℕ
+  pub is_sent : IsSent frames bytes
+  pub sent : now ≡ sent_after bytes before
+
+-- the same, where the input is told and it was read to its end
+abbrev pub AnswersTold : {T E : Type 0} → IsSentOf → Option (List ℕ) → Option (List ℕ) → Option (List ℕ) → Result T E
+    → Type 0
+AnswersTold IsSent left before now result = OnOk result (IfSome left (λ input. AnswersEach IsSent input before now))
+
+-- and by how the command ended: where it was done, no line was passed over
+abbrev pub NoneIsPassed : IsSentOf → Course → End → Type 0
+NoneIsPassed IsSent c Done = OfInput c (λ input. AnswersEach IsSent input c.sent c.sent_now)
+NoneIsPassed IsSent c end = ⊤
+
+-- As many frames as there are lines were given to `show` one behind the other, and the texts of what they showed were sent:
+-- each frame may answer its line, and names sessions that are open by those before it.
+pub record ShowsEach {V : Type 0} (gives : Gives V) (old new : V) (sessions : List Session) (input : List ℕ)
+    (before now : Option (List ℕ)) : Type 0 where
+  pub frames : List Frame
+  pub fits : All Fits frames
+  pub answers : MayAnswerAll (told input) frames
+  pub named : NameOpen (λ n. is_open n sessions) frames
+  pub text : List ℕ
+  pub shown : AreShown gives old new [] frames text
+  pub sent : now ≡ sent_after text before
