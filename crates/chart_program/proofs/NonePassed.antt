@@ -1,5 +1,5 @@
 -- Where a serving command was done, no line was passed over, as its page says.
-use Rattle.std.proofs.Common.{ℕ, List, Option, Result, Ok, Err}
+use Rattle.std.proofs.Common.{Result, Ok, Err}
 use Rattle.block_disk.specs.View.{View}
 use Rattle.chart_client.specs.declared.errors.ClientError.TheVariants as client
 use Rattle.chart_service.specs.declared.failure.ServeEnd.TheVariants as serve_end

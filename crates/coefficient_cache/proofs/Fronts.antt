@@ -15,11 +15,6 @@ use Rattle.coefficient_cache.proofs.Finds.{has-cons}
 use Rattle.coefficient_cache.proofs.Unmoved.{all-hits, no-news, rest-others}
 use Rattle.coefficient_cache.proofs.Kept.{with_coef, some_pair, key_in, held-within, shown-append, turned-keys}
 
-pub alike-same : (ps : List (Option (SeriesKey × Coef))) → AreAlike ps ps
-alike-same [] = tt
-alike-same (None ∷ ps) = alike-same ps
-alike-same (Some e ∷ ps) = (refl, alike-same ps)
-
 pub alike-turned : (ps qs : List (Option (SeriesKey × Coef))) → AreAlike ps qs → AreAlike qs ps
 alike-turned [] [] h = tt
 alike-turned [] (q ∷ qs) h = absurd h

@@ -1,5 +1,5 @@
 -- Reads change nothing but what was read.
-use Rattle.std.proofs.Common.{◌≡◌, List, ap}
+use Rattle.std.proofs.Common.{◌≡◌, ap}
 use Rattle.block_disk.specs.View.{View}
 use Rattle.chart_service.specs.Looking as service
 use Rattle.page_space.specs.declared.superblock.Superblock.{Superblock}
@@ -24,22 +24,4 @@ looks_at told told' old new under under' s s' catalog catalog' looks same = reco
   writes = looks.kept.writes;
   superblock = looks.over.superblock;
   catalog_is = same;
-}
-
--- and of a service
-pub looks_served : (told told' : Type 0) (old new under under' : View) (s s' : Superblock) (catalog catalog' : Catalog) → Looks told told' old new under under' s s' catalog catalog' → service.Looks told told' old new under under' s s' (series_in catalog) (series_in catalog')
-looks_served told told' old new under under' s s' catalog catalog' looks = record {
-  time = looks.time;
-  goes_on = looks.goes_on;
-  told = looks.told;
-  was_told = looks.was_told;
-  image = looks.image;
-  size = looks.size;
-  beside = looks.beside;
-  fit = looks.fit;
-  faults = looks.faults;
-  syncs = looks.syncs;
-  writes = looks.writes;
-  superblock = looks.superblock;
-  catalog_is = ap series_in looks.catalog_is;
 }

@@ -1,5 +1,5 @@
 -- Which sessions a reply names.
-use Rattle.std.proofs.Common.{◌≡◌, ℕ, Bool, true, false, not, ◌==◌, IsTrue, List, [], ◌∷◌, Option, None, Some, refl, sym, subst}
+use Rattle.std.proofs.Common.{◌≡◌, ℕ, true, false, ◌==◌, IsTrue, List, [], ◌∷◌, Some, refl, sym, subst}
 use Rattle.std.specs.Prelude.{◌||◌, is_some, if◌then◌else◌}
 use Rattle.chart_frames.specs.declared.frame.Frame.{Frame}
 use Rattle.chart_frames.specs.declared.frame.Frame.TheVariants.{Done, Refused, Opened, Closed, View, Rows, Live, Report}
@@ -54,12 +54,3 @@ shows_open session (View view) ss there is = record { named = in_open session vi
 shows_open session (Rows rows) ss there is = record { named = in_open session rows.session ss there is; after = λ n. refl }
 shows_open session (Live number on) ss there is = absurd is
 shows_open session (Report report) ss there is = absurd is
-
--- a reply names an open session, if it names one, and opens and closes none
-pub report_opens : (asked : HostLine) (frame : Frame) (ss : List Session) → has_session asked ss ≡ true → MayReport asked frame → OpensBy frame ss ss
-report_opens ListLine frame ss there may = catalog_opens frame ss may
-report_opens (Values name t0 t1) frame ss there may = values_open frame ss may
-report_opens (Sum session request) frame ss there may = shows_open session frame ss there may
-report_opens (Sweep rule) frame ss there may = absurd may
-report_opens (Bad at) frame ss there may = let P : Frame → Type 0 = λ f. OpensBy f ss ss in subst P (sym may) (refuses_none 2 at 0 ss)
-report_opens Other frame ss there may = absurd may

@@ -1,5 +1,5 @@
 -- What comes of a line at a store. Private contracts are stated by these words.
-use Rattle.std.specs.Prelude.{ℕ, Result, IfErr, IfOk}
+use Rattle.std.specs.Prelude.{Result, IfErr, IfOk}
 use Rattle.chart_frames.specs.declared.frame.Frame.{Frame}
 use Rattle.chart_frames.specs.Frames.{Fits}
 use Rattle.chart_service.specs.Faulting.{step_fault}

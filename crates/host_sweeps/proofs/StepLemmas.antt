@@ -19,7 +19,6 @@ use Rattle.gate_pages.specs.declared.pages.Pages.{Ghosts}
 use Rattle.host_sweeps.specs.Steps.{PushesBehind, StepsService, error_reply, frame_of}
 use Rattle.host_sweeps.specs.Sweeping.{SweepReplied, SweepsSome, TellsStep, most_clears, pushed_behind, step_clears, step_reads, swept_followers}
 use Rattle.live_service.specs.Shown as its
-use Rattle.live_service.specs.Shown.{live_of}
 use Rattle.live_service.specs.declared.stepper.ServiceStepper.{ServiceStepper}
 use Rattle.live_view.specs.Live as live
 use Rattle.live_view.specs.declared.live.Live.{Live}

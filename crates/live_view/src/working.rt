@@ -1,6 +1,5 @@
 //! Works are done on what answers the lines, and pushed behind.
 ghost use Rattle.std.specs.Prelude.{◌≡◌, IfErr, OnOk};
-ghost use Rattle.zoom_session.specs.Sessions.{session_of, last_of};
 ghost use Rattle.live_view.specs.Sessions.{has_view, viewed_among};
 
 use crate::live::Live;

@@ -1,7 +1,6 @@
-use Rattle.std.proofs.Common.{◌≡◌, ◌∙◌, ℕ, ℤ, length, Option, None, Some, rules, sym, ap, subst, arith, inl, inr, to_z, of_z}
+use Rattle.std.proofs.Common.{◌≡◌, ◌∙◌, ℕ, ℤ, Option, None, Some, rules, sym, ap, subst, arith, inl, inr, to_z, of_z}
 use Rattle.std.specs.Int.{w128}
 use Rattle.std.proofs.lemmas.Int.{to_z-of_z}
-use Rattle.block_disk.specs.View.{View}
 use Rattle.chart_frames.specs.declared.frame.Frame.TheVariants.{Report}
 use Rattle.chart_frames.specs.declared.reports.ValuesFrame.{ValuesFrame}
 use Rattle.chart_frames.specs.declared.reports.Report.TheVariants.{Values}
