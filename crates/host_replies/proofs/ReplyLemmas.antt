@@ -5,11 +5,9 @@ use Rattle.chart_frames.specs.declared.frame.Frame.{Frame}
 use Rattle.chart_frames.specs.declared.frame.Frame.TheVariants.{Done, Refused, Opened, Closed, View, Rows, Live, Report}
 use Rattle.chart_service.specs.Kinds.{MayShow}
 use Rattle.chart_service.specs.Opening.{OpensBy}
-use Rattle.host_lines.specs.declared.asked.HostLine.{HostLine}
-use Rattle.host_lines.specs.declared.asked.HostLine.TheVariants.{List as ListLine, Values, Sum, Sweep, Bad, Other}
 use Rattle.zoom_session.specs.Sessions.{cache_of, is_open, session_of}
 use Rattle.zoom_session.specs.declared.session.Session.{Session}
-use Rattle.host_replies.specs.Replies.{IsCatalog, MayReport, MayTellValues, has_session}
+use Rattle.host_replies.specs.Replies.{IsCatalog, MayTellValues}
 
 -- a session is open just where its list has a size
 pub open_by_cache : (number : ℕ) (ss : List Session) → is_some (cache_of (session_of number ss)) ≡ is_open number ss
