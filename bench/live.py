@@ -57,7 +57,7 @@ def opened(command, followers):
     for session in range(1, followers + 1):
         run.ask([f"open {session} {CACHE}", view_of(session)])
         run.frames([OPENED, VIEW])
-        if command == "live":
+        if command != "serve":
             run.ask([f"follow {session}"])
             run.frames([LIVE])
     return run

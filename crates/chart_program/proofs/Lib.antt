@@ -31,6 +31,7 @@ pub mod OneCommand
 pub mod DerivePage
 pub mod RetainPage
 pub mod LivePage
+pub mod HostPage
 pub mod ServePage
 pub mod StorePages
 pub mod StreamPages
@@ -38,6 +39,8 @@ pub mod LoadPage
 pub mod LoadEnds
 pub mod RetainEnds
 pub mod LiveEnds
+pub mod HostEnds
 pub mod DeriveEnds
 pub mod LiveRuns
+pub mod HostRuns
 pub mod ExactRuns

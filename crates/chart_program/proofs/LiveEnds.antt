@@ -18,7 +18,7 @@ use Rattle.chart_program.proofs.Codes.{told_long}
 use Rattle.chart_program.proofs.EndsByCode.{Came, by_code, completes}
 use Rattle.chart_program.proofs.LivePage.{of_live}
 
-abbrev passed : (left left' before now : Option (List ℕ)) → Faults → Traffic
+abbrev pub passed : (left left' before now : Option (List ℕ)) → Faults → Traffic
 passed left left' before now faults = record { left = left; left_now = left'; sent = before; sent_now = now; reads = faults.reads; reads_now = faults.reads_now; sends = faults.sends; sends_now = faults.sends_now }
 
 taken : (old new : View) (left left' before now : Option (List ℕ)) → IfSome left (λ input. LivesTaken (page_count old.size) old new input left' before now) → IfSome left (λ input. IfSome left' (λ bytes. LivesTaken (page_count old.size) old new input (Some bytes) before now))
@@ -39,7 +39,7 @@ module _ (old new : View) (left left' before now : Option (List ℕ)) (faults : 
   live_came (TooSmall blocks) cause does = cause
   live_came end cause does = absurd cause
 
-  live_own : (end : End) → IsLiveCause end old new (passed left left' before now faults) → Contains (codes_of Live) (code_of end)
+  pub live_own : (end : End) → IsLiveCause end old new (passed left left' before now faults) → Contains (codes_of Live) (code_of end)
   live_own Done cause = (0, omega arith, refl)
   live_own NoMemory cause = (1, omega arith, refl)
   live_own ReadFault cause = (2, omega arith, refl)

@@ -8,7 +8,7 @@ use Rattle.disk_store.specs.Held.{HoldsBook}
 use Rattle.stored_book.specs.Standing.{StandsForBook, book_pages, RecoversTo}
 use Rattle.series_load.specs.Sets.{IsNamed, Loads}
 use Rattle.program_words.specs.declared.words.Command.{Command}
-use Rattle.program_words.specs.declared.words.Command.TheVariants.{Plot, Load, Demo, Run, Serve, Draw, Init, Check, ListSeries, Export, Retain, Cover, Live, Derive}
+use Rattle.program_words.specs.declared.words.Command.TheVariants.{Plot, Load, Demo, Run, Serve, Draw, Init, Check, ListSeries, Export, Retain, Cover, Live, Host, Derive}
 use Rattle.store_commands.specs.Books.{begun}
 use Rattle.store_commands.proofs.HoldsAgain.{series_there}
 use Rattle.store_commands.specs.Loaded.{IsAheadLoad}
@@ -18,6 +18,7 @@ use Rattle.chart_program.specs.Lives.{Life, AreLives, IsLife, IsLived, BeginsOn,
 use Rattle.chart_program.specs.Ran.{Leaves, LeavesTold}
 use Rattle.chart_program.specs.Served.{Says, Spelled, AreTexts, IsAheadOn}
 use Rattle.retain_command.specs.Sweeping.{IsAhead as IsAheadBy}
+use Rattle.hosted_lines.specs.Running.{IsAhead as IsAheadHosted}
 use Rattle.live_command.specs.Ended.{begun_live}
 use Rattle.live_command.specs.Running.{IsAhead as IsAheadLive}
 
@@ -59,6 +60,8 @@ run_lives Retain input old new begins left at b leaves is = λ total book recove
 run_lives (Cover every) input old new begins left at b leaves is = λ total book recovers.
     (leaves total book (begun_holds (page_count old.size) total book begins old b recovers)).here at left is.0 is.1.0 is.1.1
 run_lives Live input old new begins left at b leaves is = λ total book recovers.
+    (leaves total book (begun_holds (page_count old.size) total book begins old b recovers)).here at left is.0 is.1.0 is.1.1
+run_lives Host input old new begins left at b leaves is = λ total book recovers.
     (leaves total book (begun_holds (page_count old.size) total book begins old b recovers)).here at left is.0 is.1.0 is.1.1
 run_lives Derive input old new begins left at b leaves is = λ total book recovers.
     (leaves total book (begun_holds (page_count old.size) total book begins old b recovers)).here at left is.0 is.1.0 is.1.1
@@ -155,6 +158,16 @@ left_lived : (input : List ℕ) (count total : ℕ) (book : List Series) (from :
 left_lived input count total book from left sent is =
     (is.state.state.book, record { shown = is.shown; more = is.more; few = is.few; state = is.state; first = is.first; there = refl; low = is.low; high = is.high }, is.there)
 
+-- so where edits are done together
+left_hosted : (input : List ℕ) (count total : ℕ) (book : List Series) (from : ℕ) (left : Image) (sent : ℕ)
+    → IsAheadHosted (λ after. RecoversTo count left total after) input (begun_live total book) from sent
+    → (next : List Series) × IsAheadHosted (λ after. next ≡ after) input (begun_live total book) from sent × RecoversTo count left total next
+left_hosted input count total book from left sent is = (
+  is.state.state.book,
+  record { shown = is.shown; more = is.more; few = is.few; state = is.state; first = is.first; there = refl; low = is.low; high = is.high },
+  is.there,
+)
+
 -- some lines were swept, and some first clears of the next one done
 left_swept : (input : List ℕ) (count total : ℕ) (book : List Series) (from : ℕ) (left : Image) (sent : ℕ) → IsAheadBy (λ after. RecoversTo count left total after) total book input from sent
     → (next : List Series) × IsAheadBy (λ after. next ≡ after) total book input from sent × RecoversTo count left total next
@@ -179,6 +192,7 @@ left_by one ListSeries input count total book from left sent leaves = (book, ref
 left_by one (Export name window) input count total book from left sent leaves = (book, refl, leaves)
 left_by one Retain input count total book from left sent leaves = left_swept input count total book from left sent leaves
 left_by one Live input count total book from left sent leaves = left_lived input count total book from left sent leaves
+left_by one Host input count total book from left sent leaves = left_hosted input count total book from left sent leaves
 left_by one Derive input count total book from left sent leaves = (book, refl, leaves)
 
 -- ---- lives in a row

@@ -6,7 +6,7 @@ use Rattle.whole_number.proofs.Digits.{one_integer}
 use Rattle.whole_number.specs.Range.{IsTime}
 use Rattle.series_export.specs.declared.window.Window.{Window}
 use Rattle.program_words.specs.declared.words.Command.{Command}
-use Rattle.program_words.specs.declared.words.Command.TheVariants.{Plot, Load, Demo, Run, Serve, Draw, Init, Check, ListSeries, Export, Retain, Cover, Live, Derive}
+use Rattle.program_words.specs.declared.words.Command.TheVariants.{Plot, Load, Demo, Run, Serve, Draw, Init, Check, ListSeries, Export, Retain, Cover, Live, Host, Derive}
 use Rattle.program_words.specs.Words.{IsWindowIfAny, Spells, window_words, word_of}
 use Rattle.run_ends.specs.declared.status.Status.{Status}
 use Rattle.chart_program.specs.Course.{Course}
@@ -17,7 +17,7 @@ word_at place words = get_or words place []
 
 -- a number of a command's first word, by its first three bytes: no two have the same
 abbrev number : List ℕ → ℕ
-number word = get_or word 0 0 + get_or word 1 0 + 2 * get_or word 2 0
+number word = 2 * get_or word 0 0 + get_or word 1 0 + 2 * get_or word 2 0
 
 numbered : (command : Command) (words : List (List ℕ)) → Spells command words → number (word_at 0 words) ≡ number (word_of command)
 numbered (Plot w h) words is = ap (λ (l : List (List ℕ)). number (word_at 0 l)) is.0
@@ -110,6 +110,10 @@ one_live : (command : Command) (words : List (List ℕ)) → Spells command word
 one_live Live words is other = refl
 one_live command words is other = absurd (omega (arith, same_number command Live words is other))
 
+one_host : (command : Command) (words : List (List ℕ)) → Spells command words → Spells Host words → command ≡ Host
+one_host Host words is other = refl
+one_host command words is other = absurd (omega (arith, same_number command Host words is other))
+
 one_derive : (command : Command) (words : List (List ℕ)) → Spells command words → Spells Derive words → command ≡ Derive
 one_derive Derive words is other = refl
 one_derive command words is other = absurd (omega (arith, same_number command Derive words is other))
@@ -128,6 +132,7 @@ one_command command (Export name window) words is other = one_export command nam
 one_command command Retain words is other = one_retain command words is other
 one_command command (Cover every) words is other = one_cover command every words is other
 one_command command Live words is other = one_live command words is other
+one_command command Host words is other = one_host command words is other
 one_command command Derive words is other = one_derive command words is other
 
 -- what the command did that the words were read as, the one did that they spell

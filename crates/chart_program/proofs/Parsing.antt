@@ -27,7 +27,7 @@ use Rattle.draw_command.specs.Covers.{picture_bytes, SendsFrames}
 use Rattle.draw_command.specs.Draws.{DrawsMore, DrawsAll, FramesStop, StopsAtFrame, IsCut, DrawsWithin, IsFront, EndsDraw}
 use Rattle.block_disk.specs.View.{View}
 use Rattle.program_words.specs.declared.words.Command.{Command}
-use Rattle.program_words.specs.declared.words.Command.TheVariants.{Plot, Load, Demo, Run, Serve, Draw, Init, Check, ListSeries, Export, Retain, Cover, Live, Derive}
+use Rattle.program_words.specs.declared.words.Command.TheVariants.{Plot, Load, Demo, Run, Serve, Draw, Init, Check, ListSeries, Export, Retain, Cover, Live, Host, Derive}
 use Rattle.chart_program.specs.Ran.{AreReplies, IsFrames, IsOfReplies, DrawsReplies, CoversReplies, CoversBook, SendsAll}
 use Rattle.chart_program.specs.Replies.{DrawsBook}
 use Rattle.draw_command.proofs.DrawnFrames.{Good, Stay}
@@ -318,6 +318,7 @@ covers_at k draws own ListSeries old new input before now all = tt
 covers_at k draws own (Export name window) old new input before now all = tt
 covers_at k draws own Retain old new input before now all = tt
 covers_at k draws own Live old new input before now all = tt
+covers_at k draws own Host old new input before now all = tt
 covers_at k draws own Derive old new input before now all = tt
 covers_at k draws own (Cover every) old new input before now all = replies_covered k draws own every input before now all
 

@@ -3,7 +3,7 @@ use Rattle.std.proofs.Common.{◌≡◌, ℕ, zero, suc, true, false, inl, inr, 
 use Rattle.std.specs.Prelude.{Contains, String, map, string_bytes}
 use Rattle.block_disk.specs.View.{View}
 use Rattle.program_words.specs.declared.words.Command.{Command}
-use Rattle.program_words.specs.declared.words.Command.TheVariants.{Plot, Load, Demo, Run, Serve, Draw, Init, Check, ListSeries, Export, Retain, Cover, Live, Derive}
+use Rattle.program_words.specs.declared.words.Command.TheVariants.{Plot, Load, Demo, Run, Serve, Draw, Init, Check, ListSeries, Export, Retain, Cover, Live, Host, Derive}
 use Rattle.program_words.specs.CommandLine.{plain_words, has_flag}
 use Rattle.program_words.specs.Words.{OfCommand, Spells, IsWrong, EndsWords}
 use Rattle.program_words.specs.declared.words.WordsEnd.{WordsEnd}
@@ -30,6 +30,7 @@ with_operands (Export name window) words is = tt
 with_operands Retain words is = tt
 with_operands (Cover every) words is = is.1
 with_operands Live words is = tt
+with_operands Host words is = tt
 with_operands Derive words is = tt
 
 -- the first word
@@ -51,7 +52,8 @@ streams (Export name window) words is none streaming = none (3, omega arith, sym
 streams Retain words is none streaming = none (4, omega arith, sym (ap first is))
 streams (Cover every) words is none streaming = none (5, omega arith, sym (ap first is.0))
 streams Live words is none streaming = none (6, omega arith, sym (ap first is))
-streams Derive words is none streaming = none (7, omega arith, sym (ap first is))
+streams Host words is none streaming = none (7, omega arith, sym (ap first is))
+streams Derive words is none streaming = none (8, omega arith, sym (ap first is))
 
 -- the second byte of the first word, which tells `draw` and `init` from all others
 abbrev second : List (List ℕ) → ℕ
@@ -71,6 +73,7 @@ one_draw (Export name window) words is other = let both : 120 ≡ 114 = ap secon
 one_draw Retain words is other = let both : 101 ≡ 114 = ap second (sym is ∙ other) in absurd (omega (arith, both))
 one_draw (Cover every) words is other = let both : 111 ≡ 114 = ap second (sym is.0 ∙ other) in absurd (omega (arith, both))
 one_draw Live words is other = let both : 105 ≡ 114 = ap second (sym is ∙ other) in absurd (omega (arith, both))
+one_draw Host words is other = let both : 111 ≡ 114 = ap second (sym is ∙ other) in absurd (omega (arith, both))
 one_draw Derive words is other = let both : 101 ≡ 114 = ap second (sym is ∙ other) in absurd (omega (arith, both))
 
 pub one_init : (command : Command) (words : List (List ℕ)) → Spells command words → Spells Init words → command ≡ Init
@@ -87,6 +90,7 @@ one_init (Export name window) words is other = let both : 120 ≡ 110 = ap secon
 one_init Retain words is other = let both : 101 ≡ 110 = ap second (sym is ∙ other) in absurd (omega (arith, both))
 one_init (Cover every) words is other = let both : 111 ≡ 110 = ap second (sym is.0 ∙ other) in absurd (omega (arith, both))
 one_init Live words is other = let both : 105 ≡ 110 = ap second (sym is ∙ other) in absurd (omega (arith, both))
+one_init Host words is other = let both : 111 ≡ 110 = ap second (sym is ∙ other) in absurd (omega (arith, both))
 one_init Derive words is other = let both : 101 ≡ 110 = ap second (sym is ∙ other) in absurd (omega (arith, both))
 
 pub chart_codes : (code : ℕ) → Contains (0 ∷ 3 ∷ 4 ∷ 5 ∷ 6 ∷ 7 ∷ 8 ∷ 9 ∷ 10 ∷ 11 ∷ 12 ∷ 13 ∷ 14 ∷ 15 ∷ 16 ∷ 17 ∷ []) code → Contains (0 ∷ 2 ∷ 3 ∷ 4 ∷ 5 ∷ 6 ∷ 7 ∷ 8 ∷ 9 ∷ 10 ∷ 11 ∷ 12 ∷ 13 ∷ 14 ∷ 15 ∷ 16 ∷ 17 ∷ []) code
@@ -115,6 +119,7 @@ cover_completes ListSeries old new input D frames done replies = absurd replies
 cover_completes (Export name window) old new input D frames done replies = absurd replies
 cover_completes Retain old new input D frames done replies = absurd replies
 cover_completes Live old new input D frames done replies = absurd replies
+cover_completes Host old new input D frames done replies = absurd replies
 cover_completes Derive old new input D frames done replies = absurd replies
 cover_completes (Cover every) old new input D frames done replies = done (frames input replies)
 

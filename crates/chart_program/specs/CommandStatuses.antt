@@ -5,7 +5,7 @@ use Rattle.gate_pages.specs.Journal.{page_count}
 use Rattle.disk_store.specs.Openings.{IsOpeningPlace}
 use Rattle.disk_store.specs.declared.causes.OpeningCause.{OpeningCause}
 use Rattle.program_words.specs.declared.words.Command.{Command}
-use Rattle.program_words.specs.declared.words.Command.TheVariants.{Plot, Load, Demo, Run, Serve, Draw, Init, Check, ListSeries, Export, Retain, Cover, Live, Derive}
+use Rattle.program_words.specs.declared.words.Command.TheVariants.{Plot, Load, Demo, Run, Serve, Draw, Init, Check, ListSeries, Export, Retain, Cover, Live, Host, Derive}
 use Rattle.run_ends.specs.declared.status.Status.{Status}
 use Rattle.run_ends.specs.declared.ending.End.{End}
 use Rattle.run_ends.specs.declared.ending.End.TheVariants as ends
@@ -38,6 +38,7 @@ codes_of (Export name window) = 0 ∷ 3 ∷ 5 ∷ 6 ∷ 7 ∷ 12 ∷ 14 ∷ []
 codes_of Retain = 0 ∷ 3 ∷ 4 ∷ 5 ∷ 6 ∷ 7 ∷ 8 ∷ 9 ∷ 12 ∷ 17 ∷ []
 codes_of (Cover every) = 0 ∷ 3 ∷ 4 ∷ 5 ∷ 8 ∷ 9 ∷ 10 ∷ 11 ∷ 15 ∷ []
 codes_of Live = 0 ∷ 3 ∷ 4 ∷ 5 ∷ 6 ∷ 7 ∷ 9 ∷ 12 ∷ []
+codes_of Host = 0 ∷ 3 ∷ 4 ∷ 5 ∷ 6 ∷ 7 ∷ 9 ∷ 12 ∷ []
 codes_of Derive = 0 ∷ 3 ∷ 4 ∷ 5 ∷ 6 ∷ 7 ∷ 8 ∷ 9 ∷ 12 ∷ 16 ∷ []
 
 -- the command opens the store of the disk, or makes one
@@ -85,6 +86,7 @@ Bars Serve old new left left' before now place = IsBarred (page_count old.size) 
 Bars (Export name window) old new left left' before now place = IsDamagedForExport name old before now place
 Bars Retain old new left left' before now place = IsBarred (page_count old.size) new left left' before now place
 Bars Live old new left left' before now place = IsBarred (page_count old.size) new left left' before now place
+Bars Host old new left left' before now place = IsBarred (page_count old.size) new left left' before now place
 Bars Derive old new left left' before now place = IsBarred (page_count old.size) new left left' before now place
 Bars command old new left left' before now place = now ≡ before
 

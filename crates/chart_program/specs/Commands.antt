@@ -5,7 +5,7 @@ use Rattle.chart_grid.specs.Limits.{IsSide}
 use Rattle.program_words.specs.Words.{AreWordsOf, IsEvery}
 use Rattle.program_words.specs.declared.words.Command.{Command}
 use Rattle.program_words.specs.declared.words.Command.TheVariants.{Plot, Load, Demo, Draw, Init, Check, ListSeries, Export, Retain}
-use Rattle.program_words.specs.declared.words.Command.TheVariants.{Cover, Live, Derive, Run, Serve}
+use Rattle.program_words.specs.declared.words.Command.TheVariants.{Cover, Live, Host, Derive, Run, Serve}
 use Rattle.run_ends.specs.Statuses.{status_of}
 use Rattle.run_ends.specs.declared.ending.End.{End}
 use Rattle.run_ends.specs.declared.status.Status.{Status}
@@ -16,6 +16,7 @@ use Rattle.chart_program.specs.Demo.{OfDemo}
 use Rattle.chart_program.specs.Derive.{OfDerive}
 use Rattle.chart_program.specs.Draw.{OfDraw}
 use Rattle.chart_program.specs.Export.{OfExport}
+use Rattle.chart_program.specs.Host.{OfHost}
 use Rattle.chart_program.specs.Init.{OfInit}
 use Rattle.chart_program.specs.ListSeries.{OfList}
 use Rattle.chart_program.specs.Live.{OfLive}
@@ -54,6 +55,7 @@ Does (Export name window) c status = EndsSo status (OfExport name window c)
 Does Retain c status = EndsSo status (OfRetain c)
 Does (Cover every) c status = EndsSo status (OfCover every c)
 Does Live c status = EndsSo status (OfLive c)
+Does Host c status = EndsSo status (OfHost c)
 Does Derive c status = EndsSo status (OfDerive c)
 Does Run c status = EndsSo status (OfRun c)
 Does Serve c status = EndsSo status (OfServe c)

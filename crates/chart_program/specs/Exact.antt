@@ -4,7 +4,7 @@ use Rattle.block_disk.specs.View.{Image, View, Honest, sent_now}
 use Rattle.gate_pages.specs.Journal.{page_count}
 use Rattle.program_words.specs.declared.words.Command.{Command}
 use Rattle.program_words.specs.declared.words.Command.TheVariants.{Plot, Load, Demo, Run, Serve, Draw, Init}
-use Rattle.program_words.specs.declared.words.Command.TheVariants.{Check, ListSeries, Export, Retain, Cover, Live, Derive}
+use Rattle.program_words.specs.declared.words.Command.TheVariants.{Check, ListSeries, Export, Retain, Cover, Live, Host, Derive}
 use Rattle.served_fronts.specs.Fronts.{Draws, Covers}
 use Rattle.served_fronts.specs.Headline.{Task, IsRun}
 use Rattle.served_fronts.specs.Headline as headline
@@ -20,6 +20,7 @@ task_of (Load name) = changes
 task_of (Demo seed rounds) = changes
 task_of Retain = changes
 task_of Live = watches
+task_of Host = watches
 task_of Check = looks
 task_of ListSeries = looks
 task_of (Export name window) = looks

@@ -25,6 +25,7 @@ pub mod Export
 pub mod Retain
 pub mod Cover
 pub mod Live
+pub mod Host
 pub mod Derive
 pub mod Commands
 pub mod Ran

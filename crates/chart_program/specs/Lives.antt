@@ -16,12 +16,13 @@ use Rattle.chart_service.specs.State.{State}
 use Rattle.chart_service.specs.Serving.{Answers, AnswersNext, told}
 use Rattle.chart_service.specs.Moments.{SendsReply}
 use Rattle.program_words.specs.declared.words.Command.{Command}
-use Rattle.program_words.specs.declared.words.Command.TheVariants.{Plot, Load, Demo, Run, Serve, Draw, Init, Check, ListSeries, Export, Retain, Cover, Live, Derive}
+use Rattle.program_words.specs.declared.words.Command.TheVariants.{Plot, Load, Demo, Run, Serve, Draw, Init, Check, ListSeries, Export, Retain, Cover, Live, Host, Derive}
 use Rattle.store_commands.specs.Books.{begun}
 use Rattle.store_commands.specs.Loaded.{IsAheadLoad}
 use Rattle.store_commands.specs.Demonstrated.{AnswersFirst, IsAheadDemo}
 use Rattle.chart_program.specs.Served.{Spelled, AreTexts, IsAheadOn}
 use Rattle.retain_command.specs.Sweeping.{IsAhead as IsAheadBy}
+use Rattle.hosted_lines.specs.Running.{IsAhead as IsAheadHosted}
 use Rattle.live_command.specs.Ended.{begun_live}
 use Rattle.live_command.specs.Running.{IsAhead as IsAheadLive}
 
@@ -51,6 +52,7 @@ LeavesFrom (Export name window) input count total book from image sent = Recover
 LeavesFrom Retain input count total book from image sent = IsAheadBy (λ after. RecoversTo count image total after) total book input from sent
 LeavesFrom (Cover every) input count total book from image sent = RecoversTo count image total book
 LeavesFrom Live input count total book from image sent = IsAheadLive (λ after. RecoversTo count image total after) input (begun_live total book) from sent
+LeavesFrom Host input count total book from image sent = IsAheadHosted (λ after. RecoversTo count image total after) input (begun_live total book) from sent
 LeavesFrom Derive input count total book from image sent = RecoversTo count image total book
 LeavesFrom (Plot w h) input count total book from image sent = RecoversTo count image total book
 LeavesFrom Draw input count total book from image sent = RecoversTo count image total book
@@ -137,6 +139,7 @@ Outlives ListSeries input total old new from sent = new ≡ old
 Outlives (Export name window) input total old new from sent = new ≡ old
 Outlives Retain input total old new from sent = IsAheadBy (λ after. new ≡ after) total old input from sent
 Outlives Live input total old new from sent = IsAheadLive (λ after. new ≡ after) input (begun_live total old) from sent
+Outlives Host input total old new from sent = IsAheadHosted (λ after. new ≡ after) input (begun_live total old) from sent
 Outlives Derive input total old new from sent = new ≡ old
 Outlives (Plot w h) input total old new from sent = new ≡ old
 Outlives Draw input total old new from sent = new ≡ old

@@ -12,7 +12,7 @@ use Rattle.gate_pages.specs.Pages.{GoesOn}
 use Rattle.block_disk.specs.Counts.{HasRisen}
 use Rattle.disk_store.specs.Held.{HoldsBook}
 use Rattle.program_words.specs.declared.words.Command.{Command}
-use Rattle.program_words.specs.declared.words.Command.TheVariants.{Plot, Load, Demo, Run, Serve, Draw, Init, Check, ListSeries, Export, Retain, Cover, Live, Derive}
+use Rattle.program_words.specs.declared.words.Command.TheVariants.{Plot, Load, Demo, Run, Serve, Draw, Init, Check, ListSeries, Export, Retain, Cover, Live, Host, Derive}
 use Rattle.draw_command.specs.declared.draw_end.DrawEnd.TheVariants as draw_end
 use Rattle.program_words.specs.CommandLine.{plain_words}
 use Rattle.program_words.specs.Words.{AreCommand, ByCommand, Spells}
@@ -21,6 +21,7 @@ use Rattle.run_ends.specs.declared.ending.End.TheVariants as ends
 use Rattle.run_ends.specs.declared.status.Status.{Status}
 use Rattle.store_commands.specs.Traffic.{Traffic}
 use Rattle.store_commands.specs.Away.{IsTurnedAway}
+use Rattle.chart_program.specs.Host.{HostsAll, HostsLines, HostsPart, HostsSome, HostsTaken, HostsWithin}
 use Rattle.chart_program.specs.Slots.{FirstBad, HasTooMany, IsTooLong, StoppedBefore, most_slots}
 use Rattle.chart_program.specs.Plotted.{SendsPlot, SendsFront}
 use Rattle.chart_program.specs.Served.{Faults, faults_of, AreTexts, Spelled, AnswersAll, AnswersFront, AnswersTaken, AnswersWithin, AnswersSome, AnswersLines, LeavesBooks, ReadsServing, SyncsServing, RejectsNext}
@@ -34,6 +35,7 @@ use Rattle.demo_workload.specs.Ending.{MeetsError}
 use Rattle.demo_workload.specs.Workload.{workload}
 use Rattle.stored_book.specs.Damage.{IsBadForEdit, IsBadForRequest}
 use Rattle.retain_command.specs.Retained.{LeavesSwept, RetainsAll, RetainsLines, RetainsPart, RetainsSome, RetainsTaken, RetainsToBad, RetainsToUnknown, RetainsWithin}
+use Rattle.host_command.specs.Ended.{CostsHosting, LeavesHosted}
 use Rattle.live_command.specs.Ended.{LeavesLived, LivesAll, LivesLines, LivesPart, LivesSome, LivesTaken, LivesWithin, ReadsLiving, SyncsLiving}
 use Rattle.derive_command.specs.Derived.{IsBadForChart, DerivesAll, DerivesFirst, DerivesPart, DerivesTaken, DerivesToBad, DerivesToRefused, DerivesWithin}
 use Rattle.store_commands.specs.Damaged.{IsDamagedAtFirst, IsDamagedPlace}
@@ -69,7 +71,7 @@ ForStreams words left sent old new IsSo = ByCommand words (λ command. IsSo comm
 -- the first words of the commands that send before they end
 abbrev pub stream_words : List (List ℕ)
 stream_words =
-    codes "run" ∷ codes "serve" ∷ codes "draw" ∷ codes "export" ∷ codes "retain" ∷ codes "cover" ∷ codes "live" ∷ codes "derive" ∷ []
+    codes "run" ∷ codes "serve" ∷ codes "draw" ∷ codes "export" ∷ codes "retain" ∷ codes "cover" ∷ codes "live" ∷ codes "host" ∷ codes "derive" ∷ []
 
 -- the words begin with one of these
 abbrev pub BeginStream : List (List ℕ) → Type 0
@@ -91,6 +93,7 @@ SendsAll (Export name window) old new input before now = ExportsAll name window 
 SendsAll Retain old new input before now = RetainsAll (page_count old.size) old new input before now
 SendsAll (Cover every) old new input before now = DrawsAll (Some every) input before now
 SendsAll Live old new input before now = LivesAll (page_count old.size) old new input before now
+SendsAll Host old new input before now = HostsAll (page_count old.size) old new input before now
 SendsAll Derive old new input before now = DerivesAll (page_count old.size) old input before now
 
 -- the first bytes of the command's output for this input were sent
@@ -108,6 +111,7 @@ SendsPart (Export name window) old new input before now = ExportsPart name windo
 SendsPart Retain old new input before now = RetainsPart (page_count old.size) old new input before now
 SendsPart (Cover every) old new input before now = StopsAtFrame (Some every) input before now draw_end.SendFault
 SendsPart Live old new input before now = LivesPart (page_count old.size) old new input before now
+SendsPart Host old new input before now = HostsPart (page_count old.size) old new input before now
 SendsPart Derive old new input before now = DerivesPart (page_count old.size) old input before now
 
 -- A take failed, where these bytes were left. A plot has sent nothing, a serving command what answers the
@@ -126,6 +130,7 @@ StopsBefore (Export name window) old new input before now bytes = ⊥
 StopsBefore Retain old new input before now bytes = RetainsTaken (page_count old.size) old new input (Some bytes) before now
 StopsBefore (Cover every) old new input before now bytes = DrawsTaken (Some every) input bytes before now
 StopsBefore Live old new input before now bytes = LivesTaken (page_count old.size) old new input (Some bytes) before now
+StopsBefore Host old new input before now bytes = HostsTaken (page_count old.size) old new input (Some bytes) before now
 StopsBefore Derive old new input before now bytes = DerivesTaken (page_count old.size) old input (Some bytes) before now
 
 -- the same, where the bytes left are told
@@ -148,6 +153,7 @@ IsCutShort (Export name window) old new input before now = ExportsPart name wind
 IsCutShort Retain old new input before now = RetainsSome (page_count old.size) old new input before now
 IsCutShort (Cover every) old new input before now = StopsAtFrame (Some every) input before now draw_end.NoMemory
 IsCutShort Live old new input before now = LivesSome (page_count old.size) old new input before now
+IsCutShort Host old new input before now = HostsSome (page_count old.size) old new input before now
 IsCutShort Derive old new input before now = DerivesFirst (page_count old.size) old input before now
 
 -- A call of the disk failed. `init` has sent nothing, a serving command what answers some first lines, and an export a
@@ -166,6 +172,7 @@ StopsAtDisk (Export name window) old input before now = ExportsPart name window 
 StopsAtDisk Retain old input before now = RetainsLines (page_count old.size) old input before now
 StopsAtDisk (Cover every) old input before now = ⊥
 StopsAtDisk Live old input before now = LivesLines (page_count old.size) old input before now
+StopsAtDisk Host old input before now = HostsLines (page_count old.size) old input before now
 StopsAtDisk Derive old input before now = DerivesFirst (page_count old.size) old input before now
 
 -- The line or the field at this place is the first that isn't in the command's grammar, or the input ends there
@@ -173,19 +180,12 @@ StopsAtDisk Derive old input before now = DerivesFirst (page_count old.size) old
 -- these and their covers.
 abbrev pub IsBadInput : Command → View → View → List ℕ → ℕ → Option (List ℕ) → Option (List ℕ) → Type 0
 IsBadInput (Plot w h) old new input place before now = FirstBad input place
-IsBadInput Run old new input place before now = ⊥
-IsBadInput Serve old new input place before now = ⊥
 IsBadInput Draw old new input place before now = IsCut None input place before now ⊎ StopsAtFrame None input before now (draw_end.BadFrame place)
-IsBadInput Init old new input place before now = ⊥
 IsBadInput (Load name) old new input place before now = LoadsToBad name (page_count old.size) old new input place
-IsBadInput (Demo seed rounds) old new input place before now = ⊥
-IsBadInput Check old new input place before now = ⊥
-IsBadInput ListSeries old new input place before now = ⊥
-IsBadInput (Export name window) old new input place before now = ⊥
 IsBadInput Retain old new input place before now = RetainsToBad (page_count old.size) old new input place before now
 IsBadInput (Cover every) old new input place before now = IsCut (Some every) input place before now ⊎ StopsAtFrame (Some every) input before now (draw_end.BadFrame place)
-IsBadInput Live old new input place before now = ⊥
 IsBadInput Derive old new input place before now = DerivesToBad (page_count old.size) old input place before now
+IsBadInput command old new input place before now = ⊥
 
 -- A frame's first wanted key that can't be used has no coefficient. That never comes for a `run` whose disk holds a book.
 abbrev pub Lacks : Command → View → List ℕ → ℕ → Option (List ℕ) → Option (List ℕ) → Type 0
@@ -212,19 +212,10 @@ NamesUnopened command old input place before now = ⊥
 -- What a command leaves of the disk. A plot, `draw` and `cover` leave it alone, for the others but `init` time goes on.
 abbrev pub LeavesDisk : Command → View → View → Type 0
 LeavesDisk (Plot w h) old new = DiskKept old new
-LeavesDisk Run old new = GoesOn old new
-LeavesDisk Serve old new = GoesOn old new
 LeavesDisk Draw old new = DiskKept old new
 LeavesDisk Init old new = LeavesMade old new
-LeavesDisk (Load name) old new = GoesOn old new
-LeavesDisk (Demo seed rounds) old new = GoesOn old new
-LeavesDisk Check old new = GoesOn old new
-LeavesDisk ListSeries old new = GoesOn old new
-LeavesDisk (Export name window) old new = GoesOn old new
-LeavesDisk Retain old new = GoesOn old new
 LeavesDisk (Cover every) old new = DiskKept old new
-LeavesDisk Live old new = GoesOn old new
-LeavesDisk Derive old new = GoesOn old new
+LeavesDisk command old new = GoesOn old new
 
 -- What a crash leaves at each moment of a serving command: a book with each edit whose answer was sent whole by then, and
 -- with at most 64 edits more. `init`, `check`, `plot`, `draw` and `cover` leave the book as it is.
@@ -233,16 +224,10 @@ Leaves Run input old new = LeavesBooks AreTexts (page_count old.size) input old 
 Leaves Serve input old new = LeavesBooks Spelled (page_count old.size) input old new
 Leaves (Load name) input old new = LeavesLoads name (page_count old.size) input old new × LeavesUnnamed name (page_count old.size) old new
 Leaves (Demo seed rounds) input old new = LeavesDemo (workload seed rounds) (page_count old.size) old new
-Leaves Check input old new = LeavesSame (page_count old.size) old new
-Leaves ListSeries input old new = LeavesSame (page_count old.size) old new
-Leaves (Export name window) input old new = LeavesSame (page_count old.size) old new
 Leaves Retain input old new = LeavesSwept (page_count old.size) input old new
 Leaves Live input old new = LeavesLived (page_count old.size) input old new
-Leaves Derive input old new = LeavesSame (page_count old.size) old new
-Leaves (Plot w h) input old new = LeavesSame (page_count old.size) old new
-Leaves Draw input old new = LeavesSame (page_count old.size) old new
-Leaves (Cover every) input old new = LeavesSame (page_count old.size) old new
-Leaves Init input old new = LeavesSame (page_count old.size) old new
+Leaves Host input old new = LeavesHosted (page_count old.size) input old new
+Leaves command input old new = LeavesSame (page_count old.size) old new
 
 -- the same where the bytes sent before are told, of which the moments speak
 abbrev pub LeavesTold : Command → View → View → List ℕ → Option (List ℕ) → Option (List ℕ) → Type 0
@@ -263,22 +248,17 @@ IsDamaged ListSeries old new place = IsDamagedAtFirst old place
 IsDamaged (Export name window) old new place = IsDamagedPlace (IsBadForExport name) old old place
 IsDamaged Retain old new place = IsDamagedPlace IsBadForRequest old new place
 IsDamaged Live old new place = IsDamagedPlace IsBadForRequest old new place
+IsDamaged Host old new place = IsDamagedPlace IsBadForRequest old new place
 IsDamaged Derive old new place = IsDamagedPlace IsBadForChart old new place
 IsDamaged command old new place = ⊥
 
 -- which never comes where the disk of a serving command holds a book
 abbrev pub IsUndamaged : Command → View → Type 0
-IsUndamaged Run old = Never (page_count old.size) old
-IsUndamaged Serve old = Never (page_count old.size) old
-IsUndamaged (Load name) old = Never (page_count old.size) old
-IsUndamaged (Demo seed rounds) old = Never (page_count old.size) old
-IsUndamaged Check old = Never (page_count old.size) old
-IsUndamaged ListSeries old = Never (page_count old.size) old
-IsUndamaged (Export name window) old = Never (page_count old.size) old
-IsUndamaged Retain old = Never (page_count old.size) old
-IsUndamaged Live old = Never (page_count old.size) old
-IsUndamaged Derive old = Never (page_count old.size) old
-IsUndamaged command old = ⊥
+IsUndamaged (Plot w h) old = ⊥
+IsUndamaged Draw old = ⊥
+IsUndamaged Init old = ⊥
+IsUndamaged (Cover every) old = ⊥
+IsUndamaged command old = Never (page_count old.size) old
 
 -- the end where no store was made
 abbrev pub init_end : InitCause → End
@@ -303,18 +283,10 @@ IsMade command old new = ⊤
 
 -- the disk has too few blocks for a store: this many
 abbrev pub IsTooSmall : Command → View → ℕ → Type 0
-IsTooSmall Run old place = (place ≡ old.size) × (old.size < 128)
-IsTooSmall Serve old place = (place ≡ old.size) × (old.size < 128)
-IsTooSmall Init old place = (place ≡ old.size) × (old.size < 128)
-IsTooSmall (Load name) old place = (place ≡ old.size) × (old.size < 128)
-IsTooSmall (Demo seed rounds) old place = (place ≡ old.size) × (old.size < 128)
-IsTooSmall Check old place = (place ≡ old.size) × (old.size < 128)
-IsTooSmall ListSeries old place = (place ≡ old.size) × (old.size < 128)
-IsTooSmall (Export name window) old place = (place ≡ old.size) × (old.size < 128)
-IsTooSmall Retain old place = (place ≡ old.size) × (old.size < 128)
-IsTooSmall Live old place = (place ≡ old.size) × (old.size < 128)
-IsTooSmall Derive old place = (place ≡ old.size) × (old.size < 128)
-IsTooSmall command old place = ⊥
+IsTooSmall (Plot w h) old place = ⊥
+IsTooSmall Draw old place = ⊥
+IsTooSmall (Cover every) old place = ⊥
+IsTooSmall command old place = (place ≡ old.size) × (old.size < 128)
 
 -- there is a store already, in whose page 0 this block is
 abbrev pub IsThere : Command → View → ℕ → Type 0
@@ -340,6 +312,7 @@ IsTooMuch (Export name window) old new input place before now = ⊥
 IsTooMuch Retain old new input place before now = (place ≡ 2 ^ 32) × (2 ^ 32 < length input) × RetainsWithin (page_count old.size) old new input before now
 IsTooMuch (Cover every) old new input place before now = (place ≡ 2 ^ 32) × DrawsWithin (Some every) input before now
 IsTooMuch Live old new input place before now = (place ≡ 2 ^ 32) × (2 ^ 32 < length input) × LivesWithin (page_count old.size) old new input before now
+IsTooMuch Host old new input place before now = (place ≡ 2 ^ 32) × (2 ^ 32 < length input) × HostsWithin (page_count old.size) old new input before now
 IsTooMuch Derive old new input place before now = (place ≡ 2 ^ 32) × (2 ^ 32 < length input) × DerivesWithin (page_count old.size) old input before now
 
 -- A line, which begins at this place, names a series that isn't there. The lines before it were swept and answered.
@@ -383,6 +356,7 @@ abbrev pub ReadsByInput : Command → View → View → List ℕ → Option (Lis
 ReadsByInput Run old new input before now = ReadsServing old new input
 ReadsByInput Serve old new input before now = ReadsServing old new input
 ReadsByInput Live old new input before now = ReadsLiving old new input
+ReadsByInput Host old new input before now = CostsHosting old new input
 ReadsByInput command old new input before now = ⊤
 
 -- and so the disk is synced
@@ -390,25 +364,18 @@ abbrev pub SyncsByInput : Command → View → View → List ℕ → Option (Lis
 SyncsByInput Run old new input before now = SyncsServing old new input
 SyncsByInput Serve old new input before now = SyncsServing old new input
 SyncsByInput Live old new input before now = SyncsLiving old new input
+SyncsByInput Host old new input before now = CostsHosting old new input
 SyncsByInput command old new input before now = ⊤
 
 -- The input is no more than the command takes, and was read to its end, where this is left; `init`, `demo`, `check`, `list` and
 -- `export` take none.
 abbrev pub IsWithin : Command → Option (List ℕ) → List ℕ → Type 0
-IsWithin (Plot w h) left input = (length input ≤ 2 ^ 32) × (left ≡ Some [])
-IsWithin Run left input = (length input ≤ 2 ^ 32) × (left ≡ Some [])
-IsWithin Serve left input = (length input ≤ 2 ^ 32) × (left ≡ Some [])
-IsWithin Draw left input = (length input ≤ 2 ^ 32) × (left ≡ Some [])
 IsWithin Init left input = ⊤
-IsWithin (Load name) left input = (length input ≤ 2 ^ 32) × (left ≡ Some [])
 IsWithin (Demo seed rounds) left input = ⊤
 IsWithin Check left input = ⊤
 IsWithin ListSeries left input = ⊤
 IsWithin (Export name window) left input = ⊤
-IsWithin Retain left input = (length input ≤ 2 ^ 32) × (left ≡ Some [])
-IsWithin (Cover every) left input = (length input ≤ 2 ^ 32) × (left ≡ Some [])
-IsWithin Live left input = (length input ≤ 2 ^ 32) × (left ≡ Some [])
-IsWithin Derive left input = (length input ≤ 2 ^ 32) × (left ≡ Some [])
+IsWithin command left input = (length input ≤ 2 ^ 32) × (left ≡ Some [])
 
 -- the input is in the grammar of a command that takes one, and no more than it takes
 abbrev pub IsInput : Command → View → View → List ℕ → Type 0
@@ -425,6 +392,7 @@ IsInput (Export name window) old new input = HoldsNamed name old new
 IsInput Retain old new input = AreRetained old new input
 IsInput (Cover every) old new input = IsFrames input
 IsInput Live old new input = AreLines old new input
+IsInput Host old new input = AreLines old new input
 IsInput Derive old new input = AreDerived old new input
 
 -- The words are those of a command, the input is told, and it is good for each command whose words they are.
@@ -459,6 +427,7 @@ IsStreaming (Export name window) = ⊤
 IsStreaming Retain = ⊤
 IsStreaming (Cover every) = ⊤
 IsStreaming Live = ⊤
+IsStreaming Host = ⊤
 IsStreaming Derive = ⊤
 IsStreaming command = ⊥
 

@@ -36,6 +36,7 @@ use drawn_replies::laws::{
     replies_draw_the_book,
 };
 use empty_store::{InitCause, make_store};
+use host_command::host;
 use live_command::live;
 use program_words::Command;
 use retain_command::retain;
@@ -99,6 +100,10 @@ pub(crate) fn status_of_command<W: World>(
         }
         Command::Live => {
             let (end, world) = live(alloc, world);
+            (status_of(end), world)
+        }
+        Command::Host => {
+            let (end, world) = host(alloc, world);
             (status_of(end), world)
         }
         Command::Derive => {

@@ -3,7 +3,7 @@ ghost use Rattle.block_disk.specs.Counts.{HasRisen};
 ghost use Rattle.block_disk.specs.View.{Honest};
 ghost use Rattle.chart_world.specs.Faults.{CountsFault};
 ghost use Rattle.program_words.specs.CommandLine.{plain_words};
-ghost use Rattle.program_words.specs.declared.words.Command.TheVariants.{Check, Cover, Demo, Derive, Draw, Export, Init, ListSeries, Live, Load, Plot, Retain, Run, Serve};
+ghost use Rattle.program_words.specs.declared.words.Command.TheVariants.{Check, Cover, Demo, Derive, Draw, Export, Host, Init, ListSeries, Live, Load, Plot, Retain, Run, Serve};
 ghost use Rattle.program_words.specs.Words.{AreCommand, AreWordsOf, ByCommand, Spells, IsWrong};
 ghost use Rattle.store_commands.specs.Status.{code_fault};
 ghost use Rattle.series_export.specs.declared.window.Window.{Window};
@@ -14,6 +14,7 @@ ghost use Rattle.chart_program.specs.Demo.{OfDemo};
 ghost use Rattle.chart_program.specs.Derive.{OfDerive};
 ghost use Rattle.chart_program.specs.Draw.{OfDraw};
 ghost use Rattle.chart_program.specs.Export.{OfExport};
+ghost use Rattle.chart_program.specs.Host.{OfHost};
 ghost use Rattle.chart_program.specs.Init.{OfInit};
 ghost use Rattle.chart_program.specs.ListSeries.{OfList};
 ghost use Rattle.chart_program.specs.Load.{OfLoad};
@@ -146,6 +147,7 @@ pub fn chart<W: World>(alloc: Global, words: &[String], world: W) -> (Status, W)
     ensures retain { ByPage words.now W.view W.left W.sent world result.1 result.0 Retain OfRetain }
     ensures cover { (every : ℕ) → ByPage words.now W.view W.left W.sent world result.1 result.0 (Cover every) (OfCover every) }
     ensures live { ByPage words.now W.view W.left W.sent world result.1 result.0 Live OfLive }
+    ensures host { ByPage words.now W.view W.left W.sent world result.1 result.0 Host OfHost }
     ensures derive { ByPage words.now W.view W.left W.sent world result.1 result.0 Derive OfDerive }
 {
     one_frame_a_spelling();

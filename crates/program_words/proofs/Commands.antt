@@ -13,7 +13,7 @@ use Rattle.series_book.specs.declared.errors.NameError.TheVariants.{NotAName, No
 use Rattle.whole_number.specs.Spelling.{SpellsNatural}
 use Rattle.whole_number.proofs.Digits.{one_natural}
 use Rattle.program_words.specs.declared.words.Command.{Command}
-use Rattle.program_words.specs.declared.words.Command.TheVariants.{Plot, Load, Demo, Run, Serve, Draw, Init, Check, ListSeries, Export, Retain, Cover, Live, Derive}
+use Rattle.program_words.specs.declared.words.Command.TheVariants.{Plot, Load, Demo, Run, Serve, Draw, Init, Check, ListSeries, Export, Retain, Cover, Live, Host, Derive}
 use Rattle.program_words.specs.declared.words.WordsEnd.{WordsEnd}
 use Rattle.program_words.specs.declared.words.WordsEnd.TheVariants.{Wrong, NoMemory as AtMemory}
 use Rattle.program_words.specs.Words.{Spells, IsEvery, Begins, IsWrongAt, IsWrongBy, IsSingle, HasNoName, HasNoSeed, word_of}
@@ -118,7 +118,8 @@ number_of Check = 9
 number_of ListSeries = 10
 number_of Retain = 11
 number_of Live = 12
-number_of Derive = 13
+number_of Host = 13
+number_of Derive = 14
 
 unfoldable number_by : List ℕ → ℕ
 number_by word =
@@ -134,7 +135,8 @@ number_by word =
     if bytes_eq word (codes "check") then 9 else
     if bytes_eq word (codes "list") then 10 else
     if bytes_eq word (codes "retain") then 11 else
-    if bytes_eq word (codes "live") then 12 else 13
+    if bytes_eq word (codes "live") then 12 else
+    if bytes_eq word (codes "host") then 13 else 14
 
 number_so : (command : Command) → number_by (word_of command) ≡ number_of command
 unfolding number_by
@@ -150,6 +152,7 @@ number_so ListSeries = refl
 number_so Retain = refl
 number_so (Cover every) = refl
 number_so Live = refl
+number_so Host = refl
 number_so Derive = refl
 number_so (Export name window) = refl
 
@@ -167,6 +170,7 @@ first_of_spelling spelling ListSeries spells = ap (λ l. slice_get l 0) spells
 first_of_spelling spelling Retain spells = ap (λ l. slice_get l 0) spells
 first_of_spelling spelling (Cover every) spells = ap (λ l. slice_get l 0) spells.0
 first_of_spelling spelling Live spells = ap (λ l. slice_get l 0) spells
+first_of_spelling spelling Host spells = ap (λ l. slice_get l 0) spells
 first_of_spelling spelling Derive spells = ap (λ l. slice_get l 0) spells
 first_of_spelling spelling (Export name window) spells = ap (λ l. slice_get l 0) spells.0
 
@@ -261,19 +265,7 @@ IsSideWord word = (side : ℕ) × IsSide side × (word ≡ decimal side)
 only_plot : (command : Command) (spelling : List (List ℕ)) → Spells command spelling → number_of command ≡ 0
     → (a : List ℕ) × (b : List ℕ) × IsSideWord a × IsSideWord b × (spelling ≡ codes "plot" ∷ a ∷ b ∷ [])
 only_plot (Plot w h) spelling spells number = (decimal w, decimal h, (w, spells.1, refl), (h, spells.2, refl), spells.0)
-only_plot (Load name) spelling spells number = absurd (omega (arith, number))
-only_plot (Demo seed count) spelling spells number = absurd (omega (arith, number))
-only_plot Run spelling spells number = absurd (omega (arith, number))
-only_plot Serve spelling spells number = absurd (omega (arith, number))
-only_plot Draw spelling spells number = absurd (omega (arith, number))
-only_plot Init spelling spells number = absurd (omega (arith, number))
-only_plot Check spelling spells number = absurd (omega (arith, number))
-only_plot ListSeries spelling spells number = absurd (omega (arith, number))
-only_plot Retain spelling spells number = absurd (omega (arith, number))
-only_plot (Cover every) spelling spells number = absurd (omega (arith, number))
-only_plot Live spelling spells number = absurd (omega (arith, number))
-only_plot Derive spelling spells number = absurd (omega (arith, number))
-only_plot (Export name window) spelling spells number = absurd (omega (arith, number))
+only_plot command spelling spells number = absurd (omega (arith, number))
 
 plots : HasTwo (codes "plot") IsSideWord IsSideWord
 plots = record {
@@ -309,20 +301,8 @@ IsSeedWord word = (seed : ℕ) × (seed < 2 ^ 64) × (word ≡ decimal seed)
 
 only_demo : (command : Command) (spelling : List (List ℕ)) → Spells command spelling → number_of command ≡ 2
     → (a : List ℕ) × (b : List ℕ) × IsSeedWord a × IsSideWord b × (spelling ≡ codes "demo" ∷ a ∷ b ∷ [])
-only_demo (Plot w h) spelling spells number = absurd (omega (arith, number))
-only_demo (Load name) spelling spells number = absurd (omega (arith, number))
 only_demo (Demo seed count) spelling spells number = (decimal seed, decimal count, (seed, spells.1, refl), (count, spells.2, refl), spells.0)
-only_demo Run spelling spells number = absurd (omega (arith, number))
-only_demo Serve spelling spells number = absurd (omega (arith, number))
-only_demo Draw spelling spells number = absurd (omega (arith, number))
-only_demo Init spelling spells number = absurd (omega (arith, number))
-only_demo Check spelling spells number = absurd (omega (arith, number))
-only_demo ListSeries spelling spells number = absurd (omega (arith, number))
-only_demo Retain spelling spells number = absurd (omega (arith, number))
-only_demo (Cover every) spelling spells number = absurd (omega (arith, number))
-only_demo Live spelling spells number = absurd (omega (arith, number))
-only_demo Derive spelling spells number = absurd (omega (arith, number))
-only_demo (Export name window) spelling spells number = absurd (omega (arith, number))
+only_demo command spelling spells number = absurd (omega (arith, number))
 
 demos : HasTwo (codes "demo") IsSeedWord IsSideWord
 demos = record {
@@ -352,20 +332,8 @@ abbrev IsNameWord : List ℕ → Type 0
 IsNameWord word = IsTrue (is_name word)
 
 only_load : (command : Command) (spelling : List (List ℕ)) → Spells command spelling → number_of command ≡ 1 → (a : List ℕ) × IsNameWord a × (spelling ≡ codes "load" ∷ a ∷ [])
-only_load (Plot w h) spelling spells number = absurd (omega (arith, number))
 only_load (Load name) spelling spells number = (name, spells.1, spells.0)
-only_load (Demo seed count) spelling spells number = absurd (omega (arith, number))
-only_load Run spelling spells number = absurd (omega (arith, number))
-only_load Serve spelling spells number = absurd (omega (arith, number))
-only_load Draw spelling spells number = absurd (omega (arith, number))
-only_load Init spelling spells number = absurd (omega (arith, number))
-only_load Check spelling spells number = absurd (omega (arith, number))
-only_load ListSeries spelling spells number = absurd (omega (arith, number))
-only_load Retain spelling spells number = absurd (omega (arith, number))
-only_load (Cover every) spelling spells number = absurd (omega (arith, number))
-only_load Live spelling spells number = absurd (omega (arith, number))
-only_load Derive spelling spells number = absurd (omega (arith, number))
-only_load (Export name window) spelling spells number = absurd (omega (arith, number))
+only_load command spelling spells number = absurd (omega (arith, number))
 
 pub a_name : IsTrue (is_name (codes "a"))
 unfolding is_name is_name_byte
@@ -394,20 +362,8 @@ abbrev IsEveryWord : List ℕ → Type 0
 IsEveryWord word = (every : ℕ) × IsEvery every × (word ≡ decimal every)
 
 only_cover : (command : Command) (spelling : List (List ℕ)) → Spells command spelling → number_of command ≡ 4 → (a : List ℕ) × IsEveryWord a × (spelling ≡ codes "cover" ∷ a ∷ [])
-only_cover (Plot w h) spelling spells number = absurd (omega (arith, number))
-only_cover (Load name) spelling spells number = absurd (omega (arith, number))
-only_cover (Demo seed count) spelling spells number = absurd (omega (arith, number))
-only_cover Run spelling spells number = absurd (omega (arith, number))
-only_cover Serve spelling spells number = absurd (omega (arith, number))
-only_cover Draw spelling spells number = absurd (omega (arith, number))
-only_cover Init spelling spells number = absurd (omega (arith, number))
-only_cover Check spelling spells number = absurd (omega (arith, number))
-only_cover ListSeries spelling spells number = absurd (omega (arith, number))
-only_cover Retain spelling spells number = absurd (omega (arith, number))
-only_cover Live spelling spells number = absurd (omega (arith, number))
-only_cover Derive spelling spells number = absurd (omega (arith, number))
 only_cover (Cover every) spelling spells number = (decimal every, (every, spells.1, refl), spells.0)
-only_cover (Export name window) spelling spells number = absurd (omega (arith, number))
+only_cover command spelling spells number = absurd (omega (arith, number))
 
 every_one : IsEvery 1
 every_one = record { some = omega arith; most = omega arith }
@@ -455,6 +411,7 @@ spells_single ListSeries is = refl
 spells_single Retain is = refl
 spells_single (Cover every) none = absurd none
 spells_single Live is = refl
+spells_single Host is = refl
 spells_single Derive is = refl
 spells_single (Export name window) none = absurd none
 
@@ -471,6 +428,7 @@ single_number ListSeries is = omega arith
 single_number Retain is = omega arith
 single_number (Cover every) none = absurd none
 single_number Live is = omega arith
+single_number Host is = omega arith
 single_number Derive is = omega arith
 single_number (Export name window) none = absurd none
 
@@ -479,17 +437,9 @@ short_spelling : (command : Command) (spelling : List (List ℕ)) → Spells com
 short_spelling (Plot w h) spelling spells number = absurd (omega (arith, number))
 short_spelling (Load name) spelling spells number = absurd (omega (arith, number))
 short_spelling (Demo seed count) spelling spells number = absurd (omega (arith, number))
-short_spelling Run spelling spells number = omega (arith, ap length spells)
-short_spelling Serve spelling spells number = omega (arith, ap length spells)
-short_spelling Draw spelling spells number = omega (arith, ap length spells)
-short_spelling Init spelling spells number = omega (arith, ap length spells)
-short_spelling Check spelling spells number = omega (arith, ap length spells)
-short_spelling ListSeries spelling spells number = omega (arith, ap length spells)
-short_spelling Retain spelling spells number = omega (arith, ap length spells)
 short_spelling (Cover every) spelling spells number = absurd (omega (arith, number))
-short_spelling Live spelling spells number = omega (arith, ap length spells)
-short_spelling Derive spelling spells number = omega (arith, ap length spells)
 short_spelling (Export name window) spelling spells number = absurd (omega (arith, number))
+short_spelling command spelling spells number = omega (arith, ap length spells)
 
 -- no command begins with the first word
 pub wrong_first : (words : List (List ℕ)) → ((command : Command) → slice_get words 0 ≡ Some (word_of command) → ⊥) → IsWrongAt 0 words
@@ -512,6 +462,7 @@ no_command first plot load demo export cover single Check is = single Check tt i
 no_command first plot load demo export cover single ListSeries is = single ListSeries tt is
 no_command first plot load demo export cover single Retain is = single Retain tt is
 no_command first plot load demo export cover single Live is = single Live tt is
+no_command first plot load demo export cover single Host is = single Host tt is
 no_command first plot load demo export cover single Derive is = single Derive tt is
 no_command first plot load demo export cover single (Cover every) is = cover is
 no_command first plot load demo export cover single (Export name window) is = export is

@@ -11,7 +11,7 @@ use Rattle.whole_number.specs.Range.{IsTime}
 use Rattle.whole_number.specs.Spelling.{SpellsInteger}
 use Rattle.whole_number.specs.declared.limits.TheConstants.{GREATEST_TIME}
 use Rattle.program_words.specs.declared.words.Command.{Command}
-use Rattle.program_words.specs.declared.words.Command.TheVariants.{Plot, Load, Demo, Run, Serve, Draw, Init, Check, ListSeries, Export, Retain, Cover, Live, Derive}
+use Rattle.program_words.specs.declared.words.Command.TheVariants.{Plot, Load, Demo, Run, Serve, Draw, Init, Check, ListSeries, Export, Retain, Cover, Live, Host, Derive}
 use Rattle.program_words.specs.declared.words.WordsEnd.{WordsEnd}
 use Rattle.program_words.specs.declared.words.WordsEnd.TheVariants.{Wrong, NoMemory}
 use Rattle.program_words.specs.Words.{Spells, Begins, IsWrongAt, IsWrongBy, IsWindowIfAny, HasNoName, window_words}
@@ -57,20 +57,8 @@ record IsWindowed (spelling : List (List ℕ)) : Type 0 where
   window_is : IsWindow window.from window.to
 
 only_export : (command : Command) (spelling : List (List ℕ)) → Spells command spelling → number_of command ≡ 3 → IsExport spelling
-only_export (Plot w h) spelling spells number = absurd (omega (arith, number))
-only_export (Load name) spelling spells number = absurd (omega (arith, number))
-only_export (Demo seed count) spelling spells number = absurd (omega (arith, number))
-only_export Run spelling spells number = absurd (omega (arith, number))
-only_export Serve spelling spells number = absurd (omega (arith, number))
-only_export Draw spelling spells number = absurd (omega (arith, number))
-only_export Init spelling spells number = absurd (omega (arith, number))
-only_export Check spelling spells number = absurd (omega (arith, number))
-only_export ListSeries spelling spells number = absurd (omega (arith, number))
-only_export Retain spelling spells number = absurd (omega (arith, number))
-only_export (Cover every) spelling spells number = absurd (omega (arith, number))
-only_export Live spelling spells number = absurd (omega (arith, number))
-only_export Derive spelling spells number = absurd (omega (arith, number))
 only_export (Export name window) spelling spells number = record { name = name; window = window; words = spells.0; named = spells.1; window_is = spells.2 }
+only_export command spelling spells number = absurd (omega (arith, number))
 
 exported : (count : ℕ) (words : List (List ℕ)) (b : Begins count words) → 0 < count → slice_get words 0 ≡ Some (codes "export") → IsExport b.spelling
 exported count words b some first = only_export b.command b.spelling b.spells (one_number b.spelling (Export [] None) b.command b.spells (first_there count (codes "export") words b some first))

@@ -6,7 +6,7 @@ use Rattle.series_book.specs.Names.{is_name}
 use Rattle.series_export.specs.declared.window.Window.{Window}
 use Rattle.program_words.specs.CommandLine.{plain_words, has_flag}
 use Rattle.program_words.specs.declared.words.Command.{Command}
-use Rattle.program_words.specs.declared.words.Command.TheVariants.{Plot, Load, Demo, Run, Serve, Draw, Init, Check, ListSeries, Export, Retain, Cover, Live, Derive}
+use Rattle.program_words.specs.declared.words.Command.TheVariants.{Plot, Load, Demo, Run, Serve, Draw, Init, Check, ListSeries, Export, Retain, Cover, Live, Host, Derive}
 use Rattle.program_words.specs.declared.words.WordsEnd.{WordsEnd}
 use Rattle.program_words.specs.declared.words.WordsEnd.TheVariants.{Wrong, NoMemory}
 
@@ -25,6 +25,7 @@ word_of (Export name window) = codes "export"
 word_of Retain = codes "retain"
 word_of (Cover every) = codes "cover"
 word_of Live = codes "live"
+word_of Host = codes "host"
 word_of Derive = codes "derive"
 
 -- a command of one word
@@ -42,6 +43,7 @@ IsSingle (Export name window) = ⊥
 IsSingle Retain = ⊤
 IsSingle (Cover every) = ⊥
 IsSingle Live = ⊤
+IsSingle Host = ⊤
 IsSingle Derive = ⊤
 
 -- the words behind the name of an export: the ends of its window, if there is one
@@ -61,7 +63,7 @@ pub record IsEvery (n : ℕ) : Type 0 where
 
 -- the words spell the command: `plot W H`, two numbers from 1 to 4,096; `load NAME`; `demo SEED N`, a number below 2^64 and
 -- one from 1 to 4,096; `export NAME` or `export NAME T0 T1`, two whole numbers; `cover EVERY`, a number from 1 to 131,072;
--- or `run`, `serve`, `draw`, `init`, `check`, `list`, `retain`, `live` or `derive`
+-- or `run`, `serve`, `draw`, `init`, `check`, `list`, `retain`, `live`, `host` or `derive`
 abbrev pub Spells : Command → List (List ℕ) → Type 0
 Spells (Plot w h) words = (words ≡ codes "plot" ∷ decimal w ∷ decimal h ∷ []) × IsSide w × IsSide h
 Spells (Load name) words = (words ≡ codes "load" ∷ name ∷ []) × IsTrue (is_name name)
@@ -76,6 +78,7 @@ Spells (Export name window) words = (words ≡ codes "export" ∷ name ∷ windo
 Spells Retain words = words ≡ codes "retain" ∷ []
 Spells (Cover every) words = (words ≡ codes "cover" ∷ decimal every ∷ []) × IsEvery every
 Spells Live words = words ≡ codes "live" ∷ []
+Spells Host words = words ≡ codes "host" ∷ []
 Spells Derive words = words ≡ codes "derive" ∷ []
 
 -- the first words, so many of them, are those that some command begins with

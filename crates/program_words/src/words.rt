@@ -44,6 +44,8 @@ pub enum Command {
     Cover { every: u32 },
     /// The frames that answer the input's lines over the store, and those that edits push to sessions that follow them.
     Live,
+    /// The same, where edits that stand ready are done together, and pushed once behind that.
+    Host,
     /// The pictures that the input's lines ask for, each of a sum of two series of the store.
     Derive,
 }
@@ -145,6 +147,8 @@ fn single_word(words: &[&str]) -> Result<Command, u64>
         Ok(Command::Retain)
     } else if is_word(words, 0, "live") {
         Ok(Command::Live)
+    } else if is_word(words, 0, "host") {
+        Ok(Command::Host)
     } else if is_word(words, 0, "derive") {
         Ok(Command::Derive)
     } else {

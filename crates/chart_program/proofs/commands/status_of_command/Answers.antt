@@ -9,6 +9,7 @@ use Rattle.chart_program.specs.Commands.{Does}
 use Rattle.chart_program.specs.Course.{course}
 use Rattle.chart_program.specs.Ran.{CommandEnds}
 use Rattle.chart_program.proofs.DerivePage.{of_derive}
+use Rattle.chart_program.proofs.HostPage.{of_host}
 use Rattle.chart_program.proofs.LivePage.{of_live}
 use Rattle.chart_program.proofs.LoadPage.{of_load}
 use Rattle.chart_program.proofs.RetainPage.{of_retain}
@@ -18,6 +19,7 @@ use Rattle.chart_program.proofs.LoadEnds.{load_ends}
 use Rattle.chart_program.proofs.InitEnds.{init_ends}
 use Rattle.chart_program.proofs.StoreShown.{check_ends, demo_ends, export_ends, list_ends}
 use Rattle.chart_program.proofs.RetainEnds.{retain_ends}
+use Rattle.chart_program.proofs.HostEnds.{host_ends}
 use Rattle.chart_program.proofs.LiveEnds.{live_ends}
 use Rattle.chart_program.proofs.DeriveEnds.{derive_ends}
 use Rattle.chart_program.proofs.commands.status_of_command.Goals as goal
@@ -258,9 +260,30 @@ returns-in-Live-clause-ends g c =
     subst S (sym c.status_of-in-Live.ensures.status)
     (subst P (sym c.in-Live.is) (live_ends (view old) (view new) (left old) (left new) (sent old) (sent new) faults end e.ends e.away e.reads e.syncs))
 
+pub returns-in-Host-clause-ends : goal.returns-in-Host-clause-ends
+returns-in-Host-clause-ends g c =
+    let view = g.W.Disk.view in
+    let left = g.W.Streams.left in
+    let sent = g.W.Streams.sent in
+    let reads = g.W.Streams.read_faults in
+    let sends = g.W.Streams.send_faults in
+    let old = c.args.world in
+    let new = c.host-end.result.1 in
+    let end = c.host-end.result.0 in
+    let e = c.host-end.ensures in
+    let faults = faults_of (reads old) (reads new) (sends old) (sends new) in
+    let P : Command → Type 0 = λ command. CommandEnds command (view old) (view new) (left old) (left new) (sent old) (sent new) faults (code_of end) (place_of end) in
+    let S : Status → Type 0 = λ s. CommandEnds c.args.command (view old) (view new) (left old) (left new) (sent old) (sent new) faults s.code s.place in
+    subst S (sym c.status_of-in-Host.ensures.status)
+    (subst P (sym c.in-Host.is) (host_ends (view old) (view new) (left old) (left new) (sent old) (sent new) faults end e.ends e.away e.costs))
+
 pub returns-in-Live-clause-faults : goal.returns-in-Live-clause-faults
 returns-in-Live-clause-faults g c =
     counts_end c.live-end.result.0 c.status_of-in-Live.result (g.W.Disk.view c.args.world) (g.W.Disk.view c.live-end.result.1) c.status_of-in-Live.ensures.status c.live-end.ensures.faults
+
+pub returns-in-Host-clause-faults : goal.returns-in-Host-clause-faults
+returns-in-Host-clause-faults g c =
+    counts_end c.host-end.result.0 c.status_of-in-Host.result (g.W.Disk.view c.args.world) (g.W.Disk.view c.host-end.result.1) c.status_of-in-Host.ensures.status c.host-end.ensures.faults
 
 pub returns-in-Derive-clause-ends : goal.returns-in-Derive-clause-ends
 returns-in-Derive-clause-ends g c =
@@ -390,6 +413,18 @@ returns-in-Live-clause-does g c =
     let e = c.live-end.ensures in
     let did = of_live (view old) (view new) (traffic s.left s.sent s.read_faults s.send_faults old new) end e.ends e.away e.reads e.syncs in
     subst P (sym c.in-Live.is) (end, c.status_of-in-Live.ensures.status, did)
+
+pub returns-in-Host-clause-does : goal.returns-in-Host-clause-does
+returns-in-Host-clause-does g c =
+    let view = g.W.Disk.view in
+    let s = g.W.Streams in
+    let old = c.args.world in
+    let new = c.host-end.result.1 in
+    let P : Command → Type 0 = λ command. Does command (course view s.left s.sent old new) c.status_of-in-Host.result in
+    let end = c.host-end.result.0 in
+    let e = c.host-end.ensures in
+    let did = of_host (view old) (view new) (traffic s.left s.sent s.read_faults s.send_faults old new) end e.ends e.away e.costs in
+    subst P (sym c.in-Host.is) (end, c.status_of-in-Host.ensures.status, did)
 
 pub returns-in-Derive-clause-does : goal.returns-in-Derive-clause-does
 returns-in-Derive-clause-does g c =

@@ -13,7 +13,7 @@ use Rattle.chart_program.proofs.Parsing.{told_good, replies_good, covers_book}
 use Rattle.chart_program.proofs.Codes.{told_both}
 use Rattle.chart_program.proofs.Words.{of_command, with_operands, chart_codes, streams, one_init, one_draw, completes, covers_complete, good_never, wrong_never, wrong_end}
 use Rattle.chart_program.proofs.OneCommand.{by_words}
-use Rattle.program_words.specs.declared.words.Command.TheVariants.{Check, Cover, Demo, Derive, Draw, Export, Init, ListSeries, Live, Load, Plot, Retain, Run, Serve}
+use Rattle.program_words.specs.declared.words.Command.TheVariants.{Check, Cover, Demo, Derive, Draw, Export, Host, Init, ListSeries, Live, Load, Plot, Retain, Run, Serve}
 use Rattle.chart_program.proofs.top.chart.Goals as goal
 
 pub returns-in-Err-NoMemory-clause-codes : goal.returns-in-Err-NoMemory-clause-codes
@@ -682,11 +682,20 @@ returns-in-Err-NoMemory-clause-retain g c = λ own. inl (c.status_of-in-Err-NoMe
 pub returns-in-Ok-clause-live : goal.returns-in-Ok-clause-live
 returns-in-Ok-clause-live g c = λ own. inr (by_words c.in-Ok.command Live _ _ _ c.in-Ok.ensures.command own.1 c.status_of_command.ensures.does)
 
+pub returns-in-Ok-clause-host : goal.returns-in-Ok-clause-host
+returns-in-Ok-clause-host g c = λ own. inr (by_words c.in-Ok.command Host _ _ _ c.in-Ok.ensures.command own.1 c.status_of_command.ensures.does)
+
 pub returns-in-Err-Wrong-clause-live : goal.returns-in-Err-Wrong-clause-live
 returns-in-Err-Wrong-clause-live g c = λ own. absurd (wrong_never c.in-Err-Wrong.place _ Live own.0 own.1 (wrong_end c.in-Err-Wrong.field-0 c.in-Err-Wrong.place _ c.in-Err-Wrong.field-0-is c.in-Err-Wrong.ensures.wrong))
 
+pub returns-in-Err-Wrong-clause-host : goal.returns-in-Err-Wrong-clause-host
+returns-in-Err-Wrong-clause-host g c = λ own. absurd (wrong_never c.in-Err-Wrong.place _ Host own.0 own.1 (wrong_end c.in-Err-Wrong.field-0 c.in-Err-Wrong.place _ c.in-Err-Wrong.field-0-is c.in-Err-Wrong.ensures.wrong))
+
 pub returns-in-Err-NoMemory-clause-live : goal.returns-in-Err-NoMemory-clause-live
 returns-in-Err-NoMemory-clause-live g c = λ own. inl (c.status_of-in-Err-NoMemory.ensures.code, refl)
+
+pub returns-in-Err-NoMemory-clause-host : goal.returns-in-Err-NoMemory-clause-host
+returns-in-Err-NoMemory-clause-host g c = λ own. inl (c.status_of-in-Err-NoMemory.ensures.code, refl)
 
 pub returns-in-Ok-clause-run : goal.returns-in-Ok-clause-run
 returns-in-Ok-clause-run g c = λ own. inr (by_words c.in-Ok.command Run _ _ _ c.in-Ok.ensures.command own.1 c.status_of_command.ensures.does)
