@@ -1,12 +1,12 @@
-// Reads the lines of a CSV file of readings from standard input, and for each 256 of them writes so many blocks to a file with so many
-// syncs between: the writes and syncs of a load, and nothing else of it. usage: load FILE WRITES SYNCS
+// Reads the lines of a CSV file of readings from standard input, and for each so many of them writes so many blocks to a file with so many
+// syncs between: the writes and syncs of a load, and nothing else of it. usage: load FILE READINGS WRITES SYNCS
 #include <fcntl.h>
 #include <stdio.h>
 #include <stdlib.h>
 #include <string.h>
 #include <unistd.h>
 
-enum { BLOCK = 4096, READINGS = 256, BLOCKS = 16384 };
+enum { BLOCK = 4096, KEPT = 256, BLOCKS = 16384 };
 
 static char block[BLOCK];
 static long at = 0;
@@ -21,21 +21,21 @@ static void commit(int file, long writes, long syncs) {
 }
 
 int main(int count, char **words) {
-    if (count != 4) return 2;
+    if (count != 5) return 2;
     int file = open(words[1], O_RDWR);
-    long writes = atol(words[2]), syncs = atol(words[3]), readings = 0;
+    long each = atol(words[2]), writes = atol(words[3]), syncs = atol(words[4]), readings = 0;
     char line[256];
-    if (file < 0) return 1;
+    if (file < 0 || each < 1) return 1;
     while (fgets(line, sizeof line, stdin)) {
         char *comma = strchr(line, ',');
         if (!comma || line[0] > '9') continue;
         long time = atol(line);
         double value = atof(comma + 1);
-        memcpy(block + readings % READINGS * 16, &time, sizeof time);
-        memcpy(block + readings % READINGS * 16 + 8, &value, sizeof value);
-        if (++readings % READINGS == 0) commit(file, writes, syncs);
+        memcpy(block + readings % KEPT * 16, &time, sizeof time);
+        memcpy(block + readings % KEPT * 16 + 8, &value, sizeof value);
+        if (++readings % each == 0) commit(file, writes, syncs);
     }
-    if (readings % READINGS) commit(file, writes, syncs);
+    if (readings % each) commit(file, writes, syncs);
     printf("loaded %ld\n", readings);
     return 0;
 }

@@ -4,10 +4,11 @@ import shutil
 import subprocess
 import tempfile
 
-from measuring import BLOCK, LINE, MEMORY, PROGRAM, ROOT, build_store, counted_calls, least_processor, least_seconds, measure, walk
+from measuring import BLOCK, MEMORY, PROGRAM, ROOT, build_store, counted_calls, least_processor, least_seconds, measure, walk
 
 SYNCS, WRITES = ("fsync", "fdatasync", "msync", "sync_file_range"), ("write", "pwrite64", "pwritev")
 ROWS = {10**5: 2048, 10**6: 16384}  # readings, and the blocks of a store that has room for them
+COMMIT = 4  # syncs of a commit
 ROUNDS = 3
 DELAY = 5000  # microseconds that each sync is made longer by
 SETTING = "pragma journal_mode = wal; pragma synchronous = full; create table points (time integer primary key, value real);"
@@ -53,14 +54,14 @@ def measure_rows(rows):
     build_store(f"empty{rows}.store", ROWS[rows], ["create s 0 1 2"])
     programs = programs_for(given)
     load = programs["load"]
-    commits = -(-rows // LINE)
     clear(rows)
     syncs = counted_calls(load, given, SYNCS)
     clear(rows)
     writes = counted_calls(load, given, WRITES)
     pages = used_blocks("load.store")
     if syncs and writes:
-        programs[BY_C] = ["./load", "load.blocks", str(round(writes / commits)), str(round(syncs / commits))]
+        commits = max(1, syncs // COMMIT)
+        programs[BY_C] = ["./load", "load.blocks", str(-(-rows // commits)), str(round(writes / commits)), str(COMMIT)]
     runs, counts, bytes_taken = {name: [] for name in programs}, {}, {"load": BLOCK * pages}
     for _ in range(ROUNDS):
         for name, words in programs.items():
@@ -75,20 +76,23 @@ def measure_rows(rows):
 
 
 def print_slow(rows):
-    """The seconds in memory, where a sync costs nothing, and there with each sync made longer: one run of each."""
+    """The seconds in memory, where a sync costs nothing, and there with each sync made longer: the least of some rounds in turns."""
     given, folder = f"readings{rows}.csv", os.getcwd()
     slow = ["strace", "--seccomp-bpf", "-f", "-o", "/dev/null", "-e", f"trace={','.join(SYNCS)}", "-e", f"inject={','.join(SYNCS)}:delay_exit={DELAY}"]
-    print(f"{rows} readings, files in memory: seconds of one run where syncs cost nothing, and where each was made {DELAY / 1000:.0f} ms longer")
+    print(f"{rows} readings, files in memory: seconds where syncs cost nothing, and where each was made {DELAY / 1000:.0f} ms longer, the least of {ROUNDS} rounds")
     with tempfile.TemporaryDirectory(dir=MEMORY) as memory:
         for name in given, f"empty{rows}.store":
             subprocess.run(["cp", "--sparse=always", name, memory], check=True)
         os.chdir(memory)
-        for name, words in programs_for(given).items():
-            seconds = []
-            for before in [], slow:
-                clear(rows)
-                seconds.append(measure([*before, *words], given)[0])
-            print(f"{name:18}{seconds[0]:10.2f}{seconds[1]:10.2f}")
+        programs = programs_for(given)
+        taken = {name: ([], []) for name in programs}
+        for _ in range(ROUNDS):
+            for name, words in programs.items():
+                for before, seconds in zip(([], slow), taken[name]):
+                    clear(rows)
+                    seconds.append(measure([*before, *words], given)[0])
+        for name, (quick, delayed) in taken.items():
+            print(f"{name:18}{min(quick):10.2f}{min(delayed):10.2f}")
         os.chdir(folder)
 
 
@@ -99,6 +103,7 @@ def measure_load():
     for rows in ROWS:
         runs, counts, bytes_taken = measure_rows(rows)
         least, processor = least_seconds(runs), least_processor(runs)
+        print(f"{os.path.getsize(f'readings{rows}.csv') / rows:.1f} bytes a row")
         for name in runs:
             taken = f"{bytes_taken[name] / rows:.1f}" if name in bytes_taken else "-"
             ratio = f"{least[name] / least[BY_C]:.2f}" if BY_C in least else "-"

@@ -8,15 +8,14 @@ pub(crate) struct Level {
 }
 
 impl Level {
-    ghost use Rattle.std.specs.Prelude.{◌≡◌, ◌++◌, [], ◌∷◌, OnOk, IsPermutation};
+    ghost use Rattle.std.specs.Prelude.{◌≡◌, ◌++◌, [], ◌∷◌, IfOk, OnOk, IsPermutation};
 
-    /// A level without a key. It takes no memory.
-    pub(crate) fn new(alloc: Global) -> Level
-        ensures { result.keys.items ≡ [] }
+    /// A level without a key, with room for so many.
+    pub(crate) fn new(alloc: Global, room: usize) -> Result<Level, AllocError>
+        ensures { IfOk result (λ level. level.keys.items ≡ []) }
     {
-        Level {
-            keys: Vec::new(alloc),
-        }
+        let keys = Vec::with_capacity(alloc, room)?;
+        Ok(Level { keys })
     }
 
     /// Adds a key behind the others.

@@ -1,4 +1,4 @@
-ghost use Rattle.std.specs.Prelude.{◌≡◌, ◌+◌, ◌-◌, ◌*◌, ◌++◌, [], ◌∷◌, length, IfOk, OnOk, IsPermutation};
+ghost use Rattle.std.specs.Prelude.{◌≡◌, ◌<◌, ◌+◌, ◌-◌, ◌*◌, ◌++◌, [], ◌∷◌, length, IfOk, OnOk, IsPermutation};
 ghost use Rattle.view_keys.specs.Listed.{AreInOrder};
 ghost use Rattle.needed_nodes.specs.Gathering.{AreApart};
 ghost use Rattle.needed_nodes.specs.Ordering.{order_number, AreSmallKeys};
@@ -21,7 +21,7 @@ pub(crate) fn sort_keys(alloc: Global, keys: &mut Vec<(Key, Coef)>) -> Result<()
 {
     let mut levels = by_levels(alloc, keys.as_slice())?;
     sort_levels(&mut levels)?;
-    *keys = all_levels(alloc, levels.as_slice())?;
+    *keys = all_levels(alloc, levels.as_slice(), keys.len())?;
     keys.sort_by_key(|entry| order_number(entry.0))
 }
 
@@ -32,26 +32,48 @@ fn order_number(key: Key) -> u128
     u128::from(255 - key.level) * (1 << 64) + u128::from(key.index)
 }
 
-/// Levels without a key.
-fn empty_levels(alloc: Global) -> Result<Vec<Level>, AllocError>
+/// Levels without a key, each with room for so many.
+fn empty_levels(alloc: Global, rooms: &[usize]) -> Result<Vec<Level>, AllocError>
+    requires { length rooms.now ≡ 256 }
     ensures sized { IfOk result (λ levels. length levels.items ≡ 256) }
     ensures empty { IfOk result (λ levels. joined levels.items ≡ []) }
 {
     let mut levels = Vec::with_capacity(alloc, LEVELS)?;
-    for _ in 0..LEVELS {
-        levels.push(Level::new(alloc))?;
+    for place in 0..LEVELS {
+        let level = Level::new(alloc, rooms[place])?;
+        levels.push(level)?;
     }
     Ok(levels)
 }
 
-/// The keys by levels, from the top level down.
+/// Where the keys of a level stand among the levels.
+fn place_of(key: Key) -> usize
+    ensures { result < 256 }
+{
+    usize::from(255 - key.level)
+}
+
+/// Counts the keys of each level.
+fn count_keys(keys: &[(Key, Coef)], counts: &mut [usize])
+    requires { length counts.old ≡ 256 }
+    ensures { length counts.new ≡ 256 }
+{
+    for at in 0..keys.len() {
+        let place = place_of(keys[at].0);
+        counts[place] = counts[place].wrapping_add(1);
+    }
+}
+
+/// The keys by levels, from the top level down. Room for them is made at once.
 fn by_levels(alloc: Global, keys: &[(Key, Coef)]) -> Result<Vec<Level>, AllocError>
     ensures { IfOk result (λ levels. IsPermutation keys.now (joined levels.items)) }
 {
-    let mut levels = empty_levels(alloc)?;
+    let mut counts = [0; LEVELS];
+    count_keys(keys, &mut counts);
+    let mut levels = empty_levels(alloc, &counts)?;
     for at in 0..keys.len() {
         let entry = keys[at];
-        let place = usize::from(255 - entry.0.level);
+        let place = place_of(entry.0);
         levels[place].add(entry)?;
     }
     Ok(levels)
@@ -67,11 +89,11 @@ fn sort_levels(levels: &mut Vec<Level>) -> Result<(), AllocError>
     Ok(())
 }
 
-/// The keys of one level after another.
-fn all_levels(alloc: Global, levels: &[Level]) -> Result<Vec<(Key, Coef)>, AllocError>
+/// The keys of one level after another. Room for so many is made at once.
+fn all_levels(alloc: Global, levels: &[Level], count: usize) -> Result<Vec<(Key, Coef)>, AllocError>
     ensures { IfOk result (λ keys. keys.items ≡ joined levels.now) }
 {
-    let mut keys = Vec::new(alloc);
+    let mut keys = Vec::with_capacity(alloc, count)?;
     for at in 0..levels.len() {
         keys.extend_from_slice(levels[at].keys.as_slice())?;
     }

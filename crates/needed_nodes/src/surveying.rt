@@ -22,6 +22,9 @@ use om3_coeff::{Coef, Coefs, Key, Nodes, top_key};
 use std::alloc::Global;
 use view_keys::laws::wanted_keys_are_needed;
 
+/// So many keys of each column have room before the list of keys grows. Most views need fewer.
+const KEYS_A_COLUMN: usize = 16;
+
 /// What a view over a range of values needs of a series: the keys with their coefficients, from the
 /// top level down and from left to right, and the rows that it draws.
 #[derive(Drop)]
@@ -178,13 +181,13 @@ fn explore<N: Nodes>(
     ensures quiet_err { IfErr result (λ e. e ≢ ScanOf.Node DiskFault → (N.view nodes.new).faults ≡ (N.view nodes.old).faults) }
 {
     wanted_keys_are_needed();
-    let mut keys = Vec::new(alloc);
     let Some(window) = Window::of(axis, grid, lo, hi) else {
         return Ok(Explored {
-            keys,
+            keys: Vec::new(alloc),
             rows: Vec::new(alloc),
         });
     };
+    let mut keys = Vec::with_capacity(alloc, KEYS_A_COLUMN * usize::from(grid.w()))?;
     let mut table = empty_table(alloc, grid.w())?;
     let rows = explore_window(alloc, nodes, &window, &mut table, &mut keys)?;
     Ok(Explored { keys, rows })

@@ -12,8 +12,8 @@ loop-at-preserved c =
     let d : Key × Coef = (record { level = 0; index = 0 }, record { left = false; right = false; dmin = pos 0; dmax = pos 0 }) in
     let e : Key × Coef = get_or c.args.keys.now loop.at d in
     record {
-      sized = length-set loop.levels.items c.from-place.result c.add.new.self ∙ loop.invariant.sized;
-      moved = levels_more c.args.keys.now loop.levels.items loop.at c.from-place.result d c.index_mut.result.now c.add.new.self (omega (arith, c.loop-at-test.true))
-          (omega (arith, c.from-place.ensures, loop.invariant.sized))
+      sized = length-set loop.levels.items c.place_of-place.result c.add.new.self ∙ loop.invariant.sized;
+      moved = levels_more c.args.keys.now loop.levels.items loop.at c.place_of-place.result d c.index_mut.result.now c.add.new.self (omega (arith, c.loop-at-test.true))
+          (omega (arith, c.place_of-place.ensures, loop.invariant.sized))
           (c.in_ok-add.ensures ∙ ap (λ (x : Level). x.keys.items ++ e ∷ []) c.index_mut.ensures.value) loop.invariant.moved;
     }

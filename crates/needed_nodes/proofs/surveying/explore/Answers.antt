@@ -8,7 +8,7 @@ use Rattle.needed_nodes.proofs.surveying.explore.Goals as goal
 
 pub returns-in_default-clause-found : goal.returns-in_default-clause-found
 returns-in_default-clause-found g c =
-    explores_nothing (g.N.Nodes.view c.args.nodes.now) c.args.axis c.args.grid c.args.lo c.args.hi _ _ c.requires.slots c.new-keys.ensures.items c.new.ensures.items c.in_default.ensures.none
+    explores_nothing (g.N.Nodes.view c.args.nodes.now) c.args.axis c.args.grid c.args.lo c.args.hi _ _ c.requires.slots c.new.ensures.items c.new-in_default.ensures.items c.in_default.ensures.none
 
 pub explore_window-requires-clause-slots : goal.explore_window-requires-clause-slots
 explore_window-requires-clause-slots g c =
@@ -16,7 +16,7 @@ explore_window-requires-clause-slots g c =
 
 pub explore_window-requires-clause-sized : goal.explore_window-requires-clause-sized
 explore_window-requires-clause-sized g c =
-    ap length c.deref_mut.ensures.value ∙ c.in_ok-table.ensures.sized ∙ c.w.ensures.value ∙ ap (λ g. g.w) (sym c.in-Some.ensures.grid)
+    ap length c.deref_mut.ensures.value ∙ c.in_ok-table.ensures.sized ∙ c.w-2.ensures.value ∙ ap (λ g. g.w) (sym c.in-Some.ensures.grid)
 
 pub explore_window-requires-clause-empty : goal.explore_window-requires-clause-empty
 explore_window-requires-clause-empty g c =
@@ -39,7 +39,7 @@ returns-clause-reads g c =
 pub returns-clause-found : goal.returns-clause-found
 returns-clause-found g c =
     explores_as c.wanted_keys_are_needed.ensures.same (g.N.Nodes.view c.args.nodes.now) c.in-Some.window c.args.axis c.args.grid c.args.lo c.args.hi _ _ c.in_ok-rows.rows.items c.in-Some.ensures.axis c.in-Some.ensures.grid (c.in-Some.ensures.lo ∙ to_z-of_z w64 c.args.lo (search rules)) (c.in-Some.ensures.hi ∙ to_z-of_z w64 c.args.hi (search rules)) c.requires.slots
-    c.new-keys.ensures.items c.in_ok-rows.ensures.found
+    c.in_ok-keys.ensures.items c.in_ok-rows.ensures.found
 
 pub of-requires : goal.of-requires
 of-requires g c = grind arith
