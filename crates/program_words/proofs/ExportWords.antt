@@ -11,7 +11,7 @@ use Rattle.whole_number.specs.Range.{IsTime}
 use Rattle.whole_number.specs.Spelling.{SpellsInteger}
 use Rattle.whole_number.specs.declared.limits.TheConstants.{GREATEST_TIME}
 use Rattle.program_words.specs.declared.words.Command.{Command}
-use Rattle.program_words.specs.declared.words.Command.TheVariants.{Plot, Load, Demo, Run, Serve, Draw, Init, Check, ListSeries, Export, Retain, Cover, Live, Host, Derive}
+use Rattle.program_words.specs.declared.words.Command.TheVariants.{Export}
 use Rattle.program_words.specs.declared.words.WordsEnd.{WordsEnd}
 use Rattle.program_words.specs.declared.words.WordsEnd.TheVariants.{Wrong, NoMemory}
 use Rattle.program_words.specs.Words.{Spells, Begins, IsWrongAt, IsWrongBy, IsWindowIfAny, HasNoName, window_words}
