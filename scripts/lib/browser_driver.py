@@ -58,6 +58,8 @@ class Browser:
         return [one[ELEMENT] for one in self.send("/elements", {"using": "css selector", "value": selector})]
 
     def click(self, selector):
+        # Past the axis of times too, which covers what is at the lower edge.
+        self.run("document.querySelector(arguments[0])?.scrollIntoView({ block: 'nearest' })", selector)
         self.send(f"/element/{self.element(selector)}/click", {})
 
     def type(self, selector, text, ends=KEYS["enter"]):

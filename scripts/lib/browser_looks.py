@@ -145,6 +145,31 @@ def see_axes(page):
     page.do(lambda: page.browser.choose("#grid", ""))
 
 
+# The texts beside the charts and below them that pass the panel's edge or the page's, and the left edges of charts and axis.
+READ_EDGES = """
+const box = (it) => it.getBoundingClientRect();
+const values = [...document.querySelectorAll(".values span")].filter((it) => box(it).left < box(it.closest(".panel")).left);
+const times = [...document.querySelectorAll("#times span")].filter((it) => box(it).right > box(document.getElementById("panels")).right);
+const lefts = [...document.querySelectorAll(".plot, #times")].map((it) => box(it).left);
+return [[...values, ...times].map((it) => it.textContent), [...new Set(lefts)], box(document.getElementById("axis")).bottom, innerHeight];
+"""
+
+
+def fit_texts(page):
+    """Long values have room beside the charts, times don't pass the edge, and the axis stays in sight; on a narrow page too."""
+    for width in (1160, 360):
+        page.browser.size(width, 760)
+        # (the window ends at a tick)
+        for query in ("panel=sea&range=-123456789..987654321", "panel=sea&panel=tide&panel=wind&panel=sea+tide+wind"):
+            page.open(f"{query}&panel=tide&from={START}&to={START + 86401}&zone=utc")
+            texts, lefts, bottom, height = page.browser.run(READ_EDGES)
+            require(not texts, f"on {width} pixels {texts} pass the edge")
+            require(len(lefts) == 1, f"on {width} pixels the charts and the axis begin at {lefts}")
+            require(bottom <= height, f"on {width} by {height} pixels the axis ends at {bottom}")
+            page.compare()
+    page.browser.size(1160, 760)
+
+
 def column_values(column, width, window=WHOLE):
     """What the readings of `sea` have in a column."""
     t0, t1 = window
@@ -353,6 +378,6 @@ def name_parts(page):
 
 
 STEPS = (
-    list_series, choose_several, arrange_panels, fix_range, share_a_link, name_client, see_axes, see_crosshair, drag_zoom, pan, turn_wheel, go_back,
-    name_window, type_filter, resize, darken, go_by_keys, name_nothing, name_parts,
+    list_series, choose_several, arrange_panels, fix_range, share_a_link, name_client, see_axes, fit_texts, see_crosshair, drag_zoom, pan, turn_wheel,
+    go_back, name_window, type_filter, resize, darken, go_by_keys, name_nothing, name_parts,
 )  # fmt: skip

@@ -32,6 +32,7 @@ class Page {
     this.alarms = new Alarms(this);
     this.line = new Line(this);
     this.query = location.search; // names what is asked for
+    this.digits = 0; // for so many there is room beside the charts
     this.look = { unit: "numbers", zone: "", grid: true, painted: "", spelled: String };
     this.wanted = null; // the panels that are to be drawn next, while others are being drawn
     this.isDrawing = false;
@@ -105,7 +106,7 @@ class Page {
     const shown = asked.panels.map(({ names }) => names.map((name) => this.catalog.shown(name)));
     const key = JSON.stringify([shown, asked.panels.map(({ names, filter, range }) => [names, filter, range])]);
     if (key !== this.made) {
-      this.made = key;
+      [this.made, this.digits] = [key, 0];
       this.panels = asked.panels.map((spec, number) => new Panel(spec, shown[number], number, this.doing(number)));
       this.panels.forEach((panel) => listenOver(panel, this));
       keepFocus(() => part("panels").replaceChildren(...this.panels.map(({ element }) => element)));
@@ -222,6 +223,7 @@ class Page {
       const drawAxis = this.makeAxis(window); // while the answers are on their way
       await drawn;
       drawAxis();
+      this.makeRoom();
       this.crosshair.show();
       this.tellDrawn(began);
     }
@@ -251,14 +253,27 @@ class Page {
 
   /** Makes the axis of a window; gives what puts it there. */
   makeAxis(window) {
-    const placed = placedTimes(window, this.panels[0].size().w, this.look);
+    const { w } = this.panels[0].size();
+    const placed = placedTimes(window, w, this.look);
     const lines = this.look.grid ? placed : [];
-    const puts = [makeTimes(part("times"), placed), ...this.panels.map((panel) => panel.makeTimeLines(lines))];
+    const puts = [makeTimes(part("times"), placed, w), ...this.panels.map((panel) => panel.makeTimeLines(lines))];
     const ends = [window.t0, window.t1].map((time) => this.look.spelled(time));
     return () => {
       puts.forEach((put) => put());
       ["t0", "t1"].forEach((id, at) => tell(part(id), ends[at]));
     };
+  }
+
+  /** Makes room beside the charts for their longest value; not less than there was for these panels. Narrower charts are drawn anew. */
+  makeRoom() {
+    this.digits = Math.max(this.digits, ...this.panels.map(({ digits }) => digits));
+    const { style } = document.documentElement;
+    if (style.getPropertyValue("--digits") !== String(this.digits)) {
+      style.setProperty("--digits", this.digits);
+      if (this.isResized()) {
+        this.draw();
+      }
+    }
   }
 
   /** Says in words what is shown, and how many bytes came. */

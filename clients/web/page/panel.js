@@ -37,7 +37,7 @@ class Trace {
 export class Panel {
   /** `shown` has what its series are called, and `does` what the panel's buttons do: remove(), drop(place), up(), down(), change(words). */
   constructor(spec, shown, number, does) {
-    Object.assign(this, { spec, shown, number, does, range: null, window: null });
+    Object.assign(this, { spec, shown, number, does, range: null, window: null, digits: 0 });
     const { names } = spec;
     const isTop = (place) => names.length > 1 && place === names.length - 1;
     this.traces = names.map((name, place) => new Trace(name, shown[place], place, isTop(place), () => does.drop(place)));
@@ -115,7 +115,7 @@ export class Panel {
     this.traces.forEach((trace, place) => trace.show(answers[place].picture, look.painted));
     this.covered.hidden = true;
     tell(this.fault, "");
-    drawValues({ labels: this.labels, lines: this.lines.values }, range, this.h, look.grid);
+    this.digits = drawValues({ labels: this.labels, lines: this.lines.values }, range, this.h, look.grid);
     const values = range ? `values from ${decimal(range.lo, range.scale)} to ${decimal(range.hi, range.scale)}` : "no value to show";
     this.plot.setAttribute("aria-label", `${this.shown.join(" and ")} from ${look.spelled(window.t0)} to ${look.spelled(window.t1)}: ${values}`);
     const { dataset } = this.plot;
