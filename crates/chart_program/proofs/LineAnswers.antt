@@ -25,7 +25,9 @@ use Rattle.chart_program.proofs.Telling.{OneFrame, screen_accepts}
 
 module _ {V : Type 0} (gives : Gives V) (v w : V) (sessions : List Session) (before now : Option (List ℕ)) where
   each_of : (lines : List (Option (List ℕ))) (b : ℕ → Bool)
-      → GivesFrames (MakesText gives) lines v w (λ n. is_open n sessions) b before now → (input : List ℕ) → lines ≡ told input → ShowsEach gives v w sessions input before now
+      → GivesFrames (MakesText gives) lines v w (λ n. is_open n sessions) b before now → (input : List ℕ)
+      → lines ≡ told input
+      → ShowsEach gives v w sessions input before now
   each_of lines b g input are =
       let P : List (Option (List ℕ)) → Type 0 = λ l. MayAnswerAll l g.frames in
       record {
@@ -105,8 +107,9 @@ told_in IsSent left before now (Ok done) each = each
 told_in IsSent left before now (Err end) each = tt
 
 -- of a world whose store was opened first: that took nothing and sent nothing
-pub told_opened : {T : Type 0} (IsSent : IsSentOf) (left left' before before' now : Option (List ℕ)) (r : Result T RunEnd)
-    (s : Result T LinesEnd) → left ≡ left' → before ≡ before' → s ≡ in_world r → AnswersTold IsSent left before now r
+pub told_opened : {T : Type 0} (IsSent : IsSentOf) (left left' before before' now : Option (List ℕ))
+    (r : Result T RunEnd) (s : Result T LinesEnd) → left ≡ left' → before ≡ before' → s ≡ in_world r
+    → AnswersTold IsSent left before now r
     → AnswersTold IsSent left' before' now s
 told_opened {T} IsSent left left' before before' now r s same_left same_sent is each =
     let L : Option (List ℕ) → Type 0 = λ l. AnswersTold IsSent l before now r in

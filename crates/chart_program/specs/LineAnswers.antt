@@ -25,16 +25,16 @@ IsSentOf = List Frame → List ℕ → Type 0
 abbrev pub AreSpellings : IsSentOf
 AreSpellings frames bytes = bytes ≡ flat_map spelling frames
 
--- The texts of the frames, each with its picture, as a client draws it that held nothing at first and accepts each of them
--- in order.
+-- The texts of the frames, each with its picture, as a client draws it that held nothing at first and accepts each
+-- of them in order.
 pub record AreDrawnTexts (frames : List Frame) (bytes : List ℕ) : Type 0 where
   pub drawings : List (Option Canvas)
   pub held : List Holding
   pub accepted : AcceptsAll [] frames drawings held
   pub texts : bytes ≡ texts_of frames drawings
 
--- As many frames as the input has lines that aren't empty answered them in order, and what was sent is of these frames. Each
--- may answer its line, by its kind and in the session that the line names, and names sessions that the frames before it
+-- As many frames as the input has lines that aren't empty answered them in order, and what was sent is of these frames.
+-- Each may answer its line, by its kind and in the session that the line names, and names sessions that those before it
 -- opened.
 pub record AnswersEach (IsSent : IsSentOf) (input : List ℕ) (before now : Option (List ℕ)) : Type 0 where
   pub frames : List Frame
@@ -55,8 +55,8 @@ abbrev pub NoneIsPassed : IsSentOf → Course → End → Type 0
 NoneIsPassed IsSent c Done = OfInput c (λ input. AnswersEach IsSent input c.sent c.sent_now)
 NoneIsPassed IsSent c end = ⊤
 
--- As many frames as there are lines were given to `show` one behind the other, and the texts of what they showed were sent:
--- each frame may answer its line, and names sessions that are open by those before it.
+-- As many frames as there are lines were given to `show` one behind the other, and the texts of what they showed were
+-- sent: each frame may answer its line, and names sessions that are open by those before it.
 pub record ShowsEach {V : Type 0} (gives : Gives V) (old new : V) (sessions : List Session) (input : List ℕ)
     (before now : Option (List ℕ)) : Type 0 where
   pub frames : List Frame
