@@ -19,7 +19,7 @@ use Rattle.hosted_lines.specs.Hosts.{Counted, Event, Happens, HappensFor, InRow,
 use Rattle.hosted_lines.specs.Lives.{LivesBy, spelled}
 use Rattle.hosted_lines.proofs.EventLemmas.{length_more, sent_then}
 use Rattle.hosted_lines.proofs.FaultLemmas.{told_any}
-use Rattle.hosted_lines.proofs.RowLemmas.{lines_joined, lines_of_live, of_live, row_of_live, row_of_reads, row_plain, row_then}
+use Rattle.hosted_lines.proofs.RowLemmas.{ArePassed, lines_joined, lines_of_live, of_live, row_of_live, row_of_reads, row_plain, row_then}
 
 abbrev pub counted_at : LiveState → ℕ → ℕ → Counted
 counted_at live reads syncs = record { live = live; reads = reads; syncs = syncs }
@@ -29,19 +29,23 @@ begun_none lines at = record { events = []; rest = lines; split = refl; happened
 
 -- ---- what a live service does of a line
 
-module _ (lines : List (Option (List ℕ))) (old : LiveState) where
+module _ (lines : List (Option (List ℕ))) (passed : ArePassed lines) (old : LiveState) where
+  passed_first : (first all : List (Option (List ℕ))) → AreFirst lines first → all ≡ first → ArePassed all
+  passed_first first all (inl none) is = subst ArePassed (sym (is ∙ none)) tt
+  passed_first first all (inr same) is = subst ArePassed (sym (is ∙ same)) passed
+
   begun_live : (first : List (Option (List ℕ))) (frames : List Frame) (new : LiveState) → AreFirst lines first → LivesBy first frames old new → Begun lines frames old new
   begun_live first frames new (inl none) lives = record {
     events = of_live lives.events;
     rest = lines;
     split = ap (λ l. l ++ lines) (sym (lines_of_live lives.events ∙ lives.lines_are ∙ none));
-    happened = row_of_live old new lives.events frames lives.lived;
+    happened = row_of_live old new lives.events frames (passed_first first (live_lines lives.events) (inl none) lives.lines_are) lives.lived;
   }
   begun_live first frames new (inr all) lives = record {
     events = of_live lives.events;
     rest = [];
     split = sym (append-nil lines) ∙ ap (λ l. l ++ []) (sym (lines_of_live lives.events ∙ lives.lines_are ∙ all));
-    happened = row_of_live old new lives.events frames lives.lived;
+    happened = row_of_live old new lives.events frames (passed_first first (live_lines lives.events) (inr all) lives.lines_are) lives.lived;
   }
 
   live_done : (total : ℕ) (image : Image) (held : Held) (from to syncs syncs' : ℕ) (before now : Option (List ℕ)) → syncs' ≡ syncs → LinesDone lines total old image held from to before now → HostDone lines total (counted_at old from syncs) image held to syncs' before now
@@ -54,7 +58,7 @@ module _ (lines : List (Option (List ℕ))) (old : LiveState) where
         sound = d.sound;
         events = of_live d.reads.events;
         lines_are = lines_of_live d.reads.events ∙ d.reads.lines_are;
-        happened = subst N (sym same) (row_of_reads syncs old (held_with total d.book held) d.reads.events d.frames from to d.reads.reads);
+        happened = subst N (sym same) (row_of_reads syncs old (held_with total d.book held) d.reads.events d.frames from to (passed_first lines (live_lines d.reads.events) (inr refl) d.reads.lines_are) d.reads.reads);
         sent = d.sent;
       }
 
@@ -98,7 +102,7 @@ module _ (lines : List (Option (List ℕ))) (old : LiveState) where
 
   live_cost : (from to syncs syncs' : ℕ) → syncs' ≡ syncs → LinesRead lines old from to → HostCost lines (counted_at old from syncs) to syncs'
   live_cost from to syncs syncs' same r =
-      let row = row_of_reads syncs old r.state r.answered.events r.frames from r.count r.answered.reads in
+      let row = row_of_reads syncs old r.state r.answered.events r.frames from r.count (passed_first r.first (live_lines r.answered.events) r.are_first r.answered.lines_are) r.answered.reads in
       elim r.are_first [
         | inl none ↦ record {
           events = of_live r.answered.events;
@@ -132,24 +136,24 @@ module _ (lines : List (Option (List ℕ))) (old : LiveState) where
         }
       ]
 
-live_moments : (lines : List (Option (List ℕ))) (total : ℕ) (old : LiveState) (view view' : View) (before : Option (List ℕ)) → IfSome before (λ bytes. Through view view' (LinesMoment lines total old (sent_now view))) → IfSome before (λ bytes. Through view view' (HostMoment lines total old (sent_now view)))
-live_moments lines total old view view' None m = tt
-live_moments lines total old view view' (Some bytes) m =
-    through_so view view' (LinesMoment lines total old (sent_now view)) (HostMoment lines total old (sent_now view)) (λ image count one. live_moment lines old total (sent_now view) image count one) m
+live_moments : (lines : List (Option (List ℕ))) → ArePassed lines → (total : ℕ) (old : LiveState) (view view' : View) (before : Option (List ℕ)) → IfSome before (λ bytes. Through view view' (LinesMoment lines total old (sent_now view))) → IfSome before (λ bytes. Through view view' (HostMoment lines total old (sent_now view)))
+live_moments lines passed total old view view' None m = tt
+live_moments lines passed total old view view' (Some bytes) m =
+    through_so view view' (LinesMoment lines total old (sent_now view)) (HostMoment lines total old (sent_now view)) (λ image count one. live_moment lines passed old total (sent_now view) image count one) m
 
 -- a call that syncs nothing
-pub live_does : {T : Type 0} (lines : List (Option (List ℕ))) (total : ℕ) (old : LiveState) (result : Result T End) (view view' : View) (held : Held) (before now : Option (List ℕ)) → view'.syncs ≡ view.syncs → DoesLines lines total old result view view' held before now → DoesHost lines total old result view view' held before now
-live_does {T} lines total old (Ok v) view view' held before now same d = record {
-  done = live_done lines old total view'.image held view.reads view'.reads view.syncs view'.syncs before now same d.done;
+pub live_does : {T : Type 0} (lines : List (Option (List ℕ))) → ArePassed lines → (total : ℕ) (old : LiveState) (result : Result T End) (view view' : View) (held : Held) (before now : Option (List ℕ)) → view'.syncs ≡ view.syncs → DoesLines lines total old result view view' held before now → DoesHost lines total old result view view' held before now
+live_does {T} lines passed total old (Ok v) view view' held before now same d = record {
+  done = live_done lines passed old total view'.image held view.reads view'.reads view.syncs view'.syncs before now same d.done;
   stops = tt;
-  moments = live_moments lines total old view view' before d.moments;
-  cost = live_cost lines old view.reads view'.reads view.syncs view'.syncs same d.reads;
+  moments = live_moments lines passed total old view view' before d.moments;
+  cost = live_cost lines passed old view.reads view'.reads view.syncs view'.syncs same d.reads;
 }
-live_does {T} lines total old (Err end) view view' held before now same d = record {
+live_does {T} lines passed total old (Err end) view view' held before now same d = record {
   done = tt;
-  stops = live_stop lines old total view'.image before now end d.stops;
-  moments = live_moments lines total old view view' before d.moments;
-  cost = live_cost lines old view.reads view'.reads view.syncs view'.syncs same d.reads;
+  stops = live_stop lines passed old total view'.image before now end d.stops;
+  moments = live_moments lines passed total old view view' before d.moments;
+  cost = live_cost lines passed old view.reads view'.reads view.syncs view'.syncs same d.reads;
 }
 
 -- ---- one call behind another
