@@ -5,7 +5,9 @@ pub mod LineLemmas
 pub mod RowLemmas
 pub mod HostLemmas
 pub mod SpelledLemmas
+pub mod MadeLemmas
 pub mod GroupLemmas
+pub mod ReportLemmas
 pub mod WorkLemmas
 pub mod TurnLemmas
 pub mod FrontLemmas

@@ -4,6 +4,8 @@ pub mod Shown
 pub mod Doing
 pub mod GoesLaws
 pub mod Hosts
+pub mod Reporting
+pub mod HostCauses
 pub mod Hosting
 pub mod Working
 pub mod WorkLaws
