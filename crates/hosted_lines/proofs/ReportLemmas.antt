@@ -1,5 +1,5 @@
 -- What a line asks of the host alone is reported, and the frame is sent.
-use Rattle.std.proofs.Common.{◌≡◌, ◌∙◌, ℕ, ◌+◌, ◌≤◌, List, [], ◌∷◌, length, Option, Some, Result, Ok, Err, refl, ap, sym, subst, inl, inr, arith}
+use Rattle.std.proofs.Common.{◌≡◌, ◌≢◌, ◌∙◌, ℕ, ℤ, ◌+◌, ◌≤◌, List, [], ◌∷◌, length, Option, Some, Result, Ok, Err, refl, ap, sym, subst, inl, inr, arith}
 use Rattle.std.specs.Prelude.{OnOk, IfErr}
 use Rattle.block_disk.specs.Streams.{sent_after}
 use Rattle.block_disk.specs.View.{Image, View, DiskKept, Now, Only, Passes, sent_now}
@@ -13,21 +13,62 @@ use Rattle.chart_service.specs.Stepping.{IsOutside, state_of}
 use Rattle.chart_service.specs.declared.failure.ServiceError.{ServiceError}
 use Rattle.chart_service.specs.declared.failure.ServiceError.TheVariants as step
 use Rattle.gate_pages.specs.Pages.{Quiet}
+use Rattle.derive_command.specs.declared.request.Request.{Request}
 use Rattle.host_lines.specs.Grammar.{host_line}
-use Rattle.host_replies.specs.Replies.{ReadsReport, Reported}
+use Rattle.host_lines.specs.declared.asked.HostLine.{HostLine}
+use Rattle.host_lines.specs.declared.asked.HostLine.TheVariants.{List as ListLine, Values, Sum, Sweep, Bad, Other}
+use Rattle.host_replies.specs.Replies.{IsPageCause, IsReportCause, ReadsReport, Reported}
 use Rattle.live_service.specs.LiveReplies.{LiveState}
 use Rattle.run_ends.specs.declared.ending.End.{End}
+use Rattle.run_ends.specs.declared.ending.End.TheVariants.{InputTooLong}
+use Rattle.series_pair.specs.Damage.{IsBadForChart}
 use Rattle.series_book.specs.declared.one_series.Series.{Series}
+use Rattle.stored_book.specs.Damage.{IsBadForRequest}
 use Rattle.stored_book.specs.Standing.{StandsForBook}
-use Rattle.hosted_lines.specs.Doing.{FrameStops, Held, held_with, step_end}
+use Rattle.hosted_lines.specs.Doing.{FrameStops, Held, Side, held_with, step_end}
+use Rattle.hosted_lines.specs.HostCauses.{IsHostCause}
 use Rattle.hosted_lines.specs.Hosting.{DoesHost, FramesStop, HostMoment, HostStop}
 use Rattle.hosted_lines.specs.Hosts.{Costs, Reports, report}
 use Rattle.hosted_lines.specs.Lives.{spelled}
+use Rattle.hosted_lines.specs.Working.{CausesEnd}
 use Rattle.hosted_lines.proofs.EventLemmas.{length_one, spelled_one}
 use Rattle.hosted_lines.proofs.FaultLemmas.{told_any}
 use Rattle.hosted_lines.proofs.HostLemmas.{begun_none}
 use Rattle.hosted_lines.proofs.MadeLemmas.{made_failed, made_sends}
 use Rattle.hosted_lines.proofs.SendLemmas.{first_stops}
+
+-- ---- why it isn't made
+
+bad_in_chart : (count : ℕ) (image : Image) (page : ℕ) → IsBadForChart count image page → IsBadForRequest count image page
+bad_in_chart count image page bad = record { numbers = bad.numbers; keeps = bad.keeps; so = (bad.so.0, inl bad.so.1) }
+
+values_cause : (name : List ℕ) (t0 t1 : ℤ) (error : ServiceError) (old new : Side) → IsPageCause error (Values name t0 t1) new.told old.view new.view → IsHostCause (step_end error) old new
+values_cause name t0 t1 step.DiskFault old new is = is
+values_cause name t0 t1 (step.Damaged page) old new is = (is.0, λ told. inr (name, is.1 told))
+values_cause name t0 t1 step.NoMemory old new is = tt
+
+sum_cause : (session : ℕ) (request : Request) (error : ServiceError) (old new : Side) → IsPageCause error (Sum session request) new.told old.view new.view → IsHostCause (step_end error) old new
+sum_cause session request step.DiskFault old new is = is
+sum_cause session request (step.Damaged page) old new is = (is.0, λ told. inl (bad_in_chart new.view.size new.view.image page (is.1 told)))
+sum_cause session request step.NoMemory old new is = tt
+
+pub report_cause : (asked : HostLine) (error : ServiceError) (old new : Side) → IsReportCause asked error new.told old.view new.view → IsHostCause (step_end error) old new
+report_cause ListLine error old new is = let P : ServiceError → Type 0 = λ e. IsHostCause (step_end e) old new in subst P (sym is) tt
+report_cause (Values name t0 t1) error old new is = values_cause name t0 t1 error old new is
+report_cause (Sum session request) error old new is = sum_cause session request error old new is
+report_cause (Sweep rule) error old new is = absurd is
+report_cause (Bad at) error old new is = absurd is
+report_cause Other error old new is = absurd is
+
+pub unmade_cause : (asked : HostLine) (error : ServiceError) (end : End) (old new : Side) → end ≡ step_end error → new.view.fit → IsReportCause asked error new.told old.view new.view → CausesEnd end old new
+unmade_cause asked error end old new is fit cause =
+    let P : End → Type 0 = λ e. CausesEnd e old new in
+    subst P (sym is) (record { cause = report_cause asked error old new cause; within = short error; sound = λ other. fit })
+  where
+    short : (e : ServiceError) → step_end e ≢ InputTooLong
+    short step.DiskFault = λ same. cc
+    short (step.Damaged page) = λ same. cc
+    short step.NoMemory = λ same. cc
 
 -- ---- one frame is sent
 

@@ -3,6 +3,7 @@ use Rattle.std.proofs.Common.{◌≡◌, ◌∙◌, ℕ, List, [], ◌∷◌, �
 use Rattle.std.specs.Prelude.{⊤}
 use Rattle.std.proofs.lemmas.List.{append-nil}
 use Rattle.chart_frames.specs.declared.frame.Frame.{Frame}
+use Rattle.chart_service.specs.Serving.{unless_empty}
 use Rattle.live_service.specs.LiveReplies.{LiveState}
 use Rattle.hosted_lines.specs.Hosts.{Counted, Event, Happens, HappensFor, InRow, IsPassed, answer, group, lines_in, push, report}
 use Rattle.hosted_lines.specs.Lives.{Event as LiveEvent, Lives, answer as answered, lines_in as live_lines, push as pushed}
@@ -54,6 +55,10 @@ lines_joined (push ∷ events) later = lines_joined events later
 abbrev pub ArePassed : List (Option (List ℕ)) → Type 0
 ArePassed [] = ⊤
 ArePassed (line ∷ later) = IsPassed line × ArePassed later
+
+pub passed_line : (line : List ℕ) → IsPassed (Some line) → ArePassed (unless_empty (Some line))
+passed_line [] passed = tt
+passed_line (byte ∷ bytes) passed = (passed, tt)
 
 abbrev pub of_live : List LiveEvent → List Event
 of_live [] = []

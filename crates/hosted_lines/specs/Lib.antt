@@ -2,10 +2,10 @@ pub mod Lives
 pub mod Reads
 pub mod Shown
 pub mod Doing
+pub mod HostCauses
 pub mod GoesLaws
 pub mod Hosts
 pub mod Reporting
-pub mod HostCauses
 pub mod Hosting
 pub mod Working
 pub mod WorkLaws
