@@ -12,7 +12,7 @@ use Rattle.chart_service.specs.Serving.{told}
 use Rattle.chart_service.specs.State.{IsSound, State}
 use Rattle.drawn_replies.specs.Mirrors.{DrawsTheBook, Mirrors, OnlyLacksMemory}
 use Rattle.drawn_replies.specs.Pictures.{AcceptsAll, NoneRejected}
-use Rattle.hosted_lines.specs.Hosts.{Event, Happens, InRow, answer, group, lines_in, push}
+use Rattle.hosted_lines.specs.Hosts.{Event, Happens, InRow, answer, group, lines_in, push, report}
 use Rattle.hosted_lines.specs.Running.{HostedBy}
 use Rattle.hosted_lines.proofs.SpelledLemmas.{sound_edits}
 use Rattle.live_command.specs.Drawn.{IsFirst}
@@ -24,11 +24,14 @@ use Rattle.request_lines.specs.declared.requests.Request.TheVariants.{Edit as Ed
 use Rattle.series_book.specs.Edits.{Edited, apply}
 use Rattle.series_book.specs.declared.edits.Edit.{Edit}
 use Rattle.series_book.specs.declared.refusals.Refusal.{Refusal}
+use Rattle.host_lines.specs.Grammar.{host_line}
 use Rattle.host_command.specs.Drawn.{ArePictured, PicturesLines}
+use Rattle.host_command.proofs.ReportDrawing.{Orders, report_drawn}
 
 pub record Requests : Type 0 where
   pub draws : (request : Request) (frame : Frame) (old new : State) (holdings : List Holding) → IsSound old → Replies request frame old new → Mirrors old.sessions holdings → DrawsTheBook frame old new holdings
   pub accepts : (request : Request) (frame : Frame) (old new : State) (holdings : List Holding) → IsSound old → Replies request frame old new → Mirrors old.sessions holdings → OnlyLacksMemory frame holdings
+  pub order : Orders
 
 pub record Groups : Type 0 where
   pub well : (edits : List Edit) (frames : List Frame) (old new : LiveState) → FollowsWell old → GroupReplied edits frames old new → FollowsWell new
@@ -121,6 +124,38 @@ follows law laws f g (answer line ∷ events) frames drawings old new holdings n
           },
           later.1,
         )
+follows law laws f g (report line ∷ events) frames drawings old new holdings now short sound well row m a =
+    let one = row.happens in
+    let frame = one.frame in
+    let A : List Frame → Type 0 = λ l. AcceptsAll holdings l drawings now in
+    let S : LiveState → Type 0 = λ s. IsSound s.state in
+    let W : LiveState → Type 0 = λ s. FollowsWell s in
+    let all : AcceptsAll holdings (frame ∷ row.more) drawings now = subst A (row.frames_are ∙ ap (λ l. l ++ row.more) one.frames_are) a in
+    by drawings all (λ ds h mirrors accepted. follows law laws f g events row.more ds row.between new h now short.1 (subst S (sym one.same) sound) (subst W (sym one.same) well) row.later mirrors accepted)
+  where
+    by : (ds : List (Option Canvas)) → AcceptsAll holdings (row.happens.frame ∷ row.more) ds now
+        → ((rest : List (Option Canvas)) (h : List Holding) → Mirrors row.between.state.sessions h → AcceptsAll h row.more rest now → ArePictured row.between events row.more rest new × Mirrors new.state.sessions now)
+        → ArePictured old (report line ∷ events) frames ds new × Mirrors new.state.sessions now
+    by [] accepted others = absurd accepted
+    by (d ∷ ds) accepted others =
+        let one = row.happens in
+        let M : LiveState → Type 0 = λ s. Mirrors s.state.sessions accepted.0 in
+        let drawn = report_drawn law.order (host_line line) one.frame old.state one.reported in
+        let here = drawn.takes d holdings accepted.0 accepted.1 in
+        let later = others ds accepted.0 (subst M (sym one.same) (here.0 ∙ m)) accepted.2 in (
+          record {
+            first = row.first;
+            drawn = d ∷ [];
+            between = row.between;
+            pictured = record { frame = one.frame; drawing = d; frames_are = one.frames_are; drawings_are = refl; reported = one.reported; picture = here.1; same = one.same };
+            more = row.more;
+            more_drawn = ds;
+            later = later.0;
+            frames_are = row.frames_are;
+            drawings_are = refl;
+          },
+          later.1,
+        )
 follows law laws f g (group lines ∷ events) frames drawings old new holdings now short sound well row m a =
     let one = row.happens in
     let A : List Frame → Type 0 = λ l. AcceptsAll holdings l drawings now in
@@ -184,9 +219,9 @@ hosts_drawn law laws f g input frames drawings old new now sound first by a =
 
 -- ---- none is rejected
 
--- a client that mirrors a state draws the frame, unless there is no memory, and mirrors the next one
+-- a client that mirrors a state accepts the frame, unless there is no memory, and mirrors the next one
 record OneDraws (frame : Frame) (old new : State) : Type 0 where
-  pub draws : (holdings : List Holding) → Mirrors old.sessions holdings → DrawsTheBook frame old new holdings
+  pub mirrors : (holdings : List Holding) (drawing : Option Canvas) (now : List Holding) → Mirrors old.sessions holdings → Accepts frame drawing holdings now → Mirrors new.sessions now
   pub accepts : (holdings : List Holding) → Mirrors old.sessions holdings → OnlyLacksMemory frame holdings
 
 -- so of each of these frames
@@ -205,7 +240,7 @@ edits_draw law (e ∷ es) [] old new sound replied = absurd replied
 edits_draw law (e ∷ es) (f ∷ fs) old new sound replied = (
   replied.0,
   record {
-    draws = λ holdings m. law.draws (EditRequest e) f old replied.0 holdings sound replied.1.0 m;
+    mirrors = λ holdings drawing now m a. (law.draws (EditRequest e) f old replied.0 holdings sound replied.1.0 m drawing now a).0;
     accepts = λ holdings m. law.accepts (EditRequest e) f old replied.0 holdings sound replied.1.0 m;
   },
   edits_draw law es fs replied.0 new replied.1.2 replied.2,
@@ -221,8 +256,24 @@ all_draw law laws (answer line ∷ events) frames old new sound row =
     subst F (sym (row.frames_are ∙ ap (λ l. l ++ row.more) one.frames_are)) (
       row.between.state,
       record {
-        draws = λ holdings m. laws.line_draws line one.frame old row.between holdings sound one.replied m;
+        mirrors = λ holdings drawing now m a. (laws.line_draws line one.frame old row.between holdings sound one.replied m drawing now a).0;
         accepts = λ holdings m. laws.line_accepts line one.frame old row.between holdings sound one.replied m;
+      },
+      next,
+    )
+all_draw law laws (report line ∷ events) frames old new sound row =
+    let one = row.happens in
+    let F : List Frame → Type 0 = λ l. AllDraw old.state l new.state in
+    let S : LiveState → Type 0 = λ s. IsSound s.state in
+    let drawn = report_drawn law.order (host_line line) one.frame old.state one.reported in
+    let next = all_draw law laws events row.more row.between new (subst S (sym one.same) sound) row.later in
+    subst F (sym (row.frames_are ∙ ap (λ l. l ++ row.more) one.frames_are)) (
+      row.between.state,
+      record {
+        mirrors = λ holdings drawing now m a.
+            let M : LiveState → Type 0 = λ s. Mirrors s.state.sessions now in
+            subst M (sym one.same) ((drawn.takes drawing holdings now a).0 ∙ m);
+        accepts = λ holdings m. drawn.lacks holdings m;
       },
       next,
     )
@@ -238,7 +289,7 @@ all_draw law laws (push ∷ events) frames old new sound row =
     subst F (sym (row.frames_are ∙ ap (λ l. l ++ row.more) one.frames_are)) (
       row.between.state,
       record {
-        draws = λ holdings m. laws.push_draws one.frame old row.between holdings sound one.pushed m;
+        mirrors = λ holdings drawing now m a. (laws.push_draws one.frame old row.between holdings sound one.pushed m drawing now a).0;
         accepts = λ holdings m. laws.push_accepts one.frame old row.between holdings sound one.pushed m;
       },
       next,
@@ -251,8 +302,7 @@ none_rejected [] behind frame [] old new holdings now e all m a r =
 none_rejected [] behind frame (d ∷ ds) old new holdings now e all m a r = absurd a
 none_rejected (x ∷ xs) behind frame [] old new holdings now e all m a r = absurd a
 none_rejected (x ∷ xs) behind frame (d ∷ ds) old new holdings now e all m a r =
-    let here = all.1.draws holdings m d a.0 a.1 in
-    none_rejected xs behind frame ds all.0 new a.0 now e all.2 here.0 a.2 r
+    none_rejected xs behind frame ds all.0 new a.0 now e all.2 (all.1.mirrors holdings d a.0 m a.1) a.2 r
 
 pub hosts_accepted : Requests → Laws → (lines : List (Option (List ℕ))) (frames : List Frame) (old new : LiveState) → IsSound old.state → IsFirst old → HostedBy lines frames old new → NoneRejected frames
 hosts_accepted law laws lines frames old new sound first by = λ front behind frame drawings holdings e is a r.
