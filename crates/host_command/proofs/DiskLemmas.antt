@@ -40,6 +40,7 @@ use Rattle.hosted_lines.specs.Doing.{Goes}
 use Rattle.hosted_lines.specs.HostCauses.{IsBadForHost, IsHostCause as IsRunCause}
 use Rattle.hosted_lines.specs.Hosts.{Counted}
 use Rattle.hosted_lines.specs.Running.{CostsLines, EndsSo, FirstLines, IsAhead, SendsAll}
+use Rattle.hosted_lines.proofs.AmidLemmas.{amid_book, amid_same}
 use Rattle.live_command.specs.Ended.{begun_live}
 use Rattle.live_command.proofs.DiskLemmas.{disk_side}
 use Rattle.host_command.specs.Ended.{CostsFrom, CostsHosting, HostEnds, IsHostCause, LeavesHosted}
@@ -67,7 +68,7 @@ none_ahead IsThere input at from there = record {
   few = omega arith;
   state = at;
   first = no_lines input at;
-  there = there;
+  there = inl there;
   low = omega arith;
   high = omega arith;
 }
@@ -93,7 +94,7 @@ module _ (IsThere IsThat : List Series → Type 0) (input : List ℕ) (old : Liv
 
   ends_so : (left : Option (List ℕ)) (end : End) → EndsSo IsThere input old left before now end → EndsSo IsThat input old left before now end
   ends_so left Done s = all_so s
-  ends_so left NoMemory s = record { shown = s.shown; more = s.more; few = s.few; state = s.state; first = s.first; there = so s.state.state.book s.there; sent = s.sent }
+  ends_so left NoMemory s = record { shown = s.shown; more = s.more; few = s.few; state = s.state; first = s.first; there = amid_same IsThere IsThat s.more s.state so (told s.first.rest) s.there; sent = s.sent }
   ends_so left ReadFault s = record {
     sends = record { frames = s.sends.frames; state = s.sends.state; first = s.sends.first; idle = s.sends.idle; there = so s.sends.state.state.book s.sends.there; sent = s.sends.sent };
     whole = s.whole;
@@ -109,7 +110,7 @@ module _ (IsThere IsThat : List Series → Type 0) (input : List ℕ) (old : Liv
   ends_so left end s = absurd s
 
 ahead_so : (IsThere IsThat : List Series → Type 0) (input : List ℕ) (old : LiveState) (from sent : ℕ) → ((after : List Series) → IsThere after → IsThat after) → IsAhead IsThere input old from sent → IsAhead IsThat input old from sent
-ahead_so IsThere IsThat input old from sent so a = record { shown = a.shown; more = a.more; few = a.few; state = a.state; first = a.first; there = so a.state.state.book a.there; low = a.low; high = a.high }
+ahead_so IsThere IsThat input old from sent so a = record { shown = a.shown; more = a.more; few = a.few; state = a.state; first = a.first; there = amid_same IsThere IsThat a.more a.state so (told a.first.rest) a.there; low = a.low; high = a.high }
 
 -- ---- what a crash leaves
 
@@ -118,8 +119,8 @@ ahead_on : (total : ℕ) (input : List ℕ) (old : LiveState) (from sent count :
 ahead_on total input old from sent count crash within all image left =
     let Q : Image → Type 0 = λ pages. IsAhead (Stands total pages) input old from sent in
     let total_of : (pages : Image) → Q pages → ℕ = λ pages is. total in
-    let book_of : (pages : Image) → Q pages → List Series = λ pages is. is.state.state.book in
-    let stand : (pages : Image) (is : Q pages) → StandsForBook pages (total_of pages is) (book_of pages is) = λ pages is. is.there in
+    let book_of : (pages : Image) → Q pages → List Series = λ pages is. (amid_book (Stands total pages) is.more is.state (told is.first.rest) is.there).0 in
+    let stand : (pages : Image) (is : Q pages) → StandsForBook pages (total_of pages is) (book_of pages is) = λ pages is. (amid_book (Stands total pages) is.more is.state (told is.first.rest) is.there).1 in
     let readable = lowered_readable count crash Q total_of book_of stand all image left in
     ahead_so (Stands total (pages_of count image)) (λ after. RecoversTo count image total after) input old from sent (λ after stands. recovers_new count image total after readable within stands)
     (lowered_is count crash Q total_of book_of stand all image left)
@@ -232,7 +233,7 @@ module _ (old mid new : View) (t : Traffic) (opens : Opens (page_count old.size)
 
   next_held : (total : ℕ) (book : List Series) (input : List ℕ) (end : End) → end ≢ DiskFault → EndsSo (Holds (page_count old.size) total new) input (begun_live total book) t.left_now t.sent t.sent_now end → (next : List Series) × HoldsBook (page_count old.size) total next new
   next_held total book input Done other s = (s.state.state.book, s.there)
-  next_held total book input NoMemory other s = (s.state.state.book, s.there)
+  next_held total book input NoMemory other s = amid_book (Holds (page_count old.size) total new) s.more s.state (told s.first.rest) s.there
   next_held total book input ReadFault other s = (s.sends.state.state.book, s.sends.there)
   next_held total book input SendFault other s = (s.state.state.book, s.there)
   next_held total book input DiskFault other s = absurd (other refl)
@@ -270,7 +271,7 @@ served_none count disk t unsent = record {
     few = omega arith;
     state = begun_live total book;
     first = no_lines input (begun_live total book);
-    there = holds;
+    there = inl holds;
     sent = unsent ∙ sent_none t.sent;
   });
   crash = told_each t.left (λ input. IfSome t.sent (λ bytes. LeavesHosted count input disk disk)) (λ input. told_each t.sent (λ bytes. LeavesHosted count input disk disk) (λ bytes total book holds.
@@ -298,7 +299,7 @@ module _ (old new : View) (t : Traffic) where
     few = omega arith;
     state = begun_live total book;
     first = no_lines input (begun_live total book);
-    there = held old new u.opens total book holds;
+    there = inl (held old new u.opens total book holds);
     sent = u.sent_is ∙ sent_none t.sent;
   }
 

@@ -11,7 +11,7 @@ use Rattle.host_lines.specs.Grammar.{host_line}
 use Rattle.host_lines.specs.declared.asked.HostLine.{HostLine}
 use Rattle.host_lines.specs.declared.asked.HostLine.TheVariants.{List as ListLine, Values, Sum, Sweep, Bad, Other}
 use Rattle.host_replies.specs.Replies.{Reported}
-use Rattle.hosted_lines.specs.Hosts.{DoesGroup, Event, answer, group, lines_in, push, report}
+use Rattle.hosted_lines.specs.Hosts.{DoesGroup, Event, Sweeps, answer, group, lines_in, push, report, sweep}
 use Rattle.live_command.specs.Drawn.{ShowsPush}
 use Rattle.live_service.specs.LiveReplies.{LiveReplied, LiveState}
 use Rattle.series_book.specs.declared.one_series.Series.{Series}
@@ -58,6 +58,11 @@ pub record PicturesReport (line : List ℕ) (frames : List Frame) (drawings : Li
   pub picture : PicturesAsked (host_line line) old.state.book frame drawing
   pub same : new ≡ old
 
+-- the step of a sweep is done that a line asks for, of which nothing is drawn
+pub record PicturesStep (line : List ℕ) (frames : List Frame) (drawings : List (Option Canvas)) (old new : LiveState) : Type 0 where
+  pub does : Sweeps line frames old new
+  pub none : drawings ≡ None ∷ []
+
 -- edits are done together, of which nothing is drawn
 pub record PicturesGroup (lines : List (Option (List ℕ))) (frames : List Frame) (drawings : List (Option Canvas)) (old new : LiveState) : Type 0 where
   pub does : DoesGroup lines frames old new
@@ -74,6 +79,7 @@ pub record PicturesPush (frames : List Frame) (drawings : List (Option Canvas)) 
 abbrev pub PicturesEvent : Event → List Frame → List (Option Canvas) → LiveState → LiveState → Type 0
 PicturesEvent (answer line) frames drawings old new = PicturesAnswer line frames drawings old new
 PicturesEvent (report line) frames drawings old new = PicturesReport line frames drawings old new
+PicturesEvent (sweep line) frames drawings old new = PicturesStep line frames drawings old new
 PicturesEvent (group lines) frames drawings old new = PicturesGroup lines frames drawings old new
 PicturesEvent push frames drawings old new = PicturesPush frames drawings old new
 

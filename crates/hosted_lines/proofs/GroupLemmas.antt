@@ -92,7 +92,7 @@ module _ (lines : List (Option (List ℕ))) (edits : List Edit) (total : ℕ) (b
         few = some.few_are;
         state = some.after;
         begun = some.begun;
-        stands = some.stands;
+        stands = inl some.stands;
         low = omega (arith, same);
         high = omega (arith, same);
       }
@@ -113,7 +113,7 @@ module _ (lines : List (Option (List ℕ))) (edits : List Edit) (total : ℕ) (b
   ]
   group_stops step.NoMemory image before now outside left unsent =
       let some = some_begun image (left (λ is. cc)) in
-      record { shown = []; more = some.frames; few = some.few_are; state = some.after; begun = some.begun; stands = some.stands; sent = unsent ∙ sent_none before }
+      record { shown = []; more = some.frames; few = some.few_are; state = some.after; begun = some.begun; stands = inl some.stands; sent = unsent ∙ sent_none before }
 
   group_costs : (reads reads' syncs syncs' : ℕ) → reads' ≤ reads + 96 * length edits → syncs' ≤ syncs + group_syncs total book edits → Costs (group lines) old reads reads' syncs syncs'
   group_costs reads reads' syncs syncs' read synced = record {

@@ -17,6 +17,7 @@ use Rattle.hosted_lines.specs.Doing.{AreFirst, CountsSent, DoesLines, Held, Line
 use Rattle.hosted_lines.specs.Hosting.{Begun, DoesHost, HostCost, HostDone, HostMoment, HostStop, counted_with}
 use Rattle.hosted_lines.specs.Hosts.{Counted, Event, Happens, HappensFor, InRow, answer, lines_in, push}
 use Rattle.hosted_lines.specs.Lives.{LivesBy, spelled}
+use Rattle.hosted_lines.proofs.AmidLemmas.{amid_on}
 use Rattle.hosted_lines.proofs.EventLemmas.{length_more, sent_then}
 use Rattle.hosted_lines.proofs.FaultLemmas.{told_any}
 use Rattle.hosted_lines.proofs.RowLemmas.{ArePassed, lines_joined, lines_of_live, of_live, row_of_live, row_of_reads, row_plain, row_then}
@@ -69,7 +70,7 @@ module _ (lines : List (Option (List ℕ))) (passed : ArePassed lines) (old : Li
     few = omega (arith, s.few);
     state = s.state;
     begun = begun_live s.first (s.shown ++ s.more) s.state s.are_first s.lives;
-    stands = s.stands;
+    stands = inl s.stands;
     sent = s.sent;
   }
   live_stop total image before now SendFault s = record {
@@ -95,7 +96,7 @@ module _ (lines : List (Option (List ℕ))) (passed : ArePassed lines) (old : Li
     few = omega (arith, m.few);
     state = m.state;
     begun = begun_live m.first (m.shown ++ m.more) m.state m.are_first m.lives;
-    stands = m.stands;
+    stands = inl m.stands;
     low = m.low;
     high = m.high;
   }
@@ -179,8 +180,9 @@ module _ (lines more : List (Option (List ℕ))) (total : ℕ) (old : Counted) (
 
   begun_row : (shown others : List Frame) (new : LiveState) → Begun more (shown ++ others) reached.live new → Begun (lines ++ more) ((d.frames ++ shown) ++ others) old.live new
   begun_row shown others new b =
-      let P : List Frame → Type 0 = λ l. Begun (lines ++ more) l old.live new in
-      subst P (sym (append_assoc d.frames shown others)) (begun_then (shown ++ others) new b)
+      let whole = begun_then (shown ++ others) new b in
+      let P : List Frame → Type 0 = λ l. InRow Happens old.live whole.events l new in
+      record { events = whole.events; rest = b.rest; split = whole.split; happened = subst P (sym (append_assoc d.frames shown others)) whole.happened }
 
   done_then : (image' : Image) (held' : Held) (reads' syncs' : ℕ) (now : Option (List ℕ)) → HostDone more total reached image' held' reads' syncs' between now → HostDone (lines ++ more) total old image' held' reads' syncs' before now
   done_then image' held' reads' syncs' now e = record {
@@ -264,7 +266,7 @@ stop_wide lines more total old image before now NoMemory s = record {
   few = s.few;
   state = s.state;
   begun = begun_wide lines more (s.shown ++ s.more) old s.state s.begun;
-  stands = s.stands;
+  stands = amid_on (λ book. StandsForBook image total book) s.more s.state s.begun.rest more s.stands;
   sent = s.sent;
 }
 stop_wide lines more total old image before now SendFault s = record {
@@ -290,7 +292,7 @@ moment_wide lines more total old from image sent m = record {
   few = m.few;
   state = m.state;
   begun = begun_wide lines more (m.shown ++ m.more) old m.state m.begun;
-  stands = m.stands;
+  stands = amid_on (λ book. StandsForBook image total book) m.more m.state m.begun.rest more m.stands;
   low = m.low;
   high = m.high;
 }

@@ -74,7 +74,7 @@ module _ (lines : List (Option (List ℕ))) (event : Event) (are : lines_in (eve
       few = few;
       state = new;
       begun = made_begun frames new happens;
-      stands = stands;
+      stands = inl stands;
       low = omega (arith, low);
       high = high;
     }
@@ -94,7 +94,7 @@ module _ (lines : List (Option (List ℕ))) (event : Event) (are : lines_in (eve
           few = omega (arith, few, ap length s.frames_are, length-append s.shown s.later);
           state = new;
           begun = subst B s.frames_are (made_begun frames new happens);
-          stands = stands;
+          stands = inl stands;
           sent = s.sent;
         }
     cut_stops image before now SendFault stands s =

@@ -27,15 +27,14 @@ use Rattle.stored_book.specs.Damage.{IsBadForRequest}
 use Rattle.stored_book.specs.Standing.{StandsForBook}
 use Rattle.hosted_lines.specs.Doing.{FrameStops, Held, Side, held_with, step_end}
 use Rattle.hosted_lines.specs.HostCauses.{IsHostCause}
-use Rattle.hosted_lines.specs.Hosting.{DoesHost, FramesStop, HostMoment, HostStop}
+use Rattle.hosted_lines.specs.Hosting.{DoesHost, HostMoment, HostStop}
 use Rattle.hosted_lines.specs.Hosts.{Costs, Reports, report}
-use Rattle.hosted_lines.specs.Lives.{spelled}
 use Rattle.hosted_lines.specs.Working.{CausesEnd}
-use Rattle.hosted_lines.proofs.EventLemmas.{length_one, spelled_one}
+use Rattle.hosted_lines.proofs.EventLemmas.{length_one}
 use Rattle.hosted_lines.proofs.FaultLemmas.{told_any}
 use Rattle.hosted_lines.proofs.HostLemmas.{begun_none}
 use Rattle.hosted_lines.proofs.MadeLemmas.{made_failed, made_sends}
-use Rattle.hosted_lines.proofs.SendLemmas.{first_stops}
+use Rattle.hosted_lines.proofs.SendLemmas.{one_stops, one_whole}
 
 -- ---- why it isn't made
 
@@ -70,16 +69,6 @@ unmade_cause asked error end old new is fit cause =
     short (step.Damaged page) = λ same. cc
     short step.NoMemory = λ same. cc
 
--- ---- one frame is sent
-
-one_stops : {T : Type 0} (result : Result T End) (frame : Frame) (before now : Option (List ℕ)) → IfErr result (FrameStops frame before now) → IfErr result (FramesStop (frame ∷ []) before now)
-one_stops {T} (Ok v) frame before now stops = tt
-one_stops {T} (Err end) frame before now stops = first_stops (frame ∷ []) [] frame before now end refl stops
-
-one_whole : {T : Type 0} (result : Result T End) (frame : Frame) (before now : Option (List ℕ)) → OnOk result (now ≡ sent_after (spelling frame) before) → OnOk result (now ≡ sent_after (spelled (frame ∷ [])) before)
-one_whole {T} (Ok v) frame before now whole = whole ∙ ap (λ t. sent_after t before) (sym (spelled_one frame))
-one_whole {T} (Err end) frame before now whole = tt
-
 module _ (line : List ℕ) (total : ℕ) (book : List Series) (held : Held) (idle : held.pending ≡ []) where
   abbrev old : LiveState
   old = held_with total book held
@@ -100,7 +89,7 @@ module _ (line : List ℕ) (total : ℕ) (book : List Series) (held : Held) (idl
         few = omega arith;
         state = old;
         begun = begun_none lines old;
-        stands = subst S (sym (only image left)) stands;
+        stands = inl (subst S (sym (only image left)) stands);
         low = omega (arith, quiet);
         high = omega (arith, quiet);
       })
@@ -118,7 +107,7 @@ module _ (line : List ℕ) (total : ℕ) (book : List Series) (held : Held) (idl
     | inr none ↦ absurd (cc (none))
   ]
   report_stops step.NoMemory image before now outside stands unsent =
-      record { shown = []; more = []; few = omega arith; state = old; begun = begun_none lines old; stands = stands; sent = unsent ∙ sent_none before }
+      record { shown = []; more = []; few = omega arith; state = old; begun = begun_none lines old; stands = inl stands; sent = unsent ∙ sent_none before }
 
   pub report_unmade : {T : Type 0} (error : ServiceError) (end : End) (held' : Held) (view mid : View) (before now : Option (List ℕ)) → end ≡ step_end error → IsOutside error → StandsForBook mid.image total book → now ≡ before → Through view mid (HostMoment lines total old (sent_now view)) → Costs (report line) old view.reads mid.reads view.syncs mid.syncs → DoesHost {T = T} lines total old (Err end) view mid held' before now
   report_unmade {T} error end held' view mid before now is outside stands unsent moments costs =

@@ -5,7 +5,7 @@ use Rattle.std.proofs.lemmas.List.{append-nil}
 use Rattle.chart_frames.specs.declared.frame.Frame.{Frame}
 use Rattle.chart_service.specs.Serving.{unless_empty}
 use Rattle.live_service.specs.LiveReplies.{LiveState}
-use Rattle.hosted_lines.specs.Hosts.{Counted, Event, Happens, HappensFor, InRow, IsPassed, answer, group, lines_in, push, report}
+use Rattle.hosted_lines.specs.Hosts.{Counted, Event, Happens, HappensFor, InRow, IsPassed, answer, group, lines_in, push, report, sweep}
 use Rattle.hosted_lines.specs.Lives.{Event as LiveEvent, Lives, answer as answered, lines_in as live_lines, push as pushed}
 use Rattle.hosted_lines.specs.Reads.{ReadsInTurn}
 
@@ -45,13 +45,14 @@ pub lines_joined : (first later : List Event) → lines_in (first ++ later) ≡ 
 lines_joined [] later = refl
 lines_joined (answer line ∷ events) later = ap (λ l. line ∷ l) (lines_joined events later)
 lines_joined (report line ∷ events) later = ap (λ l. Some line ∷ l) (lines_joined events later)
+lines_joined (sweep line ∷ events) later = ap (λ l. Some line ∷ l) (lines_joined events later)
 lines_joined (group lines ∷ events) later =
     ap (λ l. lines ++ l) (lines_joined events later) ∙ sym (append_assoc lines (lines_in events) (lines_in later))
 lines_joined (push ∷ events) later = lines_joined events later
 
 -- ---- lines that are answered alone, and their pushes
 
--- none of them asks for a report
+-- none of them asks anything of the host alone
 abbrev pub ArePassed : List (Option (List ℕ)) → Type 0
 ArePassed [] = ⊤
 ArePassed (line ∷ later) = IsPassed line × ArePassed later

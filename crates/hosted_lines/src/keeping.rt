@@ -17,15 +17,16 @@ ghost use Rattle.hosted_lines.specs.Working.{CausesEnd};
 
 use crate::answering::{answer_line, refuse_line};
 use crate::host_turns::HostTurns;
-use crate::reporting::{answer_asked, asks_report};
+use crate::reporting::answer_asked;
 use crate::settling::settle;
+use crate::sweeping::answer_step;
 use gate_pages::PageWorld;
 use host_lines::HostLine;
 use live_service::ServiceStepper;
 use live_view::Live;
 use run_ends::End;
 
-/// Does the edits that are kept back, and then answers a line that spells no edit and asks for no report.
+/// Does the edits that are kept back, and then answers a line that spells no edit and asks nothing of the host alone.
 fn answer_other<P: PageWorld>(
     turns: &mut HostTurns,
     live: &mut Live<ServiceStepper<P>>,
@@ -81,10 +82,14 @@ pub(crate) fn answer_alone<P: PageWorld>(
     ensures pieces { P.pieces (pages live.new) ≡ P.pieces (pages live.old) }
     ensures idle { OnOk result (follows.IsIdle live.new) }
 {
-    if asks_report(&asked) {
-        return answer_asked(turns, live, asked);
+    match asked {
+        HostLine::List
+        | HostLine::Values { .. }
+        | HostLine::Sum { .. }
+        | HostLine::Bad { .. } => answer_asked(turns, live, asked),
+        HostLine::Sweep(rule) => answer_step(turns, live, &rule),
+        HostLine::Other => answer_other(turns, live, line),
     }
-    answer_other(turns, live, line)
 }
 
 /// Does the edits that are kept back, and then refuses a line that is too long.

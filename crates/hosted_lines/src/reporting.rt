@@ -1,5 +1,5 @@
 //! What a line asks of the host alone is reported.
-ghost use Rattle.std.specs.Prelude.{◌≡◌, ◌≤◌, ◌∷◌, ◌++◌, [], All, Some, false, length, IfErr, IsTrue, OnOk};
+ghost use Rattle.std.specs.Prelude.{◌≡◌, ◌≤◌, ◌∷◌, ◌++◌, ℕ, List, [], All, Some, length, IfErr, OnOk};
 ghost use Rattle.chart_service.specs.EditGroups.{SpelledBy};
 ghost use Rattle.chart_service.specs.Serving.{most_ahead};
 ghost use Rattle.chart_world.specs.Faults.{CountsFault, fault_in};
@@ -11,7 +11,6 @@ ghost use Rattle.run_ends.specs.Faults.{end_fault};
 ghost use Rattle.series_book.specs.Edits.{IsEdit};
 ghost use Rattle.hosted_lines.specs.Doing.{Goes, side_of};
 ghost use Rattle.hosted_lines.specs.Hosting.{HostsFor};
-ghost use Rattle.hosted_lines.specs.Hosts.{IsPassedOn};
 ghost use Rattle.hosted_lines.specs.Reporting.{Makes, MayMake};
 ghost use Rattle.hosted_lines.specs.Shown.{ForSound, pages};
 ghost use Rattle.hosted_lines.specs.Working.{CausesEnd};
@@ -44,20 +43,6 @@ impl<P: PageWorld> StepperWork<ServiceStepper<P>> for ReportWork {
 
     fn work(&mut self, stepper: &mut ServiceStepper<P>) -> Result<Frame, ServiceError> {
         answer_report(self.alloc, &mut stepper.service, &self.asked)
-    }
-}
-
-/// Whether what a line asks is answered by a report.
-pub(crate) fn asks_report(asked: &HostLine) -> bool
-    ensures asks { IsTrue result → AsksReport asked.now }
-    ensures passed { result ≡ false → IsPassedOn asked.now }
-{
-    match asked {
-        HostLine::List
-        | HostLine::Values { .. }
-        | HostLine::Sum { .. }
-        | HostLine::Bad { .. } => true,
-        HostLine::Sweep(_) | HostLine::Other => false,
     }
 }
 
