@@ -8,6 +8,8 @@
 //! What a line spells, and lines that change the store, are left to other layers.
 #![tactic(auto)]
 
+mod reading;
 mod replies;
+mod report_work;
 
 pub use replies::answer_report;

@@ -8,13 +8,25 @@ ghost use Rattle.chart_service.specs.Shown as shown;
 ghost use Rattle.chart_service.specs.Stepping.{IsOutside};
 ghost use Rattle.chart_world.specs.Faults.{CountsFault, fault_in};
 ghost use Rattle.host_lines.specs.Grammar.{IsInRange};
-ghost use Rattle.host_replies.specs.Replies.{AsksReport, IsReportCause, MayReport, ReadsReport, Reported};
+ghost use Rattle.host_replies.specs.Replies.{AsksReport, IsReportCause, MayReport, ReadsReport, Reported, has_session};
 
+use crate::report_work::ReportWork;
 use chart_frames::Frame;
-use chart_service::{Service, ServiceError};
+use chart_service::{Service, ServiceError, refused};
 use gate_pages::Pages;
 use host_lines::HostLine;
+use series_book::Refusal;
 use std::alloc::Global;
+
+/// Whether the session that a line names is open, if it names one.
+fn has_session<P: Pages>(service: &Service<P>, asked: &HostLine) -> bool
+    ensures { result ≡ has_session asked.now (shown.sessions service.now) }
+{
+    match asked {
+        HostLine::Sum { session, .. } => service.cache(*session).is_some(),
+        _ => true,
+    }
+}
 
 /// Answers a line that asks for the list, for values or for a sum, or that is bad. Where the pages stand for a book, the
 /// reply is that of the book and of the open sessions. Nothing is written, and the sessions stay.
@@ -42,5 +54,8 @@ pub fn answer_report<P: Pages>(
     ensures cause { IfErr result (λ e. IsReportCause asked.now e (shown.IsTold service.new) (shown.view service.old) (shown.view service.new)) }
     ensures faults { CountsFault (fault_in step_fault result) (shown.view service.old) (shown.view service.new) }
 {
-    Err(ServiceError::NoMemory)
+    if !has_session(&*service, asked) {
+        return Ok(refused(Refusal::UnknownSession));
+    }
+    service.with_store(&mut ReportWork { alloc, asked })
 }
