@@ -1,12 +1,14 @@
 -- What the calls of a step do: on a store, on a service, and on a live service. Private contracts are stated by these words.
-use Rattle.std.specs.Prelude.{ℕ, ◌≡◌, ◌↔◌, ◌≤◌, ◌+◌, ◌*◌, List, length, Option, Result, Err, IfOk, IfErr, OnOk}
+use Rattle.std.specs.Prelude.{ℕ, ◌≡◌, ◌↔◌, ◌≤◌, ◌+◌, ◌*◌, List, length, Option, Result, Ok, Err, IfOk, IfErr, OnOk}
 use Rattle.block_disk.specs.declared.streams.Streams.{Ghosts as StreamGhosts}
 use Rattle.chart_frames.specs.declared.frame.Frame.{Frame}
 use Rattle.chart_frames.specs.declared.frame.Frame.TheVariants.{Report}
 use Rattle.chart_frames.specs.declared.reports.Report.TheVariants.{Swept}
+use Rattle.chart_service.specs.Replies.{refused}
 use Rattle.chart_service.specs.Shown as shown
 use Rattle.chart_service.specs.State.{IsSound}
 use Rattle.chart_service.specs.declared.failure.ServiceError.{ServiceError}
+use Rattle.chart_service.specs.declared.failure.ServiceError.TheVariants as step
 use Rattle.chart_service.specs.declared.service.Service.{Service}
 use Rattle.chart_world.specs.Faults.{CountsFault, fault_in}
 use Rattle.gate_pages.specs.declared.pages.Pages.{Ghosts}
@@ -17,12 +19,13 @@ use Rattle.live_view.specs.declared.live.Live.{Live}
 use Rattle.live_view.specs.declared.stepper.Stepper.{Ghosts as StepperGhosts}
 use Rattle.retention.specs.declared.rule.Rule.{Rule}
 use Rattle.retention.specs.declared.sweep_error.SweepError.{SweepError}
-use Rattle.retention.specs.declared.sweep_error.SweepError.TheVariants.{UnknownSeries}
+use Rattle.retention.specs.declared.sweep_error.SweepError.TheVariants.{UnknownSeries, DiskFault, Damaged, NoMemory}
 use Rattle.retention.specs.declared.swept.SweptSome.{SweptSome}
 use Rattle.retention.specs.Faults.{sweep_fault}
 use Rattle.retention.specs.Moving.{CarriesOn}
 use Rattle.retention.specs.Sweeping.{Commits, FailsFor, IsSoundFor, IsSweptSome, PassesStep, StopsSomeSo}
 use Rattle.retention.specs.Sweeps.{NamesNone, sweeps_some}
+use Rattle.series_book.specs.declared.refusals.Refusal.TheVariants.{UnknownSeries as NoSeries}
 use Rattle.series_store.specs.Shown as stored
 use Rattle.series_store.specs.declared.store.Store.{Store}
 use Rattle.host_sweeps.specs.Sweeping.{most_clears, pushed_behind, step_reads, swept_followers}
@@ -30,6 +33,13 @@ use Rattle.host_sweeps.specs.Sweeping.{most_clears, pushed_behind, step_reads, s
 -- the frame of a step that is done
 abbrev pub frame_of : SweptSome → Frame
 frame_of swept = Report (Swept swept.clears swept.used swept.more)
+
+-- what is answered where a step wasn't done to its end
+abbrev pub error_reply : SweepError → Result Frame ServiceError
+error_reply UnknownSeries = Ok (refused NoSeries)
+error_reply DiskFault = Err step.DiskFault
+error_reply (Damaged page) = Err (step.Damaged page)
+error_reply NoMemory = Err step.NoMemory
 
 module _ {P : Type 0} {g : Ghosts P} where
   -- a step is done on a store, or why it isn't

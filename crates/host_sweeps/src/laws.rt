@@ -1,7 +1,7 @@
 //! What follows from the definitions. The functions do nothing: their contracts are the laws.
 ghost use Rattle.host_sweeps.specs.Laws.{ClearsAreEdits, LastStepsSweep, StepsComeTogether, StepsGoOn, SweepsAreAccepted, SweepsAreDrawn, SweepsAreOne, SweepsKeepFollowing};
 
-use retention::laws::{clears_are_accepted, steps_go_on};
+use retention::laws::steps_go_on;
 
 /// A step has one answer: the frame, and what the service holds behind it, are determined by what it holds before.
 pub fn sweeps_are_one()
@@ -34,6 +34,4 @@ pub fn sweeps_go_on()
 /// leaves of a group.
 pub fn clears_are_edits()
     ensures { ClearsAreEdits }
-{
-    clears_are_accepted();
-}
+{}

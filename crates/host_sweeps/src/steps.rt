@@ -7,7 +7,7 @@ ghost use Rattle.chart_service.specs.Shown as shown;
 ghost use Rattle.chart_service.specs.Stepping.{NamesBad, IsOutside};
 ghost use Rattle.chart_world.specs.Faults.{CountsFault, fault_in};
 ghost use Rattle.host_sweeps.specs.Sweeping.{SweepReplied, SweepsSome, TellsStep, most_clears, step_clears, step_reads};
-ghost use Rattle.host_sweeps.specs.Steps.{frame_of};
+ghost use Rattle.host_sweeps.specs.Steps.{error_reply, frame_of};
 ghost use Rattle.live_service.specs.Shown as its;
 ghost use Rattle.live_view.specs.Live as follows;
 ghost use Rattle.retention.specs.Moving.{CarriesOn, CommitsFew};
@@ -36,6 +36,19 @@ fn swept_frame(swept: SweptSome) -> Frame
         used: swept.used,
         more: swept.more,
     })
+}
+
+/// What is answered where a step wasn't done to its end.
+fn error_reply(error: SweepError) -> Result<Frame, ServiceError>
+    ensures reply { result ≡ error_reply error }
+    ensures fits { IfOk result Fits }
+{
+    match error {
+        SweepError::UnknownSeries => Ok(refused(Refusal::UnknownSeries)),
+        SweepError::DiskFault => Err(ServiceError::DiskFault),
+        SweepError::Damaged { page } => Err(ServiceError::Damaged { page }),
+        SweepError::NoMemory => Err(ServiceError::NoMemory),
+    }
 }
 
 /// Does a step of the sweep of a rule, at most 64 clears, each in one commit, and answers it as `SweepReplied` says over each
@@ -76,13 +89,10 @@ pub fn sweep_step<P: PageWorld>(
 {
     let mut step = StepWork { rule };
     match live.with_stepper(&mut step) {
-        Ok(swept) => {
-            push_behind(live, rule, swept.clears)?;
-            Ok(swept_frame(swept))
-        }
-        Err(SweepError::UnknownSeries) => Ok(refused(Refusal::UnknownSeries)),
-        Err(SweepError::DiskFault) => Err(ServiceError::DiskFault),
-        Err(SweepError::Damaged { page }) => Err(ServiceError::Damaged { page }),
-        Err(SweepError::NoMemory) => Err(ServiceError::NoMemory),
+        Ok(swept) => match push_behind(live, rule, swept.clears) {
+            Ok(()) => Ok(swept_frame(swept)),
+            Err(_) => Err(ServiceError::NoMemory),
+        },
+        Err(error) => error_reply(error),
     }
 }
