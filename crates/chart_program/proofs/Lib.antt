@@ -40,5 +40,4 @@ pub mod LiveEnds
 pub mod HostEnds
 pub mod DeriveEnds
 pub mod LiveRuns
-pub mod HostRuns
 pub mod ExactRuns

@@ -7,7 +7,7 @@ use gate_pages::Pages;
 /// A service, as what answers the lines of sessions that follow their views.
 #[derive(Drop)]
 pub struct ServiceStepper<P: Pages> {
-    pub(crate) service: Service<P>,
+    pub service: Service<P>,
 }
 
 impl<P: Pages> ServiceStepper<P> {

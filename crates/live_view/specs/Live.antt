@@ -17,7 +17,7 @@ use Rattle.live_view.specs.Groups.{ArePushedTo}
 use Rattle.live_view.specs.Lines.{live_line}
 use Rattle.live_view.specs.Meaning.{meaning_of}
 use Rattle.live_view.specs.Replies.{refused, follow_reply, unfollow_reply, followed_by, ended, still_followed, followers, Changes}
-use Rattle.live_view.specs.Sessions.{open_among}
+use Rattle.live_view.specs.Sessions.{open_among, viewed_among}
 
 module _ {S F : Type 0} {g : Ghosts S F} {streams : StreamGhosts S} where
   -- what answers other lines
@@ -131,6 +131,20 @@ module _ {S F : Type 0} {g : Ghosts S F} {streams : StreamGhosts S} where
   abbrev pub PushFails : LiveFault F → Live S F g streams → Live S F g streams → Type 0
   PushFails (Stepper fault) old new = FailsToPush fault old new
   PushFails NoMemory old new = ⊥
+
+  -- a push is pending for each session that follows the series of a name, and all else stays
+  pub record PushesTo (name : List ℕ) (old new : Live S F g streams) : Type 0 where
+    pub stepper : new.stepper ≡ old.stepper
+    pub followed_same : followed new ≡ followed old
+    pub series : Option ℕ
+    pub named : g.names new.stepper name series
+    pub pending_now : pending new ≡ followers series (sessions new) (followed old)
+
+  -- a push is pending for each session that is followed and has had a view, and all else stays
+  pub record PushesToAll (old new : Live S F g streams) : Type 0 where
+    pub stepper : new.stepper ≡ old.stepper
+    pub followed_same : followed new ≡ followed old
+    pub pending_now : pending new ≡ viewed_among (sessions new) (followed old)
 
   -- what answers the lines changes so, and all else stays
   pub record Keeps (so : Type 0) (old new : Live S F g streams) : Type 0 where

@@ -28,3 +28,7 @@ HaveViews sessions numbers = All (λ n. IsTrue (has_view n sessions)) numbers
 -- those of the numbers whose sessions are open
 abbrev pub open_among : List Session → List ℕ → List ℕ
 open_among sessions numbers = filter (λ n. is_open n sessions) numbers
+
+-- those of the numbers whose sessions have had a view
+abbrev pub viewed_among : List Session → List ℕ → List ℕ
+viewed_among sessions numbers = filter (λ n. has_view n sessions) numbers

@@ -21,9 +21,12 @@ pub mod meaning;
 mod numbers;
 mod passing;
 pub mod stepper;
+pub mod stepper_work;
 mod stepping;
 mod streams;
+mod working;
 
 pub use errors::LiveFault;
 pub use live::Live;
 pub use stepper::Stepper;
+pub use stepper_work::StepperWork;

@@ -1,8 +1,8 @@
 //! The frame that answers a request of a sum.
-ghost use Rattle.std.specs.Prelude.{◌≡◌, List, Ok, All, IfErr, IfOk, IfSome};
+ghost use Rattle.std.specs.Prelude.{◌≡◌, List, All, IfErr, IfOk, IfSome};
 ghost use Rattle.chart_frames.specs.Frames.{Fits, IsSession};
-ghost use Rattle.chart_frames.specs.declared.frame.RowsFrame.{RowsFrame as RowsFrameSaid};
 ghost use Rattle.chart_service.specs.Faulting.{step_fault};
+ghost use Rattle.chart_service.specs.Kinds.{MayShow as MayAnswerIn};
 ghost use Rattle.chart_service.specs.Stepping.{IsOutside};
 ghost use Rattle.chart_world.specs.Faults.{CountsFault, fault_in};
 ghost use Rattle.derive_command.specs.Requests.{IsFactor};
@@ -14,36 +14,49 @@ ghost use Rattle.plain_chart.specs.declared.sample.Sample.{Sample};
 ghost use Rattle.retention.specs.Moving.{LooksOnly};
 ghost use Rattle.series_pair.specs.Derived.{MayShow};
 ghost use Rattle.series_store.specs.Shown as shown;
-ghost use Rattle.session_sums.specs.Sums.{AnswersSum, IsSumCause, ShowsRows, SumRows, error_reply, refused};
+ghost use Rattle.session_sums.specs.Sums.{AnswersSum, IsSumCause, ShowsRows, SumRows, error_reply, line_refusal, refused};
 
 use chart_frames::{Frame, RowsFrame};
 use chart_grid::Grid;
-use chart_service::ServiceError;
+use chart_service::{ServiceError, refused};
 use derive_command::{DeriveRefusal, Request, asked_of};
 use gate_pages::Pages;
 use m4_groups::Rows;
 use plain_chart::ValueRange;
+use series_book::Refusal;
 use series_pair::{SumError, rows_of_sum, shown_range};
 use series_store::Store;
 use std::alloc::Global;
 
-/// The frame of a refusal. It tells no numbers more.
-fn refused(refusal: DeriveRefusal) -> Frame
-    ensures { result ≡ refused refusal }
+/// The refusal of a request line that says the same.
+fn line_refusal(refusal: DeriveRefusal) -> Refusal
+    ensures { result ≡ line_refusal refusal }
 {
-    Frame::Refused {
-        number: refusal.number(),
-        a: 0,
-        b: 0,
+    match refusal {
+        DeriveRefusal::UnknownSeries => Refusal::UnknownSeries,
+        DeriveRefusal::NotOneGrid => Refusal::OffGrid,
+        DeriveRefusal::BadWindow => Refusal::BadWindow,
+        DeriveRefusal::BadCanvas => Refusal::BadCanvas,
+        DeriveRefusal::BadRange => Refusal::BadRange,
+        DeriveRefusal::TooLarge => Refusal::ValueTooLarge,
     }
+}
+
+/// The frame of a refusal.
+fn refusal_frame(refusal: DeriveRefusal) -> Frame
+    ensures frame { result ≡ refused refusal }
+    ensures fits { Fits result }
+{
+    refused(line_refusal(refusal))
 }
 
 /// What is answered where the rows weren't found.
 fn error_reply(error: SumError) -> Result<Frame, ServiceError>
-    ensures { result ≡ error_reply error }
+    ensures reply { result ≡ error_reply error }
+    ensures fits { IfOk result Fits }
 {
     match error {
-        SumError::TooLarge { .. } => Ok(refused(DeriveRefusal::TooLarge)),
+        SumError::TooLarge { .. } => Ok(refusal_frame(DeriveRefusal::TooLarge)),
         SumError::DiskFault => Err(ServiceError::DiskFault),
         SumError::Damaged { page } => Err(ServiceError::Damaged { page }),
         SumError::NoMemory => Err(ServiceError::NoMemory),
@@ -59,6 +72,7 @@ fn rows_frame(session: u32, grid: Grid, range: Option<ValueRange>, rows: Rows) -
     requires ordered { All IsOrdered rows }
     ensures frame { (samples : List Sample) → AreRowsOf grid (sample_points samples) rows → ShowsRows session grid range samples rows result }
     ensures fits { Fits (SumRows result) }
+    ensures session { result.session ≡ session }
 {
     let shown = shown_range(&rows, range);
     RowsFrame {
@@ -91,12 +105,13 @@ pub fn sum_frame<P: Pages>(
     ensures cause { IfErr result (λ e. IsSumCause e (shown.IsTold store.new) (shown.total store.old) (shown.view store.old) (shown.view store.new)) }
     ensures looks { LooksOnly store.old store.new }
     ensures faults { CountsFault (fault_in step_fault result) (shown.view store.old) (shown.view store.new) }
-    // whatever the pages are, a frame of rows may be sent
-    ensures fits { (frame : RowsFrameSaid) → result ≡ Ok (SumRows frame) → Fits (SumRows frame) }
+    // whatever the pages are, the frame may be sent, and rows are in the session
+    ensures fits { IfOk result Fits }
+    ensures may { IfOk result (MayAnswerIn session) }
 {
     let asked = match asked_of(&*store, request) {
         Ok(asked) => asked,
-        Err(refusal) => return Ok(refused(refusal)),
+        Err(refusal) => return Ok(refusal_frame(refusal)),
     };
     let (grid, range) = (asked.grid, asked.range);
     match rows_of_sum(alloc, store, asked.x, asked.y, asked.sum, grid) {

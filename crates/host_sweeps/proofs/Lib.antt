@@ -1,0 +1,4 @@
+pub mod PushLemmas
+pub mod StepLemmas
+pub mod ClearLemmas
+pub mod LawLemmas
