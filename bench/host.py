@@ -60,7 +60,7 @@ def measure_host():
     print(f"{'program':28}{'syncs':>8}{'frames':>9}{'bytes':>11}{'seconds':>10}{'appends a second':>18}")
     values = list(walk(COUNT + APPENDS))
     build_store("full.store", BLOCKS, lines_of_series(values[:COUNT]))
-    for name, command in (("host, pushed behind groups", "host"), ("live, pushed", "live"), ("serve, asked behind groups", "serve")):
+    for name, command in (("host, pushed behind groups", "host"), ("serve, asked behind groups", "serve"), ("live, pushed", "live")):
         lines, first = list(burst(command, values[COUNT:])), list(beginning(command))
         with_appends, without = syncs_of(command, first + lines), syncs_of(command, first)
         syncs = "-" if with_appends is None else with_appends - without
