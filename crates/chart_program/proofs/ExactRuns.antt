@@ -32,10 +32,8 @@ use Rattle.chart_program.specs.Exact.{run_of, task_of, drawing_codes, MakesRuns,
 use Rattle.chart_program.specs.Lives.{BeginsOn, IsLeftAt}
 use Rattle.chart_program.specs.Ran.{CommandEnds, Leaves}
 use Rattle.chart_program.specs.Served.{Faults, AreTexts}
-use Rattle.host_command.specs.Ended.{LeavesHosted}
 use Rattle.live_command.specs.Ended.{LeavesLived, begun_live}
 use Rattle.chart_program.proofs.CommandsEnd.{small_never}
-use Rattle.chart_program.proofs.HostRuns.{host_follows}
 use Rattle.chart_program.proofs.LiveRuns.{live_follows}
 use Rattle.chart_program.proofs.LivesLemmas.{begun_holds, left_by, run_lives, OneBook}
 
@@ -212,25 +210,6 @@ live_run reads old new input sent code leaves begins after at b is total book re
       a.there,
     )
 
--- the same of a run that does edits together
-host_run : LinesSayWhatIsRead → (old new : View) (input sent : List ℕ) (code : ℕ) → LeavesHosted (page_count old.size) input old new
-    → (begins after : Image) (at : ℕ) → BeginsOn begins old → IsLeftAt old new at after
-    → IsRun (page_count old.size) (run_of watches begins input sent code old new at after)
-host_run reads old new input sent code leaves begins after at b is total book recovers =
-    let a = (leaves total book (begun_holds (page_count old.size) total book begins old b recovers)).here at after is.0 is.1.0 is.1.1 in
-    let first = a.first in (
-      a.state.state.book,
-      record {
-        lines = told first.front;
-        later = told first.rest;
-        split = told_join input first.front first.rest first.begins;
-        requests = map said_by (told first.front);
-        said = reads (told first.front);
-        next_is = host_follows (begun_live total book) a.state (told first.front) (a.shown ++ a.more) first.hosted;
-      },
-      a.there,
-    )
-
 -- ---- another change
 
 change_run : OneBook → (command : Command) (old new : View) (input sent : List ℕ) (code : ℕ) → Leaves command input old new
@@ -263,7 +242,7 @@ command_run law texts reads one (Demo seed rounds) old new input was sent bytes 
     change_run one (Demo seed rounds) old new input sent code e.crash
 command_run law texts reads one Retain old new input was sent bytes faults code place e = change_run one Retain old new input sent code e.crash
 command_run law texts reads one Live old new input was sent bytes faults code place e = live_run reads old new input sent code e.crash
-command_run law texts reads one Host old new input was sent bytes faults code place e = host_run reads old new input sent code e.crash
+command_run law texts reads one Host old new input was sent bytes faults code place e = change_run one Host old new input sent code e.crash
 
 -- where the input is told
 pub runs_made : ServingsAreExact → TextsAreExact → LinesSayWhatIsRead → OneBook → (command : Command) (old new : View) (left left' before now : Option (List ℕ))

@@ -1,5 +1,6 @@
 -- The command `host` ends as its own clauses say.
-use Rattle.std.proofs.Common.{◌<◌, List, ℕ, Option, Some, None, IfSome, ap, inl, inr}
+use Rattle.std.proofs.Common.{◌<◌, List, ℕ, Option, Some, None, IfSome, ap, arith, inl, inr, refl}
+use Rattle.std.specs.Prelude.{Contains}
 use Rattle.block_disk.specs.View.{View}
 use Rattle.gate_pages.specs.Journal.{page_count}
 use Rattle.run_ends.specs.Statuses.{code_of, place_of}
@@ -7,9 +8,9 @@ use Rattle.run_ends.specs.declared.ending.End.{End}
 use Rattle.run_ends.specs.declared.ending.End.TheVariants.{Done, NoMemory, ReadFault, SendFault, DiskFault}
 use Rattle.run_ends.specs.declared.ending.End.TheVariants.{DamagedBlock, DamagedPage, InputTooLong, TooSmall}
 use Rattle.store_commands.specs.Away.{IsTurnedAway}
-use Rattle.host_command.specs.Ended.{CostsHosting, DoesHost, HostEnds}
-use Rattle.live_command.specs.Ended.{IsLiveCause}
+use Rattle.host_command.specs.Ended.{CostsHosting, DoesHost, HostEnds, IsHostCause}
 use Rattle.program_words.specs.declared.words.Command.TheVariants.{Host}
+use Rattle.chart_program.specs.CommandStatuses.{codes_of}
 use Rattle.chart_program.specs.Host.{HostsTaken}
 use Rattle.chart_program.specs.Served.{Faults}
 use Rattle.chart_program.specs.Ran.{AreLines, CommandEnds}
@@ -26,7 +27,7 @@ taken old new (Some input) None before now all = tt
 taken old new (Some input) (Some bytes) before now all = all
 
 module _ (old new : View) (left left' before now : Option (List ℕ)) (faults : Faults) where
-  host_came : (end : End) → IsLiveCause end old new (passed left left' before now faults)
+  host_came : (end : End) → IsHostCause end old new (passed left left' before now faults)
       → DoesHost (page_count old.size) old new (passed left left' before now faults) end
       → Came Host old new left left' before now faults end
   host_came Done cause does = (cause, does, tt)
@@ -40,12 +41,16 @@ module _ (old new : View) (left left' before now : Option (List ℕ)) (faults : 
   host_came (TooSmall blocks) cause does = cause
   host_came end cause does = absurd cause
 
+  host_own : (end : End) → IsHostCause end old new (passed left left' before now faults) → Contains (codes_of Host) (code_of end)
+  host_own (DamagedPage page) cause = (5, omega arith, refl)
+  host_own end cause = live_own old new left left' before now faults end cause
+
   pub host_ends : (end : End) → HostEnds old new (passed left left' before now faults) end
       → (old.size < 128 → IsTurnedAway left left' before now (code_of end)) → IfSome left (λ input. CostsHosting old new input)
       → CommandEnds Host old new left left' before now faults (code_of end) (place_of end)
   host_ends end e away costs = by_code Host old new left left' before now faults end (record {
     came = host_came end e.cause e.does;
-    own = live_own old new left left' before now faults end e.cause;
+    own = host_own end e.cause;
     away = λ over. away;
     untaken = λ none. absurd none;
     reads = tt;

@@ -3,9 +3,9 @@ use Rattle.std.proofs.Common.{ℕ, List, IfSome, arith}
 use Rattle.block_disk.specs.View.{View}
 use Rattle.chart_world.specs.LineLaws.{told_so}
 use Rattle.gate_pages.specs.Journal.{page_count}
-use Rattle.host_command.specs.Ended.{CostsHosting, HostEnds}
+use Rattle.host_command.specs.Ended.{CostsHosting, HostEnds, IsHostCause}
 use Rattle.hosted_lines.specs.Running.{EndsSo}
-use Rattle.live_command.specs.Ended.{IsLiveCause, begun_live}
+use Rattle.live_command.specs.Ended.{begun_live}
 use Rattle.run_ends.specs.Statuses.{status_of}
 use Rattle.run_ends.specs.declared.ending.End.{End}
 use Rattle.run_ends.specs.declared.ending.End.TheVariants.{Done, NoMemory, ReadFault, SendFault, DiskFault}
@@ -26,7 +26,7 @@ module _ (old new : View) (t : Traffic) where
   Answers end input = OfBook (page_count old.size) old (λ total book.
       EndsSo (Holds (page_count old.size) total new) input (begun_live total book) t.left_now t.sent t.sent_now end)
 
-  host_does : (end : End) → IsLiveCause end old new t → IfSome t.left (Answers end) → HostDoes at end
+  host_does : (end : End) → IsHostCause end old new t → IfSome t.left (Answers end) → HostDoes at end
   host_does Done cause does = (cause, does)
   host_does NoMemory cause does = does
   host_does ReadFault cause does = does
@@ -40,7 +40,7 @@ module _ (old new : View) (t : Traffic) where
   host_does end cause does = absurd cause
 
   -- with good input it is done, a stream fails, or there is no memory
-  host_good : (end : End) → IsLiveCause end old new t → (input : List ℕ) → Answers end input → AreLines old new input
+  host_good : (end : End) → IsHostCause end old new t → (input : List ℕ) → Answers end input → AreLines old new input
       → IsDoneOrCut end
   host_good Done cause input does r = tt
   host_good NoMemory cause input does r = tt

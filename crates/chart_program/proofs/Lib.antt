@@ -42,5 +42,4 @@ pub mod LiveEnds
 pub mod HostEnds
 pub mod DeriveEnds
 pub mod LiveRuns
-pub mod HostRuns
 pub mod ExactRuns

@@ -58,7 +58,7 @@ asks_none text asks =
 -- ---- the book behind a reply
 
 -- the state's book is that after the line, and its total stays
-abbrev pub Keeps : Line → LiveState → LiveState → Type 0
+abbrev Keeps : Line → LiveState → LiveState → Type 0
 Keeps line old new =
     (new.state.book ≡ after_line old.state.total old.state.book line) × (new.state.total ≡ old.state.total)
 
@@ -80,12 +80,12 @@ by_ask (Unfollow n) text frame old new is r =
 by_ask (Bad at) text frame old new is r = stays text old new r.state (asks_none text (not_other text (Bad at) is (λ never. cc)))
 by_ask Other text frame old new is r = by_line old.state new.state frame (Some text) r.replied.0
 
-pub by_live : (line : Line) (frame : Frame) (old new : LiveState) → LiveReplied line frame old new → Keeps line old new
+by_live : (line : Line) (frame : Frame) (old new : LiveState) → LiveReplied line frame old new → Keeps line old new
 by_live None frame old new r = by_line old.state new.state frame None r.replied.0
 by_live (Some text) frame old new r = by_ask (live_line text) text frame old new refl r
 
 -- a push changes no book
-pub by_push : (frame : Frame) (old new : LiveState) → Pushed frame old new
+by_push : (frame : Frame) (old new : LiveState) → Pushed frame old new
     → (new.state.book ≡ old.state.book) × (new.state.total ≡ old.state.total)
 by_push frame old new p = by_request old.state new.state frame (Ok (own_zoom p.session p.last)) p.replied.0
 

@@ -162,11 +162,38 @@ left_lived input count total book from left sent is =
 left_hosted : (input : List ℕ) (count total : ℕ) (book : List Series) (from : ℕ) (left : Image) (sent : ℕ)
     → IsAheadHosted (λ after. RecoversTo count left total after) input (begun_live total book) from sent
     → (next : List Series) × IsAheadHosted (λ after. next ≡ after) input (begun_live total book) from sent × RecoversTo count left total next
-left_hosted input count total book from left sent is = (
-  is.state.state.book,
-  record { shown = is.shown; more = is.more; few = is.few; state = is.state; first = is.first; there = refl; low = is.low; high = is.high },
-  is.there,
-)
+left_hosted input count total book from left sent is = elim is.there [
+  | inl here ↦ (
+    is.state.state.book,
+    record { shown = is.shown; more = is.more; few = is.few; state = is.state; first = is.first; there = inl refl; low = is.low; high = is.high },
+    here,
+  )
+  | inr amid ↦ (
+    _,
+    record {
+      shown = is.shown;
+      more = is.more;
+      few = is.few;
+      state = is.state;
+      first = is.first;
+      there = inr (record {
+        none = amid.none;
+        idle = amid.idle;
+        line = amid.line;
+        later = amid.later;
+        lines_are = amid.lines_are;
+        rule = amid.rule;
+        asks = amid.asks;
+        done = amid.done;
+        few = amid.few;
+        there = refl;
+      });
+      low = is.low;
+      high = is.high;
+    },
+    amid.there,
+  )
+]
 
 -- some lines were swept, and some first clears of the next one done
 left_swept : (input : List ℕ) (count total : ℕ) (book : List Series) (from : ℕ) (left : Image) (sent : ℕ) → IsAheadBy (λ after. RecoversTo count left total after) total book input from sent

@@ -1,6 +1,6 @@
 -- Which statuses each command has, and which commands open a store and take input.
 use Rattle.std.specs.Prelude.{ℕ, ◌≡◌, ◌≤◌, ◌⊎◌, List, [], ◌∷◌, Option, Result, Ok, Err, ⊤}
-use Rattle.block_disk.specs.View.{View}
+use Rattle.block_disk.specs.View.{Image, View}
 use Rattle.gate_pages.specs.Journal.{page_count}
 use Rattle.disk_store.specs.Openings.{IsOpeningPlace}
 use Rattle.disk_store.specs.declared.causes.OpeningCause.{OpeningCause}
@@ -13,6 +13,7 @@ use Rattle.chart_frames.specs.Frames.{key_number}
 use Rattle.draw_command.specs.declared.draw_end.DrawEnd.{DrawEnd}
 use Rattle.draw_command.specs.declared.draw_end.DrawEnd.TheVariants as draw_end
 use Rattle.store_commands.specs.Traffic.{Traffic}
+use Rattle.hosted_lines.specs.HostCauses.{IsBadForHost}
 use Rattle.stored_book.specs.Damage.{IsBadForRequest}
 use Rattle.store_commands.specs.Damaged.{IsDamagedLater}
 use Rattle.store_commands.specs.Exported.{IsDamagedForExport}
@@ -72,9 +73,12 @@ OpensFirst old t (Err (lines_end.Answering end)) = 128 ≤ old.size
 
 -- The block at this place was found damaged at the opening, and then no input was taken and nothing was sent; or it was
 -- found so as lines were answered.
+abbrev pub IsBarredAs : (ℕ → Image → ℕ → Type 0) → ℕ → View → Option (List ℕ) → Option (List ℕ) → Option (List ℕ) → Option (List ℕ) → ℕ → Type 0
+IsBarredAs IsBad count new left left' before now place =
+    (((place ≡ 1) ⊎ ((66 ≤ place) × (place ≤ 82))) × ((left' ≡ left) × (now ≡ before))) ⊎ IsDamagedLater IsBad count new place
+
 abbrev pub IsBarred : ℕ → View → Option (List ℕ) → Option (List ℕ) → Option (List ℕ) → Option (List ℕ) → ℕ → Type 0
-IsBarred count new left left' before now place =
-    (((place ≡ 1) ⊎ ((66 ≤ place) × (place ≤ 82))) × ((left' ≡ left) × (now ≡ before))) ⊎ IsDamagedLater IsBadForRequest count new place
+IsBarred count new left left' before now place = IsBarredAs IsBadForRequest count new left left' before now place
 
 abbrev pub IsBarredBy : View → View → Traffic → Status → Type 0
 IsBarredBy old new t end = end.code ≡ 7 → IsBarred (page_count old.size) new t.left t.left_now t.sent t.sent_now end.place
@@ -86,7 +90,7 @@ Bars Serve old new left left' before now place = IsBarred (page_count old.size) 
 Bars (Export name window) old new left left' before now place = IsDamagedForExport name old before now place
 Bars Retain old new left left' before now place = IsBarred (page_count old.size) new left left' before now place
 Bars Live old new left left' before now place = IsBarred (page_count old.size) new left left' before now place
-Bars Host old new left left' before now place = IsBarred (page_count old.size) new left left' before now place
+Bars Host old new left left' before now place = IsBarredAs IsBadForHost (page_count old.size) new left left' before now place
 Bars Derive old new left left' before now place = IsBarred (page_count old.size) new left left' before now place
 Bars command old new left left' before now place = now ≡ before
 

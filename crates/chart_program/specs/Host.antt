@@ -3,13 +3,13 @@
 use Rattle.std.specs.Prelude.{ℕ, List, Option}
 use Rattle.block_disk.specs.View.{View}
 use Rattle.host_command.specs.Ended.{CostsHosting, LeavesHosted}
+use Rattle.hosted_lines.specs.HostCauses.{IsBadForHost}
 use Rattle.hosted_lines.specs.Running.{SendsAll, SendsLines, SendsPart, SendsSome, SendsTaken, SendsWithin}
 use Rattle.live_command.specs.Ended.{begun_live}
 use Rattle.run_ends.specs.declared.ending.End.{End}
 use Rattle.run_ends.specs.declared.ending.End.TheVariants.{Done, NoMemory, ReadFault, SendFault, DiskFault}
 use Rattle.run_ends.specs.declared.ending.End.TheVariants.{DamagedBlock, DamagedPage, InputTooLong, TooSmall}
 use Rattle.store_commands.specs.Books.{Holds, OfBook}
-use Rattle.stored_book.specs.Damage.{IsBadForRequest}
 use Rattle.chart_program.specs.Course.{AtEachMoment, Course, FoundDamaged, FoundPage, HasFewBlocks, HeldNoBook}
 use Rattle.chart_program.specs.Course.{IsDoneOrCut, IsLonger, IsShort, OfInput, OverStore, Told}
 use Rattle.chart_program.specs.Serve.{AreLines}
@@ -51,7 +51,7 @@ HostDoes c ReadFault = Told c (λ count old new input. HostsTaken count old new 
 HostDoes c SendFault = Told c HostsPart
 HostDoes c DiskFault = Told c (λ count old new. HostsLines count old)
 HostDoes c (DamagedBlock block) = FoundDamaged c block × OfInput c (λ input. HeldNoBook c)
-HostDoes c (DamagedPage page) = FoundPage IsBadForRequest c c.new page × OfInput c (λ input. HeldNoBook c)
+HostDoes c (DamagedPage page) = FoundPage IsBadForHost c c.new page × OfInput c (λ input. HeldNoBook c)
 HostDoes c InputTooLong = IsLonger c × Told c HostsWithin
 HostDoes c (TooSmall blocks) = HasFewBlocks c blocks
 HostDoes c end = ⊥

@@ -36,6 +36,7 @@ use Rattle.demo_workload.specs.Workload.{workload}
 use Rattle.stored_book.specs.Damage.{IsBadForEdit, IsBadForRequest}
 use Rattle.retain_command.specs.Retained.{LeavesSwept, RetainsAll, RetainsLines, RetainsPart, RetainsSome, RetainsTaken, RetainsToBad, RetainsToUnknown, RetainsWithin}
 use Rattle.host_command.specs.Ended.{CostsHosting, LeavesHosted}
+use Rattle.hosted_lines.specs.HostCauses.{IsBadForHost}
 use Rattle.live_command.specs.Ended.{LeavesLived, LivesAll, LivesLines, LivesPart, LivesSome, LivesTaken, LivesWithin, ReadsLiving, SyncsLiving}
 use Rattle.derive_command.specs.Derived.{IsBadForChart, DerivesAll, DerivesFirst, DerivesPart, DerivesTaken, DerivesToBad, DerivesToRefused, DerivesWithin}
 use Rattle.store_commands.specs.Damaged.{IsDamagedAtFirst, IsDamagedPlace}
@@ -248,7 +249,7 @@ IsDamaged ListSeries old new place = IsDamagedAtFirst old place
 IsDamaged (Export name window) old new place = IsDamagedPlace (IsBadForExport name) old old place
 IsDamaged Retain old new place = IsDamagedPlace IsBadForRequest old new place
 IsDamaged Live old new place = IsDamagedPlace IsBadForRequest old new place
-IsDamaged Host old new place = IsDamagedPlace IsBadForRequest old new place
+IsDamaged Host old new place = IsDamagedPlace IsBadForHost old new place
 IsDamaged Derive old new place = IsDamagedPlace IsBadForChart old new place
 IsDamaged command old new place = ⊥
 

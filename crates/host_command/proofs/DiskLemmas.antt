@@ -1,5 +1,5 @@
 -- What is done over the store of a disk, in the words of the disk.
-use Rattle.std.proofs.Common.{◌≡◌, ◌≢◌, ◌∙◌, ℕ, ◌≤◌, Bool, List, [], Option, Some, None, IfSome, ap, refl, sym, subst, inl, arith}
+use Rattle.std.proofs.Common.{◌≡◌, ◌≢◌, ◌∙◌, ℕ, ◌<◌, ◌≤◌, Bool, List, [], Option, Some, None, IfSome, ap, refl, sym, subst, inl, inr, arith}
 use Rattle.std.specs.List.{filter}
 use Rattle.block_disk.specs.View.{Image, View, Honest, sent_now}
 use Rattle.block_disk.specs.SentLaws.{sent_none}
@@ -21,10 +21,13 @@ use Rattle.gate_pages.specs.Journal.{page_count, pages_of}
 use Rattle.live_service.specs.LiveReplies.{LiveState}
 use Rattle.run_ends.specs.declared.ending.End.{End}
 use Rattle.run_ends.specs.declared.ending.End.TheVariants.{Done, NoMemory, ReadFault, SendFault, DiskFault, DamagedPage, InputTooLong}
+use Rattle.run_ends.specs.Statuses.{block_of}
+use Rattle.store_commands.specs.Damaged.{IsDamagedLater}
 use Rattle.series_book.specs.declared.one_series.Series.{Series}
-use Rattle.stored_book.proofs.CurrentLemmas.{recovers_new}
+use Rattle.page_space.specs.Layout.{Keeps}
+use Rattle.page_space.specs.declared.superblock.Superblock.{Superblock}
+use Rattle.stored_book.proofs.CurrentLemmas.{recovers_new, spelled_current}
 use Rattle.stored_book.specs.Standing.{StandsForBook, RecoversTo}
-use Rattle.store_commands.proofs.Damages.{later_bad}
 use Rattle.store_commands.proofs.Held.{RestsNew, held, holds_so, stands_held, within_held}
 use Rattle.store_commands.proofs.HoldsAgain.{again_opened, again_told}
 use Rattle.store_commands.proofs.Moments.{opened_goes, opened_quiet, since_opened}
@@ -33,14 +36,15 @@ use Rattle.store_commands.specs.Books.{HoldsAgain, OfBook, OfPages, Stands, Hold
 use Rattle.store_commands.specs.Codes.{too_small, unopened}
 use Rattle.store_commands.specs.Status.{opening_end}
 use Rattle.store_commands.specs.Traffic.{IsLong, Traffic, WasRead}
-use Rattle.hosted_lines.specs.Doing.{Goes, IsCause}
+use Rattle.hosted_lines.specs.Doing.{Goes}
+use Rattle.hosted_lines.specs.HostCauses.{IsBadForHost, IsHostCause as IsRunCause}
 use Rattle.hosted_lines.specs.Hosts.{Counted}
 use Rattle.hosted_lines.specs.Running.{CostsLines, EndsSo, FirstLines, IsAhead, SendsAll}
-use Rattle.live_command.specs.Ended.{IsLiveCause, begun_live}
-use Rattle.live_command.specs.Ending.{IsServeCause}
+use Rattle.hosted_lines.proofs.AmidLemmas.{amid_book, amid_same}
+use Rattle.live_command.specs.Ended.{begun_live}
 use Rattle.live_command.proofs.DiskLemmas.{disk_side}
-use Rattle.host_command.specs.Ended.{CostsFrom, CostsHosting, HostEnds, LeavesHosted}
-use Rattle.host_command.specs.Ending.{Served}
+use Rattle.host_command.specs.Ended.{CostsFrom, CostsHosting, HostEnds, IsHostCause, LeavesHosted}
+use Rattle.host_command.specs.Ending.{IsServeCause, Served}
 
 -- ---- nothing yet
 
@@ -64,7 +68,7 @@ none_ahead IsThere input at from there = record {
   few = omega arith;
   state = at;
   first = no_lines input at;
-  there = there;
+  there = inl there;
   low = omega arith;
   high = omega arith;
 }
@@ -90,7 +94,7 @@ module _ (IsThere IsThat : List Series → Type 0) (input : List ℕ) (old : Liv
 
   ends_so : (left : Option (List ℕ)) (end : End) → EndsSo IsThere input old left before now end → EndsSo IsThat input old left before now end
   ends_so left Done s = all_so s
-  ends_so left NoMemory s = record { shown = s.shown; more = s.more; few = s.few; state = s.state; first = s.first; there = so s.state.state.book s.there; sent = s.sent }
+  ends_so left NoMemory s = record { shown = s.shown; more = s.more; few = s.few; state = s.state; first = s.first; there = amid_same IsThere IsThat s.more s.state so (told s.first.rest) s.there; sent = s.sent }
   ends_so left ReadFault s = record {
     sends = record { frames = s.sends.frames; state = s.sends.state; first = s.sends.first; idle = s.sends.idle; there = so s.sends.state.state.book s.sends.there; sent = s.sends.sent };
     whole = s.whole;
@@ -106,7 +110,7 @@ module _ (IsThere IsThat : List Series → Type 0) (input : List ℕ) (old : Liv
   ends_so left end s = absurd s
 
 ahead_so : (IsThere IsThat : List Series → Type 0) (input : List ℕ) (old : LiveState) (from sent : ℕ) → ((after : List Series) → IsThere after → IsThat after) → IsAhead IsThere input old from sent → IsAhead IsThat input old from sent
-ahead_so IsThere IsThat input old from sent so a = record { shown = a.shown; more = a.more; few = a.few; state = a.state; first = a.first; there = so a.state.state.book a.there; low = a.low; high = a.high }
+ahead_so IsThere IsThat input old from sent so a = record { shown = a.shown; more = a.more; few = a.few; state = a.state; first = a.first; there = amid_same IsThere IsThat a.more a.state so (told a.first.rest) a.there; low = a.low; high = a.high }
 
 -- ---- what a crash leaves
 
@@ -115,23 +119,44 @@ ahead_on : (total : ℕ) (input : List ℕ) (old : LiveState) (from sent count :
 ahead_on total input old from sent count crash within all image left =
     let Q : Image → Type 0 = λ pages. IsAhead (Stands total pages) input old from sent in
     let total_of : (pages : Image) → Q pages → ℕ = λ pages is. total in
-    let book_of : (pages : Image) → Q pages → List Series = λ pages is. is.state.state.book in
-    let stand : (pages : Image) (is : Q pages) → StandsForBook pages (total_of pages is) (book_of pages is) = λ pages is. is.there in
+    let book_of : (pages : Image) → Q pages → List Series = λ pages is. (amid_book (Stands total pages) is.more is.state (told is.first.rest) is.there).0 in
+    let stand : (pages : Image) (is : Q pages) → StandsForBook pages (total_of pages is) (book_of pages is) = λ pages is. (amid_book (Stands total pages) is.more is.state (told is.first.rest) is.there).1 in
     let readable = lowered_readable count crash Q total_of book_of stand all image left in
     ahead_so (Stands total (pages_of count image)) (λ after. RecoversTo count image total after) input old from sent (λ after stands. recovers_new count image total after readable within stands)
     (lowered_is count crash Q total_of book_of stand all image left)
+
+-- ---- a page that was called damaged
+
+layout_of : (count : ℕ) (image : Image) (page : ℕ) → IsBadForHost count image page → (s : Superblock) × Keeps count s (image 0)
+layout_of count image page (inl bad) = (bad.numbers, bad.keeps)
+layout_of count image page (inr bad) = (bad.1.numbers, bad.1.keeps)
+
+-- it is so of the disk, whose pages are of version 2
+later_host : (count count' : ℕ) (new : View) (page : ℕ) → count' ≡ count → page < count' → (Honest new → IsBadForHost count' (pages_of count' new.image) page) → IsDamagedLater IsBadForHost count new (block_of page)
+later_host count count' new page same within bad =
+    let P : ℕ → Type 0 = λ n. IsBadForHost n (pages_of n new.image) page in
+    let Q : Image → Type 0 = λ pages. IsBadForHost count pages page in
+    record {
+      page = page;
+      place_is = refl;
+      within = omega (arith, within, same);
+      bad = λ honest.
+          let here = subst P same (bad honest) in
+          let layout = layout_of count (pages_of count new.image) page here in
+          subst Q (sym (spelled_current (pages_of count new.image) layout.0 layout.1.spelled)) here;
+    }
 
 -- ---- the lines of an input over the pages of a disk, which is at rest afterwards unless a call of it failed
 
 -- from the state on that a service without sessions begins with
 module _ (count count' : ℕ) (sound sound' : Bool) (old new : View) (t : Traffic) (goes : Goes (disk_side count sound old t.reads t.sends) (disk_side count' sound' new t.reads_now t.sends_now)) (rests : RestsNew count old) (state : ℕ → List Series → LiveState) (begins : (total : ℕ) (book : List Series) → state total book ≡ begun_live total book) where
-  cause_on : (end : End) → (end ≡ Done → WasRead t.left t.left_now) → (end ≡ InputTooLong → IsLong t.left) → (end ≢ Done → IsCause end (disk_side count sound old t.reads t.sends) (disk_side count' sound' new t.reads_now t.sends_now)) → IsServeCause end count old new t
+  cause_on : (end : End) → (end ≡ Done → WasRead t.left t.left_now) → (end ≡ InputTooLong → IsLong t.left) → (end ≢ Done → IsRunCause end (disk_side count sound old t.reads t.sends) (disk_side count' sound' new t.reads_now t.sends_now)) → IsServeCause end count old new t
   cause_on Done whole long cause = whole refl
   cause_on NoMemory whole long cause = tt
   cause_on ReadFault whole long cause = cause (λ is. cc)
   cause_on SendFault whole long cause = cause (λ is. cc)
   cause_on DiskFault whole long cause = cause (λ is. cc)
-  cause_on (DamagedPage page) whole long cause = let is = cause (λ is. cc) in later_bad count count' new page goes.size is.0 is.1
+  cause_on (DamagedPage page) whole long cause = let is = cause (λ is. cc) in later_host count count' new page goes.size is.0 is.1
   cause_on InputTooLong whole long cause = long refl
   cause_on end whole long cause = absurd (cause (λ is. cc))
 
@@ -166,7 +191,7 @@ module _ (count count' : ℕ) (sound sound' : Bool) (old new : View) (t : Traffi
       }
 
   pub served_by : (end : End) → (end ≡ Done → WasRead t.left t.left_now) → (end ≡ InputTooLong → IsLong t.left)
-      → (end ≢ Done → IsCause end (disk_side count sound old t.reads t.sends) (disk_side count' sound' new t.reads_now t.sends_now))
+      → (end ≢ Done → IsRunCause end (disk_side count sound old t.reads t.sends) (disk_side count' sound' new t.reads_now t.sends_now))
       → OfPages count old (λ total book. IfSome t.left (λ input. ServedOn total (state total book) input end))
       → OfPages count old (λ total book. IfSome t.left (λ input. IfSome t.sent (λ bytes. Since (pages_view count sound old) (pages_view count' sound' new) (λ pages sent. IsAhead (Stands total pages) input (state total book) (sent_now (pages_view count sound old)) sent))))
       → (end ≢ DiskFault → IsClosed new) → Served count old new t end
@@ -196,7 +221,7 @@ module _ (old mid new : View) (t : Traffic) (opens : Opens (page_count old.size)
       since_both old mid new IsSo (since_opened IsSo old mid total book opens holds (λ image is. none_ahead (λ after. RecoversTo count image total after) input (begun_live total book) (sent_now old) is))
       (subst P (opened_quiet old mid opens) (all total book (held old mid opens total book holds)))
 
-  cause_opened : (end : End) → IsServeCause end (page_count old.size) mid new t → IsLiveCause end old new t
+  cause_opened : (end : End) → IsServeCause end (page_count old.size) mid new t → IsHostCause end old new t
   cause_opened Done is = is
   cause_opened NoMemory is = tt
   cause_opened ReadFault is = is
@@ -208,7 +233,7 @@ module _ (old mid new : View) (t : Traffic) (opens : Opens (page_count old.size)
 
   next_held : (total : ℕ) (book : List Series) (input : List ℕ) (end : End) → end ≢ DiskFault → EndsSo (Holds (page_count old.size) total new) input (begun_live total book) t.left_now t.sent t.sent_now end → (next : List Series) × HoldsBook (page_count old.size) total next new
   next_held total book input Done other s = (s.state.state.book, s.there)
-  next_held total book input NoMemory other s = (s.state.state.book, s.there)
+  next_held total book input NoMemory other s = amid_book (Holds (page_count old.size) total new) s.more s.state (told s.first.rest) s.there
   next_held total book input ReadFault other s = (s.sends.state.state.book, s.sends.there)
   next_held total book input SendFault other s = (s.state.state.book, s.there)
   next_held total book input DiskFault other s = absurd (other refl)
@@ -246,7 +271,7 @@ served_none count disk t unsent = record {
     few = omega arith;
     state = begun_live total book;
     first = no_lines input (begun_live total book);
-    there = holds;
+    there = inl holds;
     sent = unsent ∙ sent_none t.sent;
   });
   crash = told_each t.left (λ input. IfSome t.sent (λ bytes. LeavesHosted count input disk disk)) (λ input. told_each t.sent (λ bytes. LeavesHosted count input disk disk) (λ bytes total book holds.
@@ -258,7 +283,7 @@ served_none count disk t unsent = record {
 
 -- no store was opened
 module _ (old new : View) (t : Traffic) where
-  unopened_cause : (cause : OpeningCause) → IsUnopened old new t.left t.left_now t.sent t.sent_now cause → IsLiveCause (opening_end cause) old new t
+  unopened_cause : (cause : OpeningCause) → IsUnopened old new t.left t.left_now t.sent t.sent_now cause → IsHostCause (opening_end cause) old new t
   unopened_cause (opening.TooSmall size) u = (u.prevents.0, omega (arith, u.prevents.0, u.prevents.1))
   unopened_cause (opening.Damaged block) u = (u.prevents.1, (u.left_is, u.sent_is))
   unopened_cause opening.DiskFault u = u.prevents
@@ -274,7 +299,7 @@ module _ (old new : View) (t : Traffic) where
     few = omega arith;
     state = begun_live total book;
     first = no_lines input (begun_live total book);
-    there = held old new u.opens total book holds;
+    there = inl (held old new u.opens total book holds);
     sent = u.sent_is ∙ sent_none t.sent;
   }
 

@@ -1,2 +1,3 @@
 pub mod DiskLemmas
+pub mod ReportDrawing
 pub mod Drawing

@@ -5,13 +5,22 @@ use Rattle.chart_service.specs.Moments.{Since}
 use Rattle.gate_pages.specs.Journal.{page_count}
 use Rattle.gate_pages.specs.Pages.{GoesOn}
 use Rattle.run_ends.specs.declared.ending.End.{End}
-use Rattle.run_ends.specs.declared.ending.End.TheVariants.{DiskFault}
+use Rattle.run_ends.specs.declared.ending.End.TheVariants.{DamagedPage, DiskFault}
+use Rattle.run_ends.specs.Statuses.{block_of}
 use Rattle.stored_book.specs.Standing.{RecoversTo}
 use Rattle.store_commands.specs.Books.{HoldsAgain, OfBook, Holds}
+use Rattle.store_commands.specs.Damaged.{IsDamagedLater}
 use Rattle.store_commands.specs.Traffic.{Traffic}
+use Rattle.hosted_lines.specs.HostCauses.{IsBadForHost}
 use Rattle.hosted_lines.specs.Running.{CostsLines, EndsSo, IsAhead}
 use Rattle.live_command.specs.Ended.{IsLiveCause, begun_live}
 use Rattle.disk_store.specs.Openings.{SyncsOpening}
+
+-- Why `host` ended, whatever the disk holds: as `live`, but a page that is called damaged may also be one of the tree of some
+-- series that is bad for its place.
+abbrev pub IsHostCause : End → View → View → Traffic → Type 0
+IsHostCause (DamagedPage page) old new t = IsDamagedLater IsBadForHost (page_count old.size) new (block_of page)
+IsHostCause end old new t = IsLiveCause end old new t
 
 -- At each moment a crash leaves an image that recovers to a book with each edit whose Done was sent whole by then, and with
 -- at most 64 edits more.
@@ -37,10 +46,10 @@ abbrev pub DoesHost : ℕ → View → View → Traffic → End → Type 0
 DoesHost count old new t end = IfSome t.left (λ input. OfBook count old (λ total book.
     EndsSo (Holds count total new) input (begun_live total book) t.left_now t.sent t.sent_now end))
 
--- Why `host` ended, as `live` ends, what it did and sent by the book that the disk held, and what the disk holds: but for a
+-- Why `host` ended, what it did and sent by the book that the disk held, and what the disk holds: but for a
 -- fault of the disk, of which the moments tell, a book again.
 pub record HostEnds (old new : View) (t : Traffic) (end : End) : Type 0 where
-  pub cause : IsLiveCause end old new t
+  pub cause : IsHostCause end old new t
   pub does : DoesHost (page_count old.size) old new t end
   pub holds : end ≢ DiskFault → IfSome t.left (λ input. HoldsAgain (page_count old.size) old new)
   pub crash : IfSome t.left (λ input. IfSome t.sent (λ bytes. LeavesHosted (page_count old.size) input old new))

@@ -9,16 +9,21 @@ ghost use Rattle.live_service.specs.LiveReplies.{LiveState};
 ghost use Rattle.host_command.specs.Laws.{HostsDrawTheBook};
 
 use drawn_replies::laws::clients_draw_requests;
+use host_sweeps::laws::{clients_pass_sweeps, sweeps_keep_following};
 use live_service::laws::{
     clients_draw_lines, clients_draw_pushes, followed_sessions_can_follow, pushes_show_views,
 };
+use needed_nodes::laws::points_are_the_samples;
 
 /// A client that is sent all frames of a run draws the pictures of the book: of each line's frame as the book is at
-/// that line, of the edits of a group nothing, and of each push, which always shows a view, as the book is behind the
-/// group.
+/// that line, of the rows of a sum its chart, of other reports, of a step of a sweep and of the edits of a group
+/// nothing, and of each push, which always shows a view, as the book is behind the group or the step.
 pub fn hosts_draw_the_book()
     ensures { HostsDrawTheBook }
 {
+    points_are_the_samples();
+    clients_pass_sweeps();
+    sweeps_keep_following();
     clients_draw_requests();
     clients_draw_lines();
     clients_draw_pushes();
@@ -31,6 +36,8 @@ pub fn hosts_are_accepted()
     ensures { (lines : List (Option (List ℕ))) (frames : List Frame) (old new : LiveState) →
         IsSound old.state → IsFirst old → HostedBy lines frames old new → NoneRejected frames }
 {
+    points_are_the_samples();
+    clients_pass_sweeps();
     clients_draw_requests();
     clients_draw_lines();
     clients_draw_pushes();

@@ -28,14 +28,16 @@ use Rattle.series_book.specs.declared.one_series.Series.{Series}
 use Rattle.served_lines.specs.Turning.{lines_of}
 use Rattle.served_lines.proofs.Carried.{all_ended, lines_all, told_are}
 use Rattle.stored_book.specs.Standing.{StandsForBook}
+use Rattle.hosted_lines.specs.Amid.{IsThereAhead}
 use Rattle.hosted_lines.specs.Doing.{Held, held_with}
 use Rattle.hosted_lines.specs.Hosting.{Begun, HostCost, HostMoment, HostStop}
 use Rattle.hosted_lines.specs.Hosts.{Happens, HappensFor, InRow, lines_in}
 use Rattle.hosted_lines.specs.Lives.{spelled}
 use Rattle.hosted_lines.specs.Running.{CostsLines, EndsSo, FirstLines, HostedBy, IsAhead, SendsAll, SendsFirst}
 use Rattle.hosted_lines.specs.Working.{AreTold, Does, Hosted, IsHosted, Leaves, Rests, Stops, Turn, counted_of, live_at}
+use Rattle.hosted_lines.proofs.AmidLemmas.{amid_wide}
 use Rattle.hosted_lines.proofs.EventLemmas.{length_more, sent_then}
-use Rattle.hosted_lines.proofs.FrontLemmas.{first_placed, given_front, next_front, placed}
+use Rattle.hosted_lines.proofs.FrontLemmas.{Place, first_placed, given_front, next_front, placed}
 use Rattle.hosted_lines.proofs.RowLemmas.{lines_joined, row_plain, row_then}
 use Rattle.hosted_lines.proofs.TurnLemmas.{ended, paused, split_both, turned}
 use Rattle.hosted_lines.proofs.WorkLemmas.{hosted_at}
@@ -128,30 +130,43 @@ module _ (total : ℕ) (book : List Series) (held : Held) (view : View) (before 
         split_both [] (lines_all given) (lines_of next) (lines_in before_it.events) mid.ahead (lines_in b.events) b.rest before_it.split b.split
         ∙ ap (λ l. l ++ b.rest) (sym (lines_joined before_it.events b.events))
 
+    begun_place : (input : List ℕ) → AreBefore input given next → (frames : List Frame) (new : LiveState) (b : Begun (mid.ahead ++ lines_of next) frames (live_at mid) new) → Place input (lines_in (before_it.events ++ b.events)) b.rest
+    begun_place input are frames new b =
+        placed input (lines_in (before_it.events ++ b.events)) b.rest (next_front input given next (lines_in (before_it.events ++ b.events) ++ b.rest) (begun_all frames new b) are)
+
+    begun_happened : (frames : List Frame) (new : LiveState) (b : Begun (mid.ahead ++ lines_of next) frames (live_at mid) new) → InRow Happens (live_at start) (before_it.events ++ b.events) (before_it.frames ++ frames) new
+    begun_happened frames new b =
+        row_then Happens (live_at start) (live_at mid) new before_it.events b.events before_it.frames frames (row_plain (counted_of start) (counted_of mid) before_it.events before_it.frames before_it.happened) b.happened
+
     begun_first : (input : List ℕ) → AreBefore input given next → (frames : List Frame) (new : LiveState) → Begun (mid.ahead ++ lines_of next) frames (live_at mid) new → FirstLines input (before_it.frames ++ frames) (live_at start) new
     begun_first input are frames new b =
-        first_placed input (before_it.events ++ b.events) b.rest (before_it.frames ++ frames) (live_at start) new
-        (row_then Happens (live_at start) (live_at mid) new before_it.events b.events before_it.frames frames (row_plain (counted_of start) (counted_of mid) before_it.events before_it.frames before_it.happened) b.happened)
-        (placed input (lines_in (before_it.events ++ b.events)) b.rest (next_front input given next (lines_in (before_it.events ++ b.events) ++ b.rest) (begun_all frames new b) are))
+        first_placed input (before_it.events ++ b.events) b.rest (before_it.frames ++ frames) (live_at start) new (begun_happened frames new b) (begun_place input are frames new b)
 
     begun_row : (input : List ℕ) → AreBefore input given next → (shown more : List Frame) (new : LiveState) → Begun (mid.ahead ++ lines_of next) (shown ++ more) (live_at mid) new → FirstLines input ((before_it.frames ++ shown) ++ more) (live_at start) new
     begun_row input are shown more new b =
-        let P : List Frame → Type 0 = λ l. FirstLines input l (live_at start) new in
-        subst P (sym (append_assoc before_it.frames shown more)) (begun_first input are (shown ++ more) new b)
+        let R : List Frame → Type 0 = λ l. InRow Happens (live_at start) (before_it.events ++ b.events) l new in
+        first_placed input (before_it.events ++ b.events) b.rest ((before_it.frames ++ shown) ++ more) (live_at start) new
+        (subst R (sym (append_assoc before_it.frames shown more)) (begun_happened (shown ++ more) new b)) (begun_place input are (shown ++ more) new b)
+
+    -- the book that is there
+    there_row : (input : List ℕ) (are : AreBefore input given next) (image : Image) (shown more : List Frame) (new : LiveState) (b : Begun (mid.ahead ++ lines_of next) (shown ++ more) (live_at mid) new) → IsThereAhead (λ after. StandsForBook image mid.total after) more b.rest new → IsThereAhead (λ after. StandsForBook image total after) more (told (begun_row input are shown more new b).rest) new
+    there_row input are image shown more new b there =
+        let p = begun_place input are (shown ++ more) new b in
+        amid_wide (λ after. StandsForBook image mid.total after) (λ after. StandsForBook image total after) more new
+        (λ after stands. let P : ℕ → Type 0 = λ n. StandsForBook image n after in subst P before_it.total_is stands) b.rest (told p.rest) p.beyond p.left_are there
 
     sent_first : mid.sent ≡ sent_after (spelled before_it.frames) before
     sent_first = before_it.sent_is ∙ ap (λ t. sent_after t before) before_it.text_is
 
     stop_ends : (input : List ℕ) → AreBefore input given next → (image : Image) (left now : Option (List ℕ)) (end : End) → HostStop (mid.ahead ++ lines_of next) mid.total (live_at mid) image mid.sent now end → EndsSo (λ after. StandsForBook image total after) input (live_at start) left before now end
     stop_ends input are image left now ends.NoMemory s =
-        let P : ℕ → Type 0 = λ n. StandsForBook image n s.state.state.book in
         record {
           shown = before_it.frames ++ s.shown;
           more = s.more;
           few = s.few;
           state = s.state;
           first = begun_row input are s.shown s.more s.state s.begun;
-          there = subst P before_it.total_is s.stands;
+          there = there_row input are image s.shown s.more s.state s.begun s.stands;
           sent = sent_then before_it.frames s.shown before mid.sent now sent_first s.sent;
         }
     stop_ends input are image left now ends.SendFault s =
@@ -178,14 +193,13 @@ module _ (total : ℕ) (book : List Series) (held : Held) (view : View) (before 
 
     amid_ahead : (input : List ℕ) → AreBefore input given next → (from begun : ℕ) (image : Image) (count : ℕ) → begun ≡ from + length text → HostMoment (mid.ahead ++ lines_of next) mid.total (live_at mid) begun image count → IsAhead (λ after. StandsForBook image total after) input (live_at start) from count
     amid_ahead input are from begun image count counted m =
-        let P : ℕ → Type 0 = λ n. StandsForBook image n m.state.state.book in
         record {
           shown = before_it.frames ++ m.shown;
           more = m.more;
           few = m.few;
           state = m.state;
           first = begun_row input are m.shown m.more m.state m.begun;
-          there = subst P before_it.total_is m.stands;
+          there = there_row input are image m.shown m.more m.state m.begun m.stands;
           low = omega (arith, m.low, counted, ap length before_it.text_is, length_more before_it.frames m.shown);
           high = omega (arith, m.high, counted, ap length before_it.text_is, length_more before_it.frames (m.shown ++ m.more), ap (λ l. length (spelled l)) (append_assoc before_it.frames m.shown m.more));
         }
@@ -229,7 +243,7 @@ module _ (total : ℕ) (book : List Series) (held : Held) (view : View) (before 
         first = first_placed input t.events mid.ahead (t.frames ++ []) (live_at start) (live_at mid)
             (let F : List Frame → Type 0 = λ l. InRow Happens (live_at start) t.events l (live_at mid) in subst F (sym (append-nil t.frames)) (row_plain (counted_of start) (counted_of mid) t.events t.frames t.happened))
             (placed input (lines_in t.events) mid.ahead (given_front input given (lines_in t.events ++ mid.ahead) t.split are));
-        there = subst P t.total_is rests;
+        there = inl (subst P t.total_is rests);
         low = omega (arith, counted, ap length t.text_is);
         high = omega (arith, counted, ap length t.text_is, ap (λ l. length (spelled l)) (append-nil t.frames));
       }
@@ -350,7 +364,7 @@ module _ (total : ℕ) (book : List Series) (held : Held) where
   pub none_ends : (o left before : Option (List ℕ)) (image : Image) → StandsForBook image total book → IfSome o (λ input. EndsSo (λ after. StandsForBook image total after) input (held_with total book held) left before before ends.NoMemory)
   none_ends None left before image stands = tt
   none_ends (Some input) left before image stands =
-      record { shown = []; more = []; few = omega arith; state = held_with total book held; first = hosted_none input; there = stands; sent = sent_none before }
+      record { shown = []; more = []; few = omega arith; state = held_with total book held; first = hosted_none input; there = inl stands; sent = sent_none before }
 
   pub none_lasts : (o before : Option (List ℕ)) (view : View) → Only view.image (Now view) → StandsForBook view.image total book → IfSome o (λ input. IfSome before (λ bytes. moments.Since view view (λ image sent. IsAhead (λ after. StandsForBook image total after) input (held_with total book held) (sent_now view) sent)))
   none_lasts None before view only stands = tt
@@ -364,7 +378,7 @@ module _ (total : ℕ) (book : List Series) (held : Held) where
         few = omega arith;
         state = held_with total book held;
         first = hosted_none input;
-        there = subst S (sym (only image left)) stands;
+        there = inl (subst S (sym (only image left)) stands);
         low = omega arith;
         high = omega arith;
       })

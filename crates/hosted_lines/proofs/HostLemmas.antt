@@ -17,9 +17,10 @@ use Rattle.hosted_lines.specs.Doing.{AreFirst, CountsSent, DoesLines, Held, Line
 use Rattle.hosted_lines.specs.Hosting.{Begun, DoesHost, HostCost, HostDone, HostMoment, HostStop, counted_with}
 use Rattle.hosted_lines.specs.Hosts.{Counted, Event, Happens, HappensFor, InRow, answer, lines_in, push}
 use Rattle.hosted_lines.specs.Lives.{LivesBy, spelled}
+use Rattle.hosted_lines.proofs.AmidLemmas.{amid_on}
 use Rattle.hosted_lines.proofs.EventLemmas.{length_more, sent_then}
 use Rattle.hosted_lines.proofs.FaultLemmas.{told_any}
-use Rattle.hosted_lines.proofs.RowLemmas.{lines_joined, lines_of_live, of_live, row_of_live, row_of_reads, row_plain, row_then}
+use Rattle.hosted_lines.proofs.RowLemmas.{ArePassed, lines_joined, lines_of_live, of_live, row_of_live, row_of_reads, row_plain, row_then}
 
 abbrev pub counted_at : LiveState → ℕ → ℕ → Counted
 counted_at live reads syncs = record { live = live; reads = reads; syncs = syncs }
@@ -29,19 +30,23 @@ begun_none lines at = record { events = []; rest = lines; split = refl; happened
 
 -- ---- what a live service does of a line
 
-module _ (lines : List (Option (List ℕ))) (old : LiveState) where
+module _ (lines : List (Option (List ℕ))) (passed : ArePassed lines) (old : LiveState) where
+  passed_first : (first all : List (Option (List ℕ))) → AreFirst lines first → all ≡ first → ArePassed all
+  passed_first first all (inl none) is = subst ArePassed (sym (is ∙ none)) tt
+  passed_first first all (inr same) is = subst ArePassed (sym (is ∙ same)) passed
+
   begun_live : (first : List (Option (List ℕ))) (frames : List Frame) (new : LiveState) → AreFirst lines first → LivesBy first frames old new → Begun lines frames old new
   begun_live first frames new (inl none) lives = record {
     events = of_live lives.events;
     rest = lines;
     split = ap (λ l. l ++ lines) (sym (lines_of_live lives.events ∙ lives.lines_are ∙ none));
-    happened = row_of_live old new lives.events frames lives.lived;
+    happened = row_of_live old new lives.events frames (passed_first first (live_lines lives.events) (inl none) lives.lines_are) lives.lived;
   }
   begun_live first frames new (inr all) lives = record {
     events = of_live lives.events;
     rest = [];
     split = sym (append-nil lines) ∙ ap (λ l. l ++ []) (sym (lines_of_live lives.events ∙ lives.lines_are ∙ all));
-    happened = row_of_live old new lives.events frames lives.lived;
+    happened = row_of_live old new lives.events frames (passed_first first (live_lines lives.events) (inr all) lives.lines_are) lives.lived;
   }
 
   live_done : (total : ℕ) (image : Image) (held : Held) (from to syncs syncs' : ℕ) (before now : Option (List ℕ)) → syncs' ≡ syncs → LinesDone lines total old image held from to before now → HostDone lines total (counted_at old from syncs) image held to syncs' before now
@@ -54,7 +59,7 @@ module _ (lines : List (Option (List ℕ))) (old : LiveState) where
         sound = d.sound;
         events = of_live d.reads.events;
         lines_are = lines_of_live d.reads.events ∙ d.reads.lines_are;
-        happened = subst N (sym same) (row_of_reads syncs old (held_with total d.book held) d.reads.events d.frames from to d.reads.reads);
+        happened = subst N (sym same) (row_of_reads syncs old (held_with total d.book held) d.reads.events d.frames from to (passed_first lines (live_lines d.reads.events) (inr refl) d.reads.lines_are) d.reads.reads);
         sent = d.sent;
       }
 
@@ -65,7 +70,7 @@ module _ (lines : List (Option (List ℕ))) (old : LiveState) where
     few = omega (arith, s.few);
     state = s.state;
     begun = begun_live s.first (s.shown ++ s.more) s.state s.are_first s.lives;
-    stands = s.stands;
+    stands = inl s.stands;
     sent = s.sent;
   }
   live_stop total image before now SendFault s = record {
@@ -91,14 +96,14 @@ module _ (lines : List (Option (List ℕ))) (old : LiveState) where
     few = omega (arith, m.few);
     state = m.state;
     begun = begun_live m.first (m.shown ++ m.more) m.state m.are_first m.lives;
-    stands = m.stands;
+    stands = inl m.stands;
     low = m.low;
     high = m.high;
   }
 
   live_cost : (from to syncs syncs' : ℕ) → syncs' ≡ syncs → LinesRead lines old from to → HostCost lines (counted_at old from syncs) to syncs'
   live_cost from to syncs syncs' same r =
-      let row = row_of_reads syncs old r.state r.answered.events r.frames from r.count r.answered.reads in
+      let row = row_of_reads syncs old r.state r.answered.events r.frames from r.count (passed_first r.first (live_lines r.answered.events) r.are_first r.answered.lines_are) r.answered.reads in
       elim r.are_first [
         | inl none ↦ record {
           events = of_live r.answered.events;
@@ -132,24 +137,24 @@ module _ (lines : List (Option (List ℕ))) (old : LiveState) where
         }
       ]
 
-live_moments : (lines : List (Option (List ℕ))) (total : ℕ) (old : LiveState) (view view' : View) (before : Option (List ℕ)) → IfSome before (λ bytes. Through view view' (LinesMoment lines total old (sent_now view))) → IfSome before (λ bytes. Through view view' (HostMoment lines total old (sent_now view)))
-live_moments lines total old view view' None m = tt
-live_moments lines total old view view' (Some bytes) m =
-    through_so view view' (LinesMoment lines total old (sent_now view)) (HostMoment lines total old (sent_now view)) (λ image count one. live_moment lines old total (sent_now view) image count one) m
+live_moments : (lines : List (Option (List ℕ))) → ArePassed lines → (total : ℕ) (old : LiveState) (view view' : View) (before : Option (List ℕ)) → IfSome before (λ bytes. Through view view' (LinesMoment lines total old (sent_now view))) → IfSome before (λ bytes. Through view view' (HostMoment lines total old (sent_now view)))
+live_moments lines passed total old view view' None m = tt
+live_moments lines passed total old view view' (Some bytes) m =
+    through_so view view' (LinesMoment lines total old (sent_now view)) (HostMoment lines total old (sent_now view)) (λ image count one. live_moment lines passed old total (sent_now view) image count one) m
 
 -- a call that syncs nothing
-pub live_does : {T : Type 0} (lines : List (Option (List ℕ))) (total : ℕ) (old : LiveState) (result : Result T End) (view view' : View) (held : Held) (before now : Option (List ℕ)) → view'.syncs ≡ view.syncs → DoesLines lines total old result view view' held before now → DoesHost lines total old result view view' held before now
-live_does {T} lines total old (Ok v) view view' held before now same d = record {
-  done = live_done lines old total view'.image held view.reads view'.reads view.syncs view'.syncs before now same d.done;
+pub live_does : {T : Type 0} (lines : List (Option (List ℕ))) → ArePassed lines → (total : ℕ) (old : LiveState) (result : Result T End) (view view' : View) (held : Held) (before now : Option (List ℕ)) → view'.syncs ≡ view.syncs → DoesLines lines total old result view view' held before now → DoesHost lines total old result view view' held before now
+live_does {T} lines passed total old (Ok v) view view' held before now same d = record {
+  done = live_done lines passed old total view'.image held view.reads view'.reads view.syncs view'.syncs before now same d.done;
   stops = tt;
-  moments = live_moments lines total old view view' before d.moments;
-  cost = live_cost lines old view.reads view'.reads view.syncs view'.syncs same d.reads;
+  moments = live_moments lines passed total old view view' before d.moments;
+  cost = live_cost lines passed old view.reads view'.reads view.syncs view'.syncs same d.reads;
 }
-live_does {T} lines total old (Err end) view view' held before now same d = record {
+live_does {T} lines passed total old (Err end) view view' held before now same d = record {
   done = tt;
-  stops = live_stop lines old total view'.image before now end d.stops;
-  moments = live_moments lines total old view view' before d.moments;
-  cost = live_cost lines old view.reads view'.reads view.syncs view'.syncs same d.reads;
+  stops = live_stop lines passed old total view'.image before now end d.stops;
+  moments = live_moments lines passed total old view view' before d.moments;
+  cost = live_cost lines passed old view.reads view'.reads view.syncs view'.syncs same d.reads;
 }
 
 -- ---- one call behind another
@@ -175,8 +180,9 @@ module _ (lines more : List (Option (List ℕ))) (total : ℕ) (old : Counted) (
 
   begun_row : (shown others : List Frame) (new : LiveState) → Begun more (shown ++ others) reached.live new → Begun (lines ++ more) ((d.frames ++ shown) ++ others) old.live new
   begun_row shown others new b =
-      let P : List Frame → Type 0 = λ l. Begun (lines ++ more) l old.live new in
-      subst P (sym (append_assoc d.frames shown others)) (begun_then (shown ++ others) new b)
+      let whole = begun_then (shown ++ others) new b in
+      let P : List Frame → Type 0 = λ l. InRow Happens old.live whole.events l new in
+      record { events = whole.events; rest = b.rest; split = whole.split; happened = subst P (sym (append_assoc d.frames shown others)) whole.happened }
 
   done_then : (image' : Image) (held' : Held) (reads' syncs' : ℕ) (now : Option (List ℕ)) → HostDone more total reached image' held' reads' syncs' between now → HostDone (lines ++ more) total old image' held' reads' syncs' before now
   done_then image' held' reads' syncs' now e = record {
@@ -260,7 +266,7 @@ stop_wide lines more total old image before now NoMemory s = record {
   few = s.few;
   state = s.state;
   begun = begun_wide lines more (s.shown ++ s.more) old s.state s.begun;
-  stands = s.stands;
+  stands = amid_on (λ book. StandsForBook image total book) s.more s.state s.begun.rest more s.stands;
   sent = s.sent;
 }
 stop_wide lines more total old image before now SendFault s = record {
@@ -286,7 +292,7 @@ moment_wide lines more total old from image sent m = record {
   few = m.few;
   state = m.state;
   begun = begun_wide lines more (m.shown ++ m.more) old m.state m.begun;
-  stands = m.stands;
+  stands = amid_on (λ book. StandsForBook image total book) m.more m.state m.begun.rest more m.stands;
   low = m.low;
   high = m.high;
 }

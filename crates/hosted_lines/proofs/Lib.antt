@@ -3,9 +3,13 @@ pub mod FaultLemmas
 pub mod SyncLemmas
 pub mod LineLemmas
 pub mod RowLemmas
+pub mod AmidLemmas
 pub mod HostLemmas
 pub mod SpelledLemmas
+pub mod MadeLemmas
 pub mod GroupLemmas
+pub mod ReportLemmas
+pub mod SweepLemmas
 pub mod WorkLemmas
 pub mod TurnLemmas
 pub mod FrontLemmas

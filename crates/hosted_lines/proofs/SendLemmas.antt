@@ -60,3 +60,12 @@ spelled_sum frames later frame is = omega (arith, ap (λ l. length (spelled l)) 
 
 pub spelled_part : (frames later : List Frame) (frame : Frame) → frames ≡ frame ∷ later → length (spelling frame) ≤ length (spelled frames)
 spelled_part frames later frame is = omega (arith, spelled_sum frames later frame is)
+
+-- ---- one frame
+pub one_stops : {T : Type 0} (result : Result T End) (frame : Frame) (before now : Option (List ℕ)) → IfErr result (FrameStops frame before now) → IfErr result (FramesStop (frame ∷ []) before now)
+one_stops {T} (Ok v) frame before now stops = tt
+one_stops {T} (Err end) frame before now stops = first_stops (frame ∷ []) [] frame before now end refl stops
+
+pub one_whole : {T : Type 0} (result : Result T End) (frame : Frame) (before now : Option (List ℕ)) → OnOk result (now ≡ sent_after (spelling frame) before) → OnOk result (now ≡ sent_after (spelled (frame ∷ [])) before)
+one_whole {T} (Ok v) frame before now whole = whole ∙ ap (λ t. sent_after t before) (sym (spelled_one frame))
+one_whole {T} (Err end) frame before now whole = tt

@@ -158,7 +158,7 @@ module _ (hosted : Hosted) (edits : List Edit) (told : Type 0) (view : View) (he
             few = omega arith;
             state = live_at here;
             begun = begun_none (hosted.ahead ++ lines_of it) (live_at here);
-            stands = is.stands;
+            stands = inl is.stands;
             sent = sent_none before;
           };
           cost = record {

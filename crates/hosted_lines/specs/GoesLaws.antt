@@ -1,5 +1,5 @@
 -- What calls move, whatever the pages are.
-use Rattle.std.proofs.Common.{◌≡◌, ◌∙◌, ℕ, ◌≤◌, List, None, refl, ap, sym, arith}
+use Rattle.std.proofs.Common.{◌≡◌, ◌∙◌, ℕ, ◌≤◌, List, None, refl, ap, sym, inl, arith}
 use Rattle.block_disk.specs.View.{Beside, DiskKept}
 use Rattle.chart_world.specs.Faults.{CountsFault}
 use Rattle.chart_world.specs.FaultLaws.{disk_stays, sends_stay, takes_stay}
@@ -10,8 +10,8 @@ use Rattle.gate_pages.specs.Pages.{GoesOn}
 use Rattle.run_ends.specs.declared.ending.End.{End}
 use Rattle.run_ends.specs.declared.ending.End.TheVariants.{NoMemory, ReadFault, SendFault, DiskFault, DamagedPage, InputTooLong}
 use Rattle.zoom_session.specs.declared.session.Session.{Session}
-use Rattle.hosted_lines.specs.Doing.{AreBeside}
-use Rattle.hosted_lines.specs.Doing.{Goes, Held, IsCause, Side}
+use Rattle.hosted_lines.specs.Doing.{AreBeside, Goes, Held, IsCause, Side}
+use Rattle.hosted_lines.specs.HostCauses.{IsHostCause}
 
 -- what stands beside the pages are the streams
 abbrev pub IsBeside : Side → Type 0
@@ -68,6 +68,26 @@ cause_later old mid new DiskFault was are quiet is = risen_since old.view.faults
 cause_later old mid new (DamagedPage page) was are quiet is = is
 cause_later old mid new InputTooLong was are quiet is = tt
 cause_later old mid new end was are quiet is = absurd is
+
+-- so it is with the cause of a host
+pub host_cause_later : (old mid new : Side) (end : End) → IsBeside old → IsBeside mid → CountsFault None old.view mid.view → IsHostCause end mid new → IsHostCause end old new
+host_cause_later old mid new (DamagedPage page) was are quiet is = is
+host_cause_later old mid new NoMemory was are quiet is = tt
+host_cause_later old mid new ReadFault was are quiet is = cause_later old mid new ReadFault was are quiet is
+host_cause_later old mid new SendFault was are quiet is = cause_later old mid new SendFault was are quiet is
+host_cause_later old mid new DiskFault was are quiet is = cause_later old mid new DiskFault was are quiet is
+host_cause_later old mid new InputTooLong was are quiet is = tt
+host_cause_later old mid new end was are quiet is = absurd is
+
+-- and the cause of a live service is one
+pub host_cause : (old new : Side) (end : End) → IsCause end old new → IsHostCause end old new
+host_cause old new NoMemory is = tt
+host_cause old new ReadFault is = is
+host_cause old new SendFault is = is
+host_cause old new DiskFault is = is
+host_cause old new (DamagedPage page) is = (is.0, λ told. inl (is.1 told))
+host_cause old new InputTooLong is = tt
+host_cause old new end is = absurd is
 
 -- what is held beside the pages
 abbrev pub held_of : List Session → List ℕ → List ℕ → Held

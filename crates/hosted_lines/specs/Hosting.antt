@@ -21,6 +21,7 @@ use Rattle.run_ends.specs.declared.ending.End.{End}
 use Rattle.run_ends.specs.declared.ending.End.TheVariants.{NoMemory, SendFault, DiskFault}
 use Rattle.series_book.specs.declared.one_series.Series.{Series}
 use Rattle.stored_book.specs.Standing.{StandsForBook}
+use Rattle.hosted_lines.specs.Amid.{IsThereAhead}
 use Rattle.hosted_lines.specs.Doing.{Held, held_by, held_with}
 use Rattle.hosted_lines.specs.Hosts.{Costs, Counted, Event, Happens, HappensFor, InRow, lines_in}
 use Rattle.hosted_lines.specs.Lives.{spelled}
@@ -93,7 +94,7 @@ pub record HostSome (lines : List (Option (List ℕ))) (total : ℕ) (old : Live
   pub few : length more ≤ most_ahead
   pub state : LiveState
   pub begun : Begun lines (shown ++ more) old state
-  pub stands : StandsForBook image total state.state.book
+  pub stands : IsThereAhead (λ book. StandsForBook image total book) more begun.rest state
   pub sent : now ≡ sent_after (spelled shown) before
 
 -- the spellings of all frames of some first of them were sent
@@ -117,7 +118,7 @@ pub record HostMoment (lines : List (Option (List ℕ))) (total : ℕ) (old : Li
   pub few : length more ≤ most_ahead
   pub state : LiveState
   pub begun : Begun lines (shown ++ more) old state
-  pub stands : StandsForBook image total state.state.book
+  pub stands : IsThereAhead (λ book. StandsForBook image total book) more begun.rest state
   pub low : from + length (spelled shown) ≤ sent
   pub high : sent ≤ from + length (spelled (shown ++ more))
 

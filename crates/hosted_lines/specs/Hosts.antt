@@ -1,17 +1,28 @@
 -- The run of a host over lines: what is answered, done together and pushed, one after the other.
-use Rattle.std.specs.Prelude.{ℕ, ◌≡◌, ◌+◌, ◌*◌, ◌≤◌, List, [], ◌∷◌, ◌++◌, length, Option}
+use Rattle.std.specs.Prelude.{ℕ, ◌≡◌, ◌+◌, ◌*◌, ◌≤◌, List, [], ◌∷◌, ◌++◌, length, Option, None, Some, ⊤}
 use Rattle.chart_frames.specs.declared.frame.Frame.{Frame}
+use Rattle.chart_frames.specs.Frames.{Fits}
 use Rattle.chart_service.specs.EditGroups.{SpellEdits}
 use Rattle.chart_service.specs.ReadingBlocks.{ReadsLine}
 use Rattle.chart_service.specs.Serving.{most_ahead}
+use Rattle.chart_service.specs.State.{State}
 use Rattle.chart_service.specs.Syncing.{edit_of, edits_of, group_syncs}
+use Rattle.host_lines.specs.Grammar.{host_line}
+use Rattle.host_lines.specs.declared.asked.HostLine.{HostLine}
+use Rattle.host_lines.specs.declared.asked.HostLine.TheVariants.{List as ListLine, Values, Sum, Sweep, Bad, Other}
+use Rattle.host_replies.specs.Replies.{ReadsReport, Reported}
+use Rattle.host_sweeps.specs.Sweeping.{SweepReplied, step_clears, step_reads}
 use Rattle.live_service.specs.LiveReplies.{GroupReplied, LiveReplied, LiveState, Pushed, ReadsPush}
+use Rattle.retention.specs.declared.rule.Rule.{Rule}
 use Rattle.series_book.specs.declared.edits.Edit.{Edit}
 
--- What a host does: it answers a line, which is its text or nothing where that is too long; it does the edits that some lines
--- spell, together; or it makes a push.
+-- What a host does: it answers a line, which is its text or nothing where that is too long; it reports what a line asks of the
+-- host alone; it does the step of a sweep that a line asks for; it does the edits that some lines spell, together; or it makes
+-- a push.
 pub data Event : Type 0 where
   answer : Option (List ℕ) → Event
+  report : List ℕ → Event
+  sweep : List ℕ → Event
   group : List (Option (List ℕ)) → Event
   push : Event
 
@@ -29,12 +40,36 @@ abbrev pub InRow : {X : Type 0} → (Event → List Frame → X → X → Type 0
 InRow {X} happens old [] frames new = (frames ≡ []) × (new ≡ old)
 InRow {X} happens old (event ∷ later) frames new = OneThen (happens event) (λ between more. InRow happens between later more new) old frames
 
--- a line is answered by its frame, where no push is pending
+-- the line asks nothing of the host alone
+abbrev pub IsPassed : Option (List ℕ) → Type 0
+IsPassed None = ⊤
+IsPassed (Some text) = host_line text ≡ Other
+
+-- a line that asks nothing of the host alone is answered by its frame, where no push is pending
 pub record AnswersLine (line : Option (List ℕ)) (frames : List Frame) (old new : LiveState) : Type 0 where
+  pub passed : IsPassed line
   pub frame : Frame
   pub frames_are : frames ≡ frame ∷ []
   pub idle : old.pending ≡ []
   pub replied : LiveReplied line frame old new
+
+-- what a line asks of the host alone is reported by its frame, where no push is pending; the book and the sessions stay
+pub record Reports (line : List ℕ) (frames : List Frame) (old new : LiveState) : Type 0 where
+  pub frame : Frame
+  pub frames_are : frames ≡ frame ∷ []
+  pub idle : old.pending ≡ []
+  pub reported : Reported (host_line line) frame old.state
+  pub fits : Fits frame
+  pub same : new ≡ old
+
+-- the step of a sweep is done that a line asks for, where no push is pending
+pub record Sweeps (line : List ℕ) (frames : List Frame) (old new : LiveState) : Type 0 where
+  pub rule : Rule
+  pub asks : host_line line ≡ Sweep rule
+  pub frame : Frame
+  pub frames_are : frames ≡ frame ∷ []
+  pub idle : old.pending ≡ []
+  pub replied : SweepReplied rule frame old new
 
 -- edits are done together that lines spell, at most so many, where no push is pending
 pub record DoesGroup (lines : List (Option (List ℕ))) (frames : List Frame) (old new : LiveState) : Type 0 where
@@ -53,6 +88,8 @@ pub record MakesPush (frames : List Frame) (old new : LiveState) : Type 0 where
 -- what an event does
 abbrev pub Happens : Event → List Frame → LiveState → LiveState → Type 0
 Happens (answer line) frames old new = AnswersLine line frames old new
+Happens (report line) frames old new = Reports line frames old new
+Happens (sweep line) frames old new = Sweeps line frames old new
 Happens (group lines) frames old new = DoesGroup lines frames old new
 Happens push frames old new = MakesPush frames old new
 
@@ -60,6 +97,8 @@ Happens push frames old new = MakesPush frames old new
 abbrev pub lines_in : List Event → List (Option (List ℕ))
 lines_in [] = []
 lines_in (answer line ∷ later) = line ∷ lines_in later
+lines_in (report line ∷ later) = Some line ∷ lines_in later
+lines_in (sweep line ∷ later) = Some line ∷ lines_in later
 lines_in (group lines ∷ later) = lines ++ lines_in later
 lines_in (push ∷ later) = lines_in later
 
@@ -74,12 +113,25 @@ pub record Counted : Type 0 where
 -- how many blocks an event reads at most, where there is a bound
 abbrev pub ReadsBy : Event → LiveState → ℕ → ℕ → Type 0
 ReadsBy (answer line) old from to = ReadsLine line old.state from to
+ReadsBy (report line) old from to = ReadsReport (host_line line) from to
+ReadsBy (sweep line) old from to = to ≤ from + step_reads
 ReadsBy (group lines) old from to = to ≤ from + 96 * length lines
 ReadsBy push old from to = ReadsPush old.pending old.state from to
 
--- how often it syncs the disk at most: a group as its edits are committed together
+-- the clears that a line asks for
+abbrev pub clears_asked : HostLine → State → List Edit
+clears_asked (Sweep rule) state = step_clears state rule
+clears_asked ListLine state = []
+clears_asked (Values name t0 t1) state = []
+clears_asked (Sum session request) state = []
+clears_asked (Bad at) state = []
+clears_asked Other state = []
+
+-- how often it syncs the disk at most: each clear of a step is one commit, and a group as its edits are committed together
 abbrev pub SyncsBy : Event → LiveState → ℕ → ℕ → Type 0
 SyncsBy (answer line) old from to = to ≤ from + 4 * length (edit_of line)
+SyncsBy (report line) old from to = to ≡ from
+SyncsBy (sweep line) old from to = to ≤ from + 4 * length (clears_asked (host_line line) old.state)
 SyncsBy (group lines) old from to = to ≤ from + group_syncs old.state.total old.state.book (edits_of lines)
 SyncsBy push old from to = to ≡ from
 

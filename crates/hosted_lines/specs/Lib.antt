@@ -2,8 +2,11 @@ pub mod Lives
 pub mod Reads
 pub mod Shown
 pub mod Doing
+pub mod HostCauses
 pub mod GoesLaws
 pub mod Hosts
+pub mod Amid
+pub mod Reporting
 pub mod Hosting
 pub mod Working
 pub mod WorkLaws

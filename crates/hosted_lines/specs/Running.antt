@@ -12,6 +12,7 @@ use Rattle.live_service.specs.LiveReplies.{LiveState}
 use Rattle.run_ends.specs.declared.ending.End.{End}
 use Rattle.run_ends.specs.declared.ending.End.TheVariants.{Done, NoMemory, ReadFault, SendFault, DiskFault, InputTooLong}
 use Rattle.series_book.specs.declared.one_series.Series.{Series}
+use Rattle.hosted_lines.specs.Amid.{IsThereAhead}
 use Rattle.hosted_lines.specs.Hosting.{NextCosts}
 use Rattle.hosted_lines.specs.Hosts.{Counted, Event, Happens, HappensFor, InRow, lines_in}
 use Rattle.hosted_lines.specs.Lives.{spelled}
@@ -83,15 +84,15 @@ module _ (IsThere : List Series → Type 0) (input : List ℕ) (old : LiveState)
     pub whole : between ≡ sent_after (spelled shown) before
     pub part : PartSent (spelling last) between now
 
-  -- some first lines are answered, and the spellings of all these frames were sent but the last ones, which are no more than
-  -- may be done ahead
+  -- some first lines are answered, and perhaps some clears of the next one made, and the spellings of all these frames were
+  -- sent but the last ones, which are no more than may be done ahead
   pub record SendsSome : Type 0 where
     pub shown : List Frame
     pub more : List Frame
     pub few : length more ≤ most_ahead
     pub state : LiveState
     pub first : FirstLines input (shown ++ more) old state
-    pub there : IsThere state.state.book
+    pub there : IsThereAhead IsThere more (told first.rest) state
     pub sent : now ≡ sent_after (spelled shown) before
 
 -- What was done and sent, by how a run ended that answers from this state on, and which book is there then. After a fault
@@ -105,21 +106,22 @@ EndsSo IsThere input old left before now DiskFault = SendsLines input old before
 EndsSo IsThere input old left before now InputTooLong = SendsWithin IsThere input old before now
 EndsSo IsThere input old left before now end = ⊥
 
--- Some first lines are answered and some pushes made, and the book that they leave is there. After so many bytes the
--- spellings of all these frames were sent but the last ones, which are no more than may be done ahead, and of those nothing, a
--- part or all. So each edit whose Done was sent whole is in the book, and at most 64 more are.
+-- Some first lines are answered and some pushes made, and the book that they leave is there, or one amid the step of a sweep
+-- that the next line asks for. After so many bytes the spellings of all these frames were sent but the last ones, which are no
+-- more than may be done ahead, and of those nothing, a part or all. So each edit whose Done was sent whole is in the book, and
+-- at most 64 more are, the clears of a step among them.
 pub record IsAhead (IsThere : List Series → Type 0) (input : List ℕ) (old : LiveState) (from sent : ℕ) : Type 0 where
   pub shown : List Frame
   pub more : List Frame
   pub few : length more ≤ most_ahead
   pub state : LiveState
   pub first : FirstLines input (shown ++ more) old state
-  pub there : IsThere state.state.book
+  pub there : IsThereAhead IsThere more (told first.rest) state
   pub low : from + length (spelled shown) ≤ sent
   pub high : sent ≤ from + length (spelled (shown ++ more))
 
--- Some first lines of the input are answered, and perhaps the line, the group or the push behind them failed; by each no more
--- blocks were read than it may, and the disk was synced no more often.
+-- Some first lines of the input are answered, and perhaps the line, the group, the step or the push behind them failed; by
+-- each no more blocks were read than it may, and the disk was synced no more often.
 pub record CostsLines (input : List ℕ) (old : Counted) (reads syncs : ℕ) : Type 0 where
   pub front : List ℕ
   pub rest : List ℕ

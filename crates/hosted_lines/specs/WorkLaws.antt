@@ -9,7 +9,7 @@ use Rattle.series_book.specs.declared.edits.Edit.{Edit}
 use Rattle.stored_book.specs.Standing.{StandsForBook}
 use Rattle.zoom_session.specs.declared.session.Session.{Session}
 use Rattle.hosted_lines.specs.Doing.{AreBeside, Goes, Held, Side}
-use Rattle.hosted_lines.specs.GoesLaws.{IsBeside, cause_later, held_of, held_same}
+use Rattle.hosted_lines.specs.GoesLaws.{IsBeside, held_of, held_same, host_cause_later}
 use Rattle.hosted_lines.specs.Working.{AreTold, CausesEnd, Does, Hosted, IsFit, IsHosted, Lasting, Rests}
 
 pub fit_kept : (old new : View) (pending pending' : List ℕ) (edits : List Edit) → DiskKept old new → pending' ≡ pending → IsFit old pending edits → IsFit new pending' edits
@@ -52,4 +52,4 @@ besides {at} {reads} {sends} r s = record { reads_are = r; sends_are = s }
 
 -- why a later call ended is why all ended, where no fault was counted before
 pub causes_later : (old mid new : Side) → IsBeside old → IsBeside mid → CountsFault None old.view mid.view → (end : End) → Goes old mid → CausesEnd end mid new → CausesEnd end old new
-causes_later old mid new was are quiet end goes is = record { cause = cause_later old mid new end was are quiet is.cause; within = is.within; sound = is.sound }
+causes_later old mid new was are quiet end goes is = record { cause = host_cause_later old mid new end was are quiet is.cause; within = is.within; sound = is.sound }

@@ -16,8 +16,9 @@ use Rattle.series_book.specs.declared.one_series.Series.{Series}
 use Rattle.series_book.specs.Edits.{IsEdit}
 use Rattle.served_lines.specs.Turning.{lines_of}
 use Rattle.stored_book.specs.Standing.{StandsForBook}
-use Rattle.hosted_lines.specs.Doing.{Held, IsCause, Side, held_with}
+use Rattle.hosted_lines.specs.Doing.{Held, Side, held_with}
 use Rattle.hosted_lines.specs.Hosting.{HostCost, HostMoment, HostStop, counted_with}
+use Rattle.hosted_lines.specs.HostCauses.{IsHostCause}
 use Rattle.hosted_lines.specs.Hosts.{Counted, Event, HappensFor, InRow, lines_in}
 use Rattle.hosted_lines.specs.Lives.{spelled}
 
@@ -99,6 +100,6 @@ Lasting old = AreTold old.sent
 
 -- why lines weren't answered; behind any end but a fault of the disk calls may be made
 pub record CausesEnd (end : End) (old new : Side) : Type 0 where
-  pub cause : IsCause end old new
+  pub cause : IsHostCause end old new
   pub within : end ≢ InputTooLong
   pub sound : end ≢ DiskFault → new.view.fit

@@ -11,10 +11,11 @@ ghost use Rattle.hosted_lines.specs.WorkLaws.{besides, causes_later, fit_kept, h
 ghost use Rattle.hosted_lines.specs.Working.{CausesEnd, Does, Hosted, IsFit, IsHosted, Lasting, Leaves, Rests, Stops};
 
 use crate::host_turns::HostTurns;
-use crate::keeping::{answer_other, refuse_long};
+use crate::keeping::{answer_alone, refuse_long};
 use crate::settling::settle;
 use chart_service::edit_in;
 use gate_pages::PageWorld;
+use host_lines::host_line;
 use line_runs::LineWork;
 use live_service::ServiceStepper;
 use live_view::Live;
@@ -70,7 +71,10 @@ impl<P: PageWorld> LineWork<Live<ServiceStepper<P>>, End> for HostTurns {
                 }
                 settle(self, from)
             }
-            Ok(None) => answer_other(self, from, line),
+            Ok(None) => match host_line(self.alloc, line) {
+                Ok(asked) => answer_alone(self, from, line, asked),
+                Err(_) => Err(End::NoMemory),
+            },
             Err(_) => Err(End::NoMemory),
         }
     }

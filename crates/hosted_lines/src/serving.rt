@@ -5,7 +5,8 @@ ghost use Rattle.chart_world.specs.Reading.{IsReadUp};
 ghost use Rattle.live_service.specs.Shown as its;
 ghost use Rattle.live_view.specs.Live as follows;
 ghost use Rattle.run_ends.specs.Faults.{end_fault};
-ghost use Rattle.hosted_lines.specs.Doing.{Goes, IsCause, side_of};
+ghost use Rattle.hosted_lines.specs.Doing.{Goes, side_of};
+ghost use Rattle.hosted_lines.specs.HostCauses.{IsHostCause};
 ghost use Rattle.hosted_lines.specs.Served.{CostsFew, EndsOn, LastsFor};
 ghost use Rattle.hosted_lines.specs.Shown.{HoldsSound, pages};
 
@@ -20,8 +21,8 @@ use std::alloc::Global;
 
 /// Answers each line of the input that isn't empty, in order, by sending the spellings of frames. Edits whose lines stand
 /// ready are done together, up to 64, and answered in order; behind them the pushes are made, of which each frame is sent
-/// before the next is made. A line of more than 8,192 bytes is refused as too long. After `Done` the input was read to its
-/// end.
+/// before the next is made. A line that asks for the list, for values or for a sum is reported. A line of more than 8,192
+/// bytes is refused as too long. After `Done` the input was read to its end.
 pub fn host_lines<P: PageWorld>(alloc: Global, live: &mut Live<ServiceStepper<P>>) -> End
     requires sound { (its.view live.old).fit }
     requires idle { follows.IsIdle live.old }
@@ -36,7 +37,7 @@ pub fn host_lines<P: PageWorld>(alloc: Global, live: &mut Live<ServiceStepper<P>
     ensures whole { result ≡ End.Done → IsReadUp (P.left (pages live.old)) (P.left (pages live.new)) }
     ensures long { result ≡ End.InputTooLong → IfSome (P.left (pages live.old)) (λ input. 2 ^ 32 < length input) }
     ensures goes { Goes (side_of P.Streams live.old) (side_of P.Streams live.new) }
-    ensures cause { result ≢ End.Done → IsCause result (side_of P.Streams live.old) (side_of P.Streams live.new) }
+    ensures cause { result ≢ End.Done → IsHostCause result (side_of P.Streams live.old) (side_of P.Streams live.new) }
     ensures faults { CountsFault (end_fault result) (its.view live.old) (its.view live.new) }
     ensures sound { result ≢ End.DiskFault → (its.view live.new).fit }
 {

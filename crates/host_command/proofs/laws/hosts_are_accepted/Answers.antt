@@ -1,9 +1,9 @@
 use Rattle.live_command.proofs.Drawing.{Laws}
-use Rattle.host_command.proofs.Drawing.{Requests, hosts_accepted}
+use Rattle.host_command.proofs.Drawing.{Requests, Steps, hosts_accepted}
 use Rattle.host_command.proofs.laws.hosts_are_accepted.Goals as goal
 
 requests : goal.After-clients_draw_pushes → Requests
-requests c = record { draws = c.clients_draw_requests.ensures.draws; accepts = c.clients_draw_requests.ensures.accepts }
+requests c = record { draws = c.clients_draw_requests.ensures.draws; accepts = c.clients_draw_requests.ensures.accepts; order = c.points_are_the_samples.ensures.order }
 
 laws : goal.After-clients_draw_pushes → Laws
 laws c = record {
@@ -15,5 +15,8 @@ laws c = record {
   push_book = c.clients_draw_pushes.ensures.book;
 }
 
+steps : goal.After-clients_draw_pushes → Steps
+steps c = record { draws = c.clients_pass_sweeps.ensures.draws; accepts = c.clients_pass_sweeps.ensures.accepts }
+
 pub returns : goal.returns
-returns c = hosts_accepted (requests c) (laws c)
+returns c = hosts_accepted (requests c) (laws c) (steps c)

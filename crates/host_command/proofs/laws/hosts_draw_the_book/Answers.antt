@@ -1,9 +1,9 @@
 use Rattle.live_command.proofs.Drawing.{Laws, Following}
-use Rattle.host_command.proofs.Drawing.{Groups, Requests, hosts_drawn}
+use Rattle.host_command.proofs.Drawing.{Groups, Requests, Steps, hosts_drawn}
 use Rattle.host_command.proofs.laws.hosts_draw_the_book.Goals as goal
 
 requests : goal.After-pushes_show_views → Requests
-requests c = record { draws = c.clients_draw_requests.ensures.draws; accepts = c.clients_draw_requests.ensures.accepts }
+requests c = record { draws = c.clients_draw_requests.ensures.draws; accepts = c.clients_draw_requests.ensures.accepts; order = c.points_are_the_samples.ensures.order }
 
 laws : goal.After-pushes_show_views → Laws
 laws c = record {
@@ -23,7 +23,10 @@ following c = record {
 }
 
 groups : goal.After-pushes_show_views → Groups
-groups c = record { well = c.followed_sessions_can_follow.ensures.groups }
+groups c = record { well = c.followed_sessions_can_follow.ensures.groups; steps_well = c.sweeps_keep_following.ensures }
+
+steps : goal.After-pushes_show_views → Steps
+steps c = record { draws = c.clients_pass_sweeps.ensures.draws; accepts = c.clients_pass_sweeps.ensures.accepts }
 
 pub returns : goal.returns
-returns c = hosts_drawn (requests c) (laws c) (following c) (groups c)
+returns c = hosts_drawn (requests c) (laws c) (following c) (groups c) (steps c)

@@ -4,6 +4,7 @@ use Rattle.chart_service.specs.Syncing.{edits_of}
 use Rattle.hosted_lines.specs.Doing.{held_by, held_with}
 use Rattle.hosted_lines.specs.Shown.{pages}
 use Rattle.hosted_lines.proofs.HostLemmas.{fails_wide, host_then, live_does}
+use Rattle.hosted_lines.proofs.RowLemmas.{passed_line}
 use Rattle.hosted_lines.proofs.WorkLemmas.{no_edits}
 use Rattle.hosted_lines.proofs.keeping.answer_other.Goals as goal
 
@@ -23,7 +24,7 @@ returns-in-Ok-clause-does g c = λ lines spell total book told stands sound.
     let same : (view (pages new)).syncs ≡ (view (pages mid)).syncs = omega (arith, e.syncs, e.rises, ap length none) in
     host_then lines more total (held_with total book (held_by old)) (held_by mid) (held_by new) (view (pages old)) (view (pages mid)) (view (pages new)) (sent (pages old)) (sent (pages mid)) (sent (pages new)) first.done
     (w.counts_sent (pages old)) (w.counts_sent (pages mid)) first.moments c.answer_line.result
-    (live_does more total (held_with total first.done.book (held_by mid)) c.answer_line.result (view (pages mid)) (view (pages new)) (held_by new) (sent (pages mid)) (sent (pages new)) same second)
+    (live_does more (passed_line c.args.line.now c.requires.passed) total (held_with total first.done.book (held_by mid)) c.answer_line.result (view (pages mid)) (view (pages new)) (held_by new) (sent (pages mid)) (sent (pages new)) same second)
 
 pub returns-in-Err-clause-does : goal.returns-in-Err-clause-does
 returns-in-Err-clause-does g c = λ lines spell total book told stands sound.

@@ -17,7 +17,7 @@ returns-in-Ok-clause-does g c = λ lines spell total book told stands sound.
     let second = e.does total first.done.book (c.in-Ok.ensures.goes.is_told told) first.done.stands first.done.sound in
     host_then lines (None ∷ []) total (held_with total book (held_by old)) (held_by mid) (held_by new) (view (pages old)) (view (pages mid)) (view (pages new)) (sent (pages old)) (sent (pages mid)) (sent (pages new)) first.done
     (w.counts_sent (pages old)) (w.counts_sent (pages mid)) first.moments c.refuse_line.result
-    (live_does (None ∷ []) total (held_with total first.done.book (held_by mid)) c.refuse_line.result (view (pages mid)) (view (pages new)) (held_by new) (sent (pages mid)) (sent (pages new)) e.syncs second)
+    (live_does (None ∷ []) (tt, tt) total (held_with total first.done.book (held_by mid)) c.refuse_line.result (view (pages mid)) (view (pages new)) (held_by new) (sent (pages mid)) (sent (pages new)) e.syncs second)
 
 pub returns-in-Err-clause-does : goal.returns-in-Err-clause-does
 returns-in-Err-clause-does g c = λ lines spell total book told stands sound.

@@ -9,7 +9,8 @@ use Rattle.live_service.specs.Shown as its
 use Rattle.run_ends.specs.Faults.{end_fault}
 use Rattle.run_ends.specs.declared.ending.End.{End}
 use Rattle.run_ends.specs.declared.ending.End.TheVariants.{Done, DiskFault, InputTooLong}
-use Rattle.hosted_lines.specs.Doing.{IsCause, held_by, side_of}
+use Rattle.hosted_lines.specs.Doing.{held_by, side_of}
+use Rattle.hosted_lines.specs.HostCauses.{IsHostCause}
 use Rattle.hosted_lines.specs.Served.{EndsOn}
 use Rattle.hosted_lines.specs.Shown.{pages}
 use Rattle.hosted_lines.specs.Working.{CausesEnd, IsHosted}
@@ -120,11 +121,11 @@ returns-clause-cause g c =
     let old = c.args.live.now in
     let new = c.run_lines-answer.new.from in
     let e = c.run_lines-answer.ensures in
-    let C : End → Type 0 = λ end. end ≢ Done → IsCause end (side old) (side new) in
+    let C : End → Type 0 = λ end. end ≢ Done → IsHostCause end (side old) (side new) in
     subst C (sym c.run_end.ensures)
     (end_cause (λ s. its.view s) (λ s. g.P.Streams.read_faults (pages s)) (λ s. w.beside_read_faults (pages s))
-    (λ end s s'. IsCause end (side s) (side s')) old new c.run_lines-answer.result (λ risen. risen) tt e.faults
-    (causes_so (λ end s s'. CausesEnd end (side s) (side s')) (λ end s s'. IsCause end (side s) (side s')) old new
+    (λ end s s'. IsHostCause end (side s) (side s')) old new c.run_lines-answer.result (λ risen. risen) tt e.faults
+    (causes_so (λ end s s'. CausesEnd end (side s) (side s')) (λ end s s'. IsHostCause end (side s) (side s')) old new
     c.run_lines-answer.result (λ end is. is.cause) e.cause))
 
 pub returns-clause-faults : goal.returns-clause-faults

@@ -28,4 +28,4 @@ returns-in-Ok-clause-does g c = λ lines spell total book told stands sound.
     lines_so _ lines total (held_with total book (held_by old)) c.send_pushes.result (view (pages old)) (view (pages new)) (held_by new) (sent (pages old)) (sent (pages new)) (append-nil lines)
     (host_then lines [] total (held_with total book (held_by old)) (held_by mid) (held_by new) (view (pages old)) (view (pages mid)) (view (pages new)) (sent (pages old)) (sent (pages mid)) (sent (pages new)) first.done
     (w.counts_sent (pages old)) (w.counts_sent (pages mid)) first.moments c.send_pushes.result
-    (live_does [] total (held_with total first.done.book (held_by mid)) c.send_pushes.result (view (pages mid)) (view (pages new)) (held_by new) (sent (pages mid)) (sent (pages new)) c.send_pushes.ensures.syncs second))
+    (live_does [] tt total (held_with total first.done.book (held_by mid)) c.send_pushes.result (view (pages mid)) (view (pages new)) (held_by new) (sent (pages mid)) (sent (pages new)) c.send_pushes.ensures.syncs second))

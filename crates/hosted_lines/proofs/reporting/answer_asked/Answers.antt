@@ -1,0 +1,27 @@
+use Rattle.std.proofs.Common.{[], ◌∷◌, Some}
+use Rattle.hosted_lines.specs.Doing.{held_by, held_with}
+use Rattle.hosted_lines.specs.Shown.{pages}
+use Rattle.hosted_lines.proofs.HostLemmas.{fails_wide, host_then}
+use Rattle.hosted_lines.proofs.reporting.answer_asked.Goals as goal
+
+pub returns-in-Ok-clause-does : goal.returns-in-Ok-clause-does
+returns-in-Ok-clause-does g c = λ line asks lines spell total book told stands sound.
+    let view = g.P.Pages.view in
+    let sent = g.P.Streams.sent in
+    let w = g.met.P.PageWorld in
+    let old = c.args.live.now in
+    let mid = c.settle.new.live in
+    let new = c.send_report.new.live in
+    let first = c.in-Ok.ensures.does lines spell total book told stands sound in
+    let second = c.send_report.ensures.does line asks total first.done.book (c.in-Ok.ensures.goes.is_told told) first.done.stands first.done.sound in
+    host_then lines (Some line ∷ []) total (held_with total book (held_by old)) (held_by mid) (held_by new) (view (pages old)) (view (pages mid)) (view (pages new)) (sent (pages old)) (sent (pages mid)) (sent (pages new)) first.done
+    (w.counts_sent (pages old)) (w.counts_sent (pages mid)) first.moments c.send_report.result second
+
+pub returns-in-Err-clause-does : goal.returns-in-Err-clause-does
+returns-in-Err-clause-does g c = λ line asks lines spell total book told stands sound.
+    let view = g.P.Pages.view in
+    let sent = g.P.Streams.sent in
+    let old = c.args.live.now in
+    let new = c.settle.new.live in
+    fails_wide lines (Some line ∷ []) total (held_with total book (held_by old)) c.in-Err.end (view (pages old)) (view (pages new)) (held_by new) (sent (pages old)) (sent (pages new))
+    (c.in-Err.ensures.does lines spell total book told stands sound)

@@ -1,0 +1,20 @@
+use Rattle.std.proofs.Common.{[], ◌∷◌, Some}
+use Rattle.std.proofs.lemmas.List.{append-nil}
+use Rattle.hosted_lines.specs.Doing.{held_by, held_with}
+use Rattle.hosted_lines.specs.Shown.{pages}
+use Rattle.hosted_lines.proofs.HostLemmas.{host_then, live_does, lines_so}
+use Rattle.hosted_lines.proofs.sweeping.do_step.Goals as goal
+
+pub returns-in-Ok-clause-does : goal.returns-in-Ok-clause-does
+returns-in-Ok-clause-does g c = λ line asks total book told stands sound.
+    let view = g.P.Pages.view in
+    let sent = g.P.Streams.sent in
+    let w = g.met.P.PageWorld in
+    let old = c.args.live.now in
+    let mid = c.send_step.new.live in
+    let new = c.send_pushes.new.live in
+    let first = c.in-Ok.ensures.does line asks total book told stands sound in
+    let second = c.send_pushes.ensures.does total first.done.book (c.in-Ok.ensures.goes.is_told told) first.done.stands first.done.sound in
+    host_then (Some line ∷ []) [] total (held_with total book (held_by old)) (held_by mid) (held_by new) (view (pages old)) (view (pages mid)) (view (pages new)) (sent (pages old)) (sent (pages mid)) (sent (pages new)) first.done
+    (w.counts_sent (pages old)) (w.counts_sent (pages mid)) first.moments c.send_pushes.result
+    (live_does [] tt total (held_with total first.done.book (held_by mid)) c.send_pushes.result (view (pages mid)) (view (pages new)) (held_by new) (sent (pages mid)) (sent (pages new)) c.send_pushes.ensures.syncs second)

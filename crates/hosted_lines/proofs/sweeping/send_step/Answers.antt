@@ -1,0 +1,65 @@
+use Rattle.std.proofs.Common.{◌≡◌, ◌∙◌, length, ap, sym}
+use Rattle.block_disk.specs.View.{Beside}
+use Rattle.chart_frames.specs.Frames.{spelling}
+use Rattle.chart_world.specs.FaultLaws.{counts_then}
+use Rattle.chart_world.specs.Faults.{fault_in}
+use Rattle.gate_pages.proofs.Moving.{sent_same}
+use Rattle.run_ends.specs.Faults.{end_fault}
+use Rattle.hosted_lines.specs.Doing.{held_by, held_with}
+use Rattle.hosted_lines.specs.GoesLaws.{held_same}
+use Rattle.hosted_lines.specs.Shown.{pages}
+use Rattle.hosted_lines.proofs.FaultLemmas.{unmade_counts}
+use Rattle.hosted_lines.proofs.SweepLemmas.{step_costs, step_sends, step_unmade}
+use Rattle.hosted_lines.proofs.sweeping.send_step.Goals as goal
+
+pub returns-in-Ok-clause-does : goal.returns-in-Ok-clause-does
+returns-in-Ok-clause-does g c = λ line asks total book told stands sound.
+    let view = g.P.Pages.view in
+    let sent = g.P.Streams.sent in
+    let w = g.met.P.PageWorld in
+    let old = c.args.live.now in
+    let mid = c.sweep_step.new.live in
+    let new = c.send_frame.new.live in
+    let at = pages old in
+    let between = pages mid in
+    let at' = pages new in
+    let frame = c.in-Ok.frame in
+    let rule = c.args.rule.now in
+    let e = c.in-Ok.ensures in
+    let made = c.send_frame.ensures in
+    let n = length (spelling frame) in
+    let sends = made.beside.changed.store_is.pages_are in
+    let reply = e.reply total book told stands in
+    let passes = e.moments total book told stands in
+    step_sends line rule asks total book (held_by old) c.requires.idle frame (held_by mid) (held_by new) (held_same _ _ _ _ _ _ made.beside.changed.sessions made.beside.followed_same made.beside.pending_same) reply.book reply.so
+    (view at) (view between) (view at') (sent at) (sent between) (sent at') reply.stands passes (sent_same (view at) (view between) _ passes)
+    (sym (w.beside_sent between) ∙ ap (λ (b : Beside). b.sent) e.carries.beside ∙ w.beside_sent at)
+    (step_costs line rule asks total book (held_by old) c.requires.idle (view at) (view between) e.reads (e.commits total book told stands))
+    (w.send_keeps n between at' sends) c.send_frame.result made.whole made.stops (g.met.P.Pages.rests between (e.sound (λ is. cc))) (w.send_passes n between at' sends) (w.send_counts n between at' sends)
+
+pub returns-in-Err-clause-does : goal.returns-in-Err-clause-does
+returns-in-Err-clause-does g c = λ line asks total book told stands sound.
+    let view = g.P.Pages.view in
+    let sent = g.P.Streams.sent in
+    let w = g.met.P.PageWorld in
+    let old = c.args.live.now in
+    let mid = c.sweep_step.new.live in
+    let at = pages old in
+    let between = pages mid in
+    let rule = c.args.rule.now in
+    let e = c.in-Err.ensures in
+    step_unmade line rule asks total book (held_by old) c.requires.idle c.in-Err.error c.step_end.result (held_by mid) (view at) (view between) (sent at) (sent between) c.step_end.ensures (e.standing total book told stands)
+    (λ other. e.left total book told stands (λ is. other (cc)))
+    (sym (w.beside_sent between) ∙ ap (λ (b : Beside). b.sent) e.carries.beside ∙ w.beside_sent at)
+    (e.moments total book told stands)
+    (step_costs line rule asks total book (held_by old) c.requires.idle (view at) (view between) e.reads (e.commits total book told stands))
+
+pub returns-in-Ok-clause-faults : goal.returns-in-Ok-clause-faults
+returns-in-Ok-clause-faults g c =
+    let view = g.P.Pages.view in
+    counts_then (fault_in end_fault c.send_frame.result) (view (pages c.args.live.now)) (view (pages c.sweep_step.new.live)) (view (pages c.send_frame.new.live)) c.in-Ok.ensures.faults c.send_frame.ensures.faults
+
+pub returns-in-Err-clause-faults : goal.returns-in-Err-clause-faults
+returns-in-Err-clause-faults g c =
+    let view = g.P.Pages.view in
+    unmade_counts c.in-Err.error c.step_end.result (view (pages c.args.live.now)) (view (pages c.sweep_step.new.live)) c.step_end.ensures c.in-Err.ensures.faults
