@@ -1,5 +1,5 @@
 -- What reads of a store come to.
-use Rattle.std.proofs.Common.{◌≡◌, ◌≢◌, ◌⊎◌, ◌↔◌, ℕ, zero, suc, ℤ, ◌+◌, ◌*◌, ◌<◌, ◌≤◌, false, IsTrue, List, Option, None, Some, Result, Ok, Err, IfOk, refl, sym, ap, subst, arith, inl, inr, ◌∙◌}
+use Rattle.std.proofs.Common.{◌≡◌, ◌≢◌, ◌⊎◌, ◌↔◌, ℕ, zero, suc, ℤ, ◌+◌, ◌*◌, ◌<◌, ◌≤◌, false, IsTrue, List, Option, None, Some, Result, Ok, Err, IfErr, IfOk, refl, sym, ap, subst, arith, inl, inr, ◌∙◌}
 use Rattle.std.specs.Prelude.{slice_get}
 use Rattle.std.specs.Result.{is_err}
 use Rattle.block_disk.specs.View.{Image, View}
@@ -92,10 +92,14 @@ module _ (told told' : Type 0) (old new under under' : View) (s s' : Superblock)
   values_cause name t0 t1 id store.NoMemory names cause = tt
 
   -- why a sum wasn't
-  pub sum_cause : (session : ℕ) (request : Request) (e : ServiceError) → s.total ≤ old.size → IsSumCause e told' s.total old new → IsReportCause (Sum session request) e told' old new
+  sum_cause : (session : ℕ) (request : Request) (e : ServiceError) → s.total ≤ old.size → IsSumCause e told' s.total old new → IsReportCause (Sum session request) e told' old new
   sum_cause session request DiskFault within cause = cause
   sum_cause session request (Damaged page) within cause = (omega (arith, cause.0, within, looks.size), cause.1)
   sum_cause session request NoMemory within cause = tt
+
+  pub sum_why : (session : ℕ) (request : Request) (r : Result Frame ServiceError) → s.total ≤ old.size → IfErr r (λ e. IsSumCause e told' s.total old new) → IfErr r (λ e. IsReportCause (Sum session request) e told' old new)
+  sum_why session request (Ok frame) within cause = tt
+  sum_why session request (Err e) within cause = sum_cause session request e within cause
 
 -- no error of a read is a fault but that of the disk, for which the count has risen
 pub read_faults : (told : Type 0) (s : Superblock) (id : ℕ) (e : StoreError) (old new : View) → new.beside ≡ old.beside → (e ≢ store.DiskFault → new.faults ≡ old.faults) → IsWindowCause e told s id old new → CountsFault (step_fault (read_error e)) old new
@@ -113,18 +117,21 @@ read_outside e (inr memory) = inr (ap read_error memory)
 -- ---- values
 
 -- the series of a name is at its id
+pub found_there : (name : List ℕ) (book : List Series) (id : ℕ) → id_of name book ≡ Some id → (series : Series) × (slice_get book id ≡ Some series)
+found_there name book id found = elim (named_or name book) [
+  | inl none ↦ (let never : Some id ≡ None = sym found ∙ none in cc)
+  | inr named ↦ (
+  let same : Some named.1.id ≡ Some id = sym named.1.id_is ∙ found in
+  let N : ℕ → Type 0 = λ n. slice_get book n ≡ Some named.0 in
+  (named.0, subst N (some_same named.1.id id same) named.1.there))
+]
+
 pub values_told : (name : List ℕ) (t0 t1 : ℤ) (total : ℕ) (book : List Series) (id : ℕ) (frame : Frame) → id_of name book ≡ Some id → ((series : Series) → slice_get book id ≡ Some series → TellsValues (Some series) id t0 t1 frame) → Tells (Values name t0 t1) total book frame
 values_told name t0 t1 total book id frame found tells =
     let O : Option ℕ → Type 0 = λ o. TellsValuesOf o book t0 t1 frame in
-    subst O (sym found) (elim (named_or name book) [
-      | inl none ↦ (let never : Some id ≡ None = sym found ∙ none in cc)
-      | inr named ↦ (
-      let same : Some named.1.id ≡ Some id = sym named.1.id_is ∙ found in
-      let N : ℕ → Type 0 = λ n. slice_get book n ≡ Some named.0 in
-      let there : slice_get book id ≡ Some named.0 = subst N (some_same named.1.id id same) named.1.there in
-      let S : Option Series → Type 0 = λ o. TellsValues o id t0 t1 frame in
-      subst S (sym there) (tells named.0 there))
-    ])
+    let S : Option Series → Type 0 = λ o. TellsValues o id t0 t1 frame in
+    let it = found_there name book id found in
+    subst O (sym found) (subst S (sym it.1) (tells it.0 it.1))
 
 -- ---- windows
 
@@ -136,7 +143,7 @@ window_good (Ok g) t0 t1 shown same =
 window_good (Err e) t0 t1 shown same = cc
 
 pub window_bad : (r : Result Grid GridError) (t0 t1 : ℤ) → ((r ≡ Err grid.BadWindow) ↔ IsBadWindow t0 t1) → ((r ≡ Err grid.BadCanvas) ↔ (IsWindow t0 t1 × (IsBadSide 1 ⊎ IsBadSide 1))) → IsTrue (is_err r) → IsBadWindow t0 t1
-window_bad (Ok g) t0 t1 window canvas is = absurd is
+window_bad (Ok g) t0 t1 window canvas is = cc
 window_bad (Err grid.BadWindow) t0 t1 window canvas is = window.0 refl
 window_bad (Err grid.BadCanvas) t0 t1 window canvas is = elim (canvas.0 refl).1 [
   | inl side ↦ elim side [ inl low ↦ absurd (omega (arith, low)) | inr high ↦ absurd (omega (arith, high)) ]

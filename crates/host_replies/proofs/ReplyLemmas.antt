@@ -23,22 +23,43 @@ refuses_none : (number a b : ℕ) (ss : List Session) → OpensBy (Refused numbe
 refuses_none number a b ss = record { named = tt; after = λ n. refl }
 
 catalog_opens : (frame : Frame) (ss : List Session) → IsCatalog frame → OpensBy frame ss ss
+catalog_opens (Done slots) ss is = absurd is
+catalog_opens (Refused number a b) ss is = absurd is
+catalog_opens (Opened session cache) ss is = absurd is
+catalog_opens (Closed session) ss is = absurd is
+catalog_opens (View view) ss is = absurd is
+catalog_opens (Rows rows) ss is = absurd is
+catalog_opens (Live session on) ss is = absurd is
 catalog_opens (Report report) ss is = record { named = tt; after = λ n. refl }
 
 values_open : (frame : Frame) (ss : List Session) → MayTellValues frame → OpensBy frame ss ss
+values_open (Done slots) ss is = absurd is
 values_open (Refused number a b) ss is = refuses_none number a b ss
+values_open (Opened session cache) ss is = absurd is
+values_open (Closed session) ss is = absurd is
+values_open (View view) ss is = absurd is
+values_open (Rows rows) ss is = absurd is
+values_open (Live session on) ss is = absurd is
 values_open (Report report) ss is = record { named = tt; after = λ n. refl }
 
+in_open : (session number : ℕ) (ss : List Session) → is_open session ss ≡ true → number ≡ session → IsTrue (is_open number ss)
+in_open session number ss there is = let P : ℕ → Type 0 = λ n. IsTrue (is_open n ss) in subst P (sym is) there
+
 shows_open : (session : ℕ) (frame : Frame) (ss : List Session) → is_open session ss ≡ true → MayShow session frame → OpensBy frame ss ss
+shows_open session (Done slots) ss there is = absurd is
 shows_open session (Refused number a b) ss there is = refuses_none number a b ss
-shows_open session (View view) ss there is =
-    let P : ℕ → Type 0 = λ n. IsTrue (is_open n ss) in record { named = subst P (sym is) (subst IsTrue (sym there) tt); after = λ n. refl }
-shows_open session (Rows rows) ss there is =
-    let P : ℕ → Type 0 = λ n. IsTrue (is_open n ss) in record { named = subst P (sym is) (subst IsTrue (sym there) tt); after = λ n. refl }
+shows_open session (Opened number cache) ss there is = absurd is
+shows_open session (Closed number) ss there is = absurd is
+shows_open session (View view) ss there is = record { named = in_open session view.session ss there is; after = λ n. refl }
+shows_open session (Rows rows) ss there is = record { named = in_open session rows.session ss there is; after = λ n. refl }
+shows_open session (Live number on) ss there is = absurd is
+shows_open session (Report report) ss there is = absurd is
 
 -- a reply names an open session, if it names one, and opens and closes none
 pub report_opens : (asked : HostLine) (frame : Frame) (ss : List Session) → has_session asked ss ≡ true → MayReport asked frame → OpensBy frame ss ss
 report_opens ListLine frame ss there may = catalog_opens frame ss may
 report_opens (Values name t0 t1) frame ss there may = values_open frame ss may
 report_opens (Sum session request) frame ss there may = shows_open session frame ss there may
+report_opens (Sweep rule) frame ss there may = absurd may
 report_opens (Bad at) frame ss there may = let P : Frame → Type 0 = λ f. OpensBy f ss ss in subst P (sym may) (refuses_none 2 at 0 ss)
+report_opens Other frame ss there may = absurd may
