@@ -1,5 +1,5 @@
 -- The clears of a step are edits, and how steps go on.
-use Rattle.std.proofs.Common.{◌≡◌, ◌∙◌, ◌+◌, ◌-◌, ◌<◌, ◌≤◌, ◌^◌, ℕ, zero, suc, true, false, cond, List, [], length, drop, Option, None, Some, sym, ap, subst, arith}
+use Rattle.std.proofs.Common.{◌≡◌, ◌∙◌, ◌+◌, ◌-◌, ◌<◌, ◌≤◌, ◌^◌, ℕ, zero, suc, true, false, cond, List, [], length, drop, Option, None, Some, ap, arith}
 use Rattle.std.specs.Prelude.{ℤ, All, filter, nat_le}
 use Rattle.std.specs.List.{range_with_len}
 use Rattle.std.proofs.lemmas.List.Elements.{All-cons, All-map, All-nil, All-take}
@@ -22,7 +22,6 @@ use Rattle.series_book.specs.Books.{IsBook, IsNamed}
 use Rattle.series_book.specs.EditLists.{book_behind}
 use Rattle.series_book.specs.Edits.{IsEdit, apply}
 use Rattle.series_book.specs.Pages.{pages_of}
-use Rattle.stored_book.specs.Standing.{StandsForBook}
 
 -- ---- each clear of a rule is a clear
 

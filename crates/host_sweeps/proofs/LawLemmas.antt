@@ -1,9 +1,7 @@
 -- The laws of steps of a sweep.
-use Rattle.std.proofs.Common.{◌≡◌, ◌≢◌, ◌∙◌, ◌+◌, ◌<◌, ◌≤◌, ◌^◌, ℕ, zero, suc, Bool, true, false, List, [], ◌∷◌, length, take, drop, map, Option, None, Some, refl, sym, ap, subst, inl, inr, arith}
-use Rattle.std.specs.Prelude.{All, filter, nat_lt, nat_le, ⊤, if◌then◌else◌}
-use Rattle.std.proofs.lemmas.List.{take_all}
-use Rattle.std.proofs.lemmas.List.Elements.{All-take, All-filter}
-use Rattle.block_disk.specs.View.{Image}
+use Rattle.std.proofs.Common.{◌≡◌, ◌∙◌, ℕ, zero, suc, List, [], length, map, Option, None, Some, refl, sym, ap, subst, inl, inr, arith}
+use Rattle.std.specs.Prelude.{All, ⊤}
+use Rattle.std.proofs.lemmas.List.Elements.{All-filter}
 use Rattle.chart_client.specs.Accepting.{Rejects}
 use Rattle.chart_client.specs.declared.errors.ClientError.TheVariants.{Missing, BadCoefficient, UnknownSession, NoMemory}
 use Rattle.chart_client.specs.declared.holding.Holding.{Holding}
@@ -11,20 +9,16 @@ use Rattle.chart_frames.specs.declared.frame.Frame.{Frame}
 use Rattle.chart_frames.specs.declared.frame.Frame.TheVariants.{Done, Refused, Opened, Closed, View as ViewOf, Rows, Live as LiveOf, Report}
 use Rattle.chart_frames.specs.declared.frame.ViewFrame.{ViewFrame}
 use Rattle.chart_frames.specs.declared.reports.Report.{Report as OneReport}
-use Rattle.chart_service.proofs.Together.{some_replied}
-use Rattle.chart_service.specs.State.{State, IsSound}
+use Rattle.chart_service.specs.State.{State}
 use Rattle.drawn_replies.specs.Mirrors.{DrawsTheBook, Mirrors, OnlyLacksMemory, mirrored}
-use Rattle.host_sweeps.specs.Sweeping.{DoesStep, RefusesStep, SweepReplied, SweepsSome, most_clears, pushed_behind, step_clears, stepped, swept_followers, swept_frame}
+use Rattle.host_sweeps.specs.Sweeping.{DoesStep, RefusesStep, SweepReplied, pushed_behind, step_clears, swept_followers}
 use Rattle.live_service.specs.Following.{CanFollow, FollowsWell}
 use Rattle.live_service.specs.LiveReplies.{LiveState}
 use Rattle.live_view.specs.Replies.{followers, shows}
 use Rattle.live_view.specs.Sessions.{has_view}
 use Rattle.retention.specs.declared.rule.Rule.{Rule}
 use Rattle.retention.specs.declared.rule.Rule.TheVariants.{Before, Last, Free}
-use Rattle.retention.specs.Drops.{book_stepped, book_swept}
-use Rattle.retention.specs.Sweeps.{NamesNone, sweeps, sweeps_some}
 use Rattle.series_book.specs.declared.one_series.Series.{Series}
-use Rattle.series_book.specs.Books.{IsBook}
 use Rattle.series_book.specs.Edits.{id_of}
 use Rattle.zoom_session.specs.Sessions.{last_of, session_of}
 use Rattle.zoom_session.specs.declared.session.Session.{Session}

@@ -1,5 +1,6 @@
 -- To whom a frame is pushed behind the clears of a rule.
-use Rattle.std.proofs.Common.{◌≡◌, ◌∙◌, ◌≤◌, ◌<◌, ℕ, zero, suc, List, [], Option, refl, sym, ap, subst, arith}
+use Rattle.std.proofs.Common.{◌≡◌, ◌∙◌, ◌≤◌, ℕ, zero, suc, List, Option, Result, Ok, Err, refl, sym, ap, arith}
+use Rattle.std.specs.Prelude.{OnOk}
 use Rattle.block_disk.specs.declared.streams.Streams.{Ghosts as StreamGhosts}
 use Rattle.chart_service.specs.Shown as shown
 use Rattle.chart_service.specs.declared.failure.ServiceError.{ServiceError}
@@ -9,11 +10,10 @@ use Rattle.host_sweeps.specs.Sweeping.{pushed_behind, swept_followers}
 use Rattle.live_service.specs.declared.stepper.ServiceStepper.{ServiceStepper}
 use Rattle.live_view.specs.Live as live
 use Rattle.live_view.specs.Replies.{followers}
-use Rattle.live_view.specs.Sessions.{viewed_among}
 use Rattle.live_view.specs.declared.live.Live.{Live}
 use Rattle.live_view.specs.declared.stepper.Stepper.{Ghosts as StepperGhosts}
 use Rattle.retention.specs.declared.rule.Rule.{Rule}
-use Rattle.retention.specs.declared.rule.Rule.TheVariants.{Before, Last, Free}
+use Rattle.retention.specs.declared.rule.Rule.TheVariants.{Before, Last}
 use Rattle.series_book.specs.declared.one_series.Series.{Series}
 use Rattle.series_book.specs.Edits.{id_of}
 use Rattle.zoom_session.specs.declared.session.Session.{Session}
@@ -38,16 +38,12 @@ pub behind_some : (clears : ℕ) (ns : List ℕ) → 1 ≤ clears → pushed_beh
 behind_some zero ns some = absurd (omega (arith, some))
 behind_some (suc n) ns some = refl
 
-module _ {P : Type 0} {g : Ghosts P} {h : StepperGhosts (ServiceStepper P g) ServiceError} {streams : StreamGhosts (ServiceStepper P g)} where
-  -- behind no clear
-  pub behind_none : (rule : Rule) (clears : ℕ) (it : Live (ServiceStepper P g) ServiceError h streams) → clears ≡ 0 → live.IsIdle it → PushesBehind rule clears it it
-  behind_none rule clears it none idle = record {
-    stepper = refl;
-    followed_same = refl;
-    pending_now = λ total book fit told stands.
-        idle ∙ ap (λ n. pushed_behind n (swept_followers rule book it.stepper.service.sessions it.followed.items)) (sym none);
-  }
+-- a call that was done
+pub on_ok_so : {E : Type 0} (r : Result (Unit {0}) E) (A B : Type 0) → (A → B) → OnOk r A → OnOk r B
+on_ok_so (Ok x) A B more so = more so
+on_ok_so (Err e) A B more so = tt
 
+module _ {P : Type 0} {g : Ghosts P} {h : StepperGhosts (ServiceStepper P g) ServiceError} {streams : StreamGhosts (ServiceStepper P g)} where
   -- behind clears of a series of a name
   pub behind_named : MeansNames h → (rule : Rule) (name : List ℕ) (clears : ℕ) (old new : Live (ServiceStepper P g) ServiceError h streams) → Follows rule name → 1 ≤ clears → live.PushesTo name old new → PushesBehind rule clears old new
   behind_named m rule name clears old new names some pushes = record {
@@ -60,19 +56,5 @@ module _ {P : Type 0} {g : Ghosts P} {h : StepperGhosts (ServiceStepper P g) Ser
         ∙ ap (λ (o : Option ℕ). followers o (h.sessions new.stepper) ns) (m.names new.stepper name pushes.series pushes.named total book fit told stands)
         ∙ ap (λ (l : List Session). followers (id_of name book) l ns) (m.sessions new.stepper)
         ∙ sym (names book ss ns)
-        ∙ sym (behind_some clears (swept_followers rule book ss ns) some);
-  }
-
-  -- and of any series
-  pub behind_any : MeansNames h → (rule : Rule) (pages clears : ℕ) (old new : Live (ServiceStepper P g) ServiceError h streams) → rule ≡ Free pages → 1 ≤ clears → live.PushesToAll old new → PushesBehind rule clears old new
-  behind_any m rule pages clears old new is some pushes = record {
-    stepper = pushes.stepper;
-    followed_same = pushes.followed_same;
-    pending_now = λ total book fit told stands.
-        let ss = new.stepper.service.sessions in
-        let ns = old.followed.items in
-        pushes.pending_now
-        ∙ ap (λ (l : List Session). viewed_among l ns) (m.sessions new.stepper)
-        ∙ sym (ap (λ (r : Rule). swept_followers r book ss ns) is)
         ∙ sym (behind_some clears (swept_followers rule book ss ns) some);
   }

@@ -1,5 +1,5 @@
 -- A step over a plain book, and what a live service says of it.
-use Rattle.std.proofs.Common.{◌≡◌, ◌≢◌, ◌∙◌, ◌≤◌, ◌+◌, ℕ, Bool, List, [], length, Result, Ok, Err, refl, sym, ap, subst, inl, inr, arith}
+use Rattle.std.proofs.Common.{◌≡◌, ◌≢◌, ◌∙◌, ◌≤◌, ◌+◌, ℕ, Bool, List, length, Result, Ok, Err, refl, sym, ap, subst, inl, inr, arith}
 use Rattle.std.specs.Prelude.{IfErr, IfOk}
 use Rattle.std.proofs.lemmas.List.{take_all}
 use Rattle.block_disk.specs.Counts.{HasRisen}
@@ -10,18 +10,14 @@ use Rattle.chart_frames.specs.declared.frame.Frame.{Frame}
 use Rattle.chart_frames.specs.declared.frame.Frame.TheVariants.{Report}
 use Rattle.chart_frames.specs.declared.reports.Report.TheVariants.{Swept}
 use Rattle.chart_service.specs.Faulting.{step_fault}
-use Rattle.chart_service.specs.Replies.{refused}
 use Rattle.chart_service.specs.Shown as shown
-use Rattle.chart_service.specs.State.{IsSound, State}
 use Rattle.chart_service.specs.Stepping.{IsBadPage, IsOutside, NamesBad, state_of}
 use Rattle.chart_service.specs.declared.failure.ServiceError.{ServiceError}
 use Rattle.chart_service.specs.declared.failure.ServiceError.TheVariants as step
-use Rattle.chart_service.specs.declared.service.Service.{Service}
 use Rattle.chart_world.specs.Faults.{CountsFault, fault_in}
 use Rattle.gate_pages.specs.declared.pages.Pages.{Ghosts}
 use Rattle.host_sweeps.specs.Steps.{PushesBehind, StepsService, error_reply, frame_of}
-use Rattle.host_sweeps.specs.Sweeping.{DoesStep, RefusesStep, SweepReplied, SweepsSome, TellsStep, most_clears, pushed_behind, step_clears, step_reads, stepped, swept_followers, swept_frame}
-use Rattle.live_service.specs.LiveReplies.{LiveState}
+use Rattle.host_sweeps.specs.Sweeping.{SweepReplied, SweepsSome, TellsStep, most_clears, pushed_behind, step_clears, step_reads, swept_followers}
 use Rattle.live_service.specs.Shown as its
 use Rattle.live_service.specs.Shown.{live_of}
 use Rattle.live_service.specs.declared.stepper.ServiceStepper.{ServiceStepper}
@@ -34,13 +30,13 @@ use Rattle.retention.specs.declared.sweep_error.SweepError.TheVariants as sweep
 use Rattle.retention.specs.declared.swept.SweptSome.{SweptSome}
 use Rattle.retention.specs.Drops.{book_stepped}
 use Rattle.retention.specs.Moving.{CarriesOn, CommitsFew}
-use Rattle.retention.specs.Sweeping.{IsAfterFirst, IsSweptSome, StopsSomeSo}
-use Rattle.retention.specs.Sweeps.{NamesNone, sweeps, sweeps_some}
+use Rattle.retention.specs.Sweeping.{IsAfterFirst}
+use Rattle.retention.specs.Sweeps.{sweeps_some}
 use Rattle.series_book.specs.declared.edits.Edit.{Edit}
 use Rattle.series_book.specs.declared.one_series.Series.{Series}
-use Rattle.series_book.specs.declared.refusals.Refusal.TheVariants.{UnknownSeries}
 use Rattle.series_book.specs.EditLists.{after_edits}
 use Rattle.series_store.specs.Asking.{IsBadPage as IsBadOfStore}
+use Rattle.series_store.specs.Results.{IsUnchanged}
 use Rattle.series_store.specs.Shown as stored
 use Rattle.series_store.specs.declared.store.Store.{Store}
 use Rattle.stored_book.specs.Standing.{StandsForBook}
@@ -60,7 +56,7 @@ all_done rule total book image stands =
     record { done = length clears; few = omega arith; stands = subst S (sym (take_all (length clears) clears (omega arith))) stands }
 
 -- the frame of a step, by what it tells
-frame_with : (clears used : ℕ) (more : Bool) → Frame
+abbrev frame_with : ℕ → ℕ → Bool → Frame
 frame_with clears used more = Report (Swept clears used more)
 
 made_is : (one : SweptSome) (other : SweepError) → ◌≡◌ {A = Result SweptSome SweepError} (Ok one) (Err other) → ⊥
@@ -75,6 +71,20 @@ same_error one other is = cc
 same_end : (one other : SweepError) → ◌≡◌ {A = Result SweptSome SweepError} (Err one) (Err other) → one ≡ other
 same_end one other is = cc
 
+-- the page of an error is bad
+bad_page : (told : Type 0) (total page : ℕ) (old new : View) → total ≤ old.size → new.size ≡ old.size → IsBadOfStore told total new page → IsBadPage told new.size new.image page
+bad_page told total page old new room size bad = (omega (arith, bad.0, room, size), bad.1)
+
+-- a store that stayed
+module _ {P : Type 0} {g : Ghosts P} where
+  same_stands : (old new : Store P g) → new ≡ old → (total : ℕ) (book : List Series) → StandsForBook (stored.image old) total book → StandsForBook (stored.image new) total book
+  same_stands old new same total book stands = let S : Store P g → Type 0 = λ s. StandsForBook (stored.image s) total book in subst S (sym same) stands
+
+  unchanged_by : (old new : Store P g) → new ≡ old → IsUnchanged (stored.IsTold old) (stored.view old) (stored.view new)
+  unchanged_by old new same =
+      let S : Store P g → Type 0 = λ s. IsUnchanged (stored.IsTold old) (stored.view old) (stored.view s) in
+      subst S (sym same) (record { image = λ t. refl; fit = λ f. f; syncs = refl; writes = refl })
+
 -- ---- of a live service
 
 module _ {P : Type 0} {g : Ghosts P} {h : StepperGhosts (ServiceStepper P g) ServiceError} {streams : StreamGhosts (ServiceStepper P g)} where
@@ -86,7 +96,7 @@ module _ {P : Type 0} {g : Ghosts P} {h : StepperGhosts (ServiceStepper P g) Ser
     pub moments : its.ForBook old (λ total book. shown.PassesTo (SweepsSome rule (its.state old total book)) (its.service old) (its.service new))
     pub commits : its.ForBook old (λ total book. CommitsFew (length (step_clears (shown.state (its.service old) total book) rule)) (its.view old) (its.view new))
     pub within : CommitsFew most_clears (its.view old) (its.view new)
-    pub tells : IfOk result (λ frame. TellsStep frame (its.view old) (its.view new))
+    pub tells : IfOk result (λ frame. TellsStep frame (shown.IsTold (its.service old)) (its.view old) (its.view new))
     pub reads : (its.view new).reads ≤ (its.view old).reads + step_reads
     pub ended : IfErr result (λ error. live.IsIdle new)
     pub sessions : shown.sessions (its.service new) ≡ shown.sessions (its.service old)
@@ -104,7 +114,7 @@ module _ {P : Type 0} {g : Ghosts P} {h : StepperGhosts (ServiceStepper P g) Ser
       let S : ServiceStepper P g → Type 0 = λ s. StepsService rule (Ok swept) (its.service old) s.service in
       let steps = subst S (sym pushes.stepper) before in
       let store = steps.store in
-      let T : Frame → Type 0 = λ f. TellsStep f (its.view old) (its.view new) in
+      let T : Frame → Type 0 = λ f. TellsStep f (shown.IsTold (its.service old)) (its.view old) (its.view new) in
       record {
         reply = λ total book told stands.
             let done = store.done total book told stands in
@@ -170,14 +180,6 @@ module _ {P : Type 0} {g : Ghosts P} {h : StepperGhosts (ServiceStepper P g) Ser
         sound = λ other. store.sound;
       }
 
-  -- the store stayed
-  same_stands : {one other : Store P g} → other ≡ one → (total : ℕ) (book : List Series) → StandsForBook (stored.image one) total book → StandsForBook (stored.image other) total book
-  same_stands same total book stands = let S : Store P g → Type 0 = λ s. StandsForBook (stored.image s) total book in subst S (sym same) stands
-
-  -- the page of an error is bad
-  bad_page : (told : Type 0) (total page : ℕ) (old new : View) → total ≤ old.size → new.size ≡ old.size → IsBadOfStore told total new page → IsBadPage told new.size new.image page
-  bad_page told total page old new room size bad = (omega (arith, bad.0, room, size), bad.1)
-
   -- it wasn't done to its end
   failed : (rule : Rule) (error : SweepError) (old new : Live (ServiceStepper P g) ServiceError h streams) → IfOk (error_reply error) Fits → live.IsIdle old → live.followed new ≡ live.followed old → live.pending new ≡ live.pending old → StepsService rule (Err error) (its.service old) (its.service new)
       → StepFacts rule (error_reply error) old new
@@ -186,7 +188,7 @@ module _ {P : Type 0} {g : Ghosts P} {h : StepperGhosts (ServiceStepper P g) Ser
       let same = store.untouched refl in
       record {
         reply = λ total book told stands.
-            let there : StandsForBook (its.view new).image total book = same_stands same total book stands in
+            let there : StandsForBook (its.view new).image total book = same_stands (its.service old).store (its.service new).store same total book stands in
             record {
               book = book;
               stands = there;
@@ -203,11 +205,11 @@ module _ {P : Type 0} {g : Ghosts P} {h : StepperGhosts (ServiceStepper P g) Ser
               );
             };
         standing = λ total book told stands. tt;
-        left = λ total book told stands other. none_done rule total book (its.view new).image (same_stands same total book stands);
+        left = λ total book told stands other. none_done rule total book (its.view new).image (same_stands (its.service old).store (its.service new).store same total book stands);
         moments = store.moments;
         commits = store.commits;
         within = store.within;
-        tells = (refl, ap (λ (s : Store P g). stored.view s) same);
+        tells = (refl, unchanged_by (its.service old).store (its.service new).store same);
         reads = store.reads;
         ended = tt;
         sessions = steps.sessions;

@@ -1,9 +1,8 @@
 -- What a host answers to a step of a sweep, over the plain book alone: the frame, and the pushes behind it.
-use Rattle.std.specs.Prelude.{ℕ, zero, suc, ◌≡◌, ◌⊎◌, ◌*◌, ◌+◌, List, [], length, nat_lt, ⊤}
+use Rattle.std.specs.Prelude.{ℕ, zero, suc, ◌≡◌, ◌⊎◌, ◌*◌, ◌+◌, List, [], length, nat_lt}
 use Rattle.block_disk.specs.View.{Image, View}
 use Rattle.chart_frames.specs.declared.frame.Frame.{Frame}
 use Rattle.chart_frames.specs.declared.frame.Frame.TheVariants.{Done, Refused, Opened, Closed, View as ViewOf, Rows, Live, Report}
-use Rattle.chart_frames.specs.declared.reports.Report.{Report as OneReport}
 use Rattle.chart_frames.specs.declared.reports.Report.TheVariants.{Catalog, Values, Swept}
 use Rattle.chart_frames.specs.Frames.{Fits}
 use Rattle.chart_service.specs.Replies.{refused}
@@ -22,6 +21,7 @@ use Rattle.series_book.specs.declared.one_series.Series.{Series}
 use Rattle.series_book.specs.declared.refusals.Refusal.TheVariants.{UnknownSeries}
 use Rattle.series_book.specs.Edits.{id_of}
 use Rattle.series_book.specs.Pages.{pages_of}
+use Rattle.series_store.specs.Results.{IsUnchanged}
 use Rattle.zoom_session.specs.declared.session.Session.{Session}
 
 -- at most so many clears are made in a step
@@ -81,14 +81,14 @@ abbrev pub step_reads : ℕ
 step_reads = clear_reads * (most_clears + 1)
 
 -- Whatever the pages are, a step tells of the clears that it committed, or that the series isn't there and it did nothing.
-abbrev pub TellsStep : Frame → View → View → Type 0
-TellsStep (Report (Swept clears used more)) old new = CommitsFew clears old new
-TellsStep (Report (Catalog catalog)) old new = ⊥
-TellsStep (Report (Values values)) old new = ⊥
-TellsStep (Refused number a b) old new = (Refused number a b ≡ refused UnknownSeries) × (new ≡ old)
-TellsStep (Done slots) old new = ⊥
-TellsStep (Opened session cache) old new = ⊥
-TellsStep (Closed session) old new = ⊥
-TellsStep (ViewOf view) old new = ⊥
-TellsStep (Rows rows) old new = ⊥
-TellsStep (Live session on) old new = ⊥
+abbrev pub TellsStep : Frame → Type 0 → View → View → Type 0
+TellsStep (Report (Swept clears used more)) told old new = CommitsFew clears old new
+TellsStep (Report (Catalog catalog)) told old new = ⊥
+TellsStep (Report (Values values)) told old new = ⊥
+TellsStep (Refused number a b) told old new = (Refused number a b ≡ refused UnknownSeries) × IsUnchanged told old new
+TellsStep (Done slots) told old new = ⊥
+TellsStep (Opened session cache) told old new = ⊥
+TellsStep (Closed session) told old new = ⊥
+TellsStep (ViewOf view) told old new = ⊥
+TellsStep (Rows rows) told old new = ⊥
+TellsStep (Live session on) told old new = ⊥

@@ -13,6 +13,7 @@ use retention::{Rule, SweepError, SweptSome, sweep_some};
 use series_store::Store;
 
 /// A step of the sweep of a rule.
+#[derive(Drop)]
 pub(crate) struct StepWork<'a> {
     pub(crate) rule: &'a Rule,
 }

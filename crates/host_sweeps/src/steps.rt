@@ -74,7 +74,7 @@ pub fn sweep_step<P: PageWorld>(
     ensures commits { its.ForBook live.old (λ total book. CommitsFew (length (step_clears (shown.state (its.service live.old) total book) rule.now)) (its.view live.old) (its.view live.new)) }
     // whatever the pages are
     ensures within { CommitsFew most_clears (its.view live.old) (its.view live.new) }
-    ensures tells { IfOk result (λ frame. TellsStep frame (its.view live.old) (its.view live.new)) }
+    ensures tells { IfOk result (λ frame. TellsStep frame (shown.IsTold (its.service live.old)) (its.view live.old) (its.view live.new)) }
     ensures reads { (its.view live.new).reads ≤ (its.view live.old).reads + step_reads }
     ensures fits { IfOk result Fits }
     ensures ended { IfErr result (λ error. follows.IsIdle live.new) }
