@@ -93,10 +93,11 @@ fn a_list_tells_each_series(rt: HostRuntime) -> Result<(), Fail> {
     let series = catalog.series.as_slice();
     assert_eq!(rt; series.len(), 5);
     assert_eq!(rt; catalog.total, 62);
-    let x = &series[0];
+    let (Some(x), Some(s)) = (series.first(), series.get(2)) else {
+        return Err(Fail::new("too few series"));
+    };
     assert!(rt; x.name.as_slice() == b"x".as_slice());
     assert!(rt; (x.slots, x.has, x.rmin, x.rmax) == (4, 1, 2, 7));
-    let s = &series[2];
     assert!(rt; (s.start, s.step, s.slots, s.has) == (1, 2, 0, 0));
     Ok(())
 }
@@ -113,7 +114,10 @@ fn values_come_in_pieces(rt: HostRuntime) -> Result<(), Fail> {
     assert!(rt; first.values.as_slice() == [1, 2].as_slice());
     let runs = first.runs.as_slice();
     assert_eq!(rt; runs.len(), 1);
-    assert!(rt; (runs[0].first, runs[0].count) == (4094, 2));
+    let Some(run) = runs.first() else {
+        return Err(Fail::new("no run"));
+    };
+    assert!(rt; (run.first, run.count) == (4094, 2));
     let rest = reply(alloc, &mut service, b"values long 4096 5000")?;
     let Frame::Report(Report::Values(rest)) = rest else {
         return Err(Fail::new("no values"));

@@ -130,7 +130,7 @@ module _ (total : ℕ) (book : List Series) (held : Held) (view : View) (before 
         split_both [] (lines_all given) (lines_of next) (lines_in before_it.events) mid.ahead (lines_in b.events) b.rest before_it.split b.split
         ∙ ap (λ l. l ++ b.rest) (sym (lines_joined before_it.events b.events))
 
-    begun_place : (input : List ℕ) → AreBefore input given next → (frames : List Frame) (new : LiveState) (b : Begun (mid.ahead ++ lines_of next) frames (live_at mid) new) → Place input (lines_in (before_it.events ++ b.events)) b.rest
+    abbrev begun_place : (input : List ℕ) → AreBefore input given next → (frames : List Frame) (new : LiveState) (b : Begun (mid.ahead ++ lines_of next) frames (live_at mid) new) → Place input (lines_in (before_it.events ++ b.events)) b.rest
     begun_place input are frames new b =
         placed input (lines_in (before_it.events ++ b.events)) b.rest (next_front input given next (lines_in (before_it.events ++ b.events) ++ b.rest) (begun_all frames new b) are)
 
@@ -142,7 +142,7 @@ module _ (total : ℕ) (book : List Series) (held : Held) (view : View) (before 
     begun_first input are frames new b =
         first_placed input (before_it.events ++ b.events) b.rest (before_it.frames ++ frames) (live_at start) new (begun_happened frames new b) (begun_place input are frames new b)
 
-    begun_row : (input : List ℕ) → AreBefore input given next → (shown more : List Frame) (new : LiveState) → Begun (mid.ahead ++ lines_of next) (shown ++ more) (live_at mid) new → FirstLines input ((before_it.frames ++ shown) ++ more) (live_at start) new
+    abbrev begun_row : (input : List ℕ) → AreBefore input given next → (shown more : List Frame) (new : LiveState) → Begun (mid.ahead ++ lines_of next) (shown ++ more) (live_at mid) new → FirstLines input ((before_it.frames ++ shown) ++ more) (live_at start) new
     begun_row input are shown more new b =
         let R : List Frame → Type 0 = λ l. InRow Happens (live_at start) (before_it.events ++ b.events) l new in
         first_placed input (before_it.events ++ b.events) b.rest ((before_it.frames ++ shown) ++ more) (live_at start) new

@@ -119,7 +119,7 @@ placed input done left f =
     whole_behind front piece all {rest} is (inl whole) = inl (whole_part front piece (subst IsWhole is whole))
     whole_behind front piece all {rest} is (inr none) = inr none
 
-pub first_placed : (input : List ℕ) (events : List Event) (left : List (Option (List ℕ))) (frames : List Frame) (old new : LiveState) → InRow Happens old events frames new → Place input (lines_in events) left → FirstLines input frames old new
+abbrev pub first_placed : (input : List ℕ) (events : List Event) (left : List (Option (List ℕ))) (frames : List Frame) (old new : LiveState) → InRow Happens old events frames new → Place input (lines_in events) left → FirstLines input frames old new
 first_placed input events left frames old new happened p = record {
   front = p.front;
   rest = p.rest;

@@ -16,7 +16,7 @@ use Rattle.stored_book.specs.Standing.{StandsForBook}
 use Rattle.hosted_lines.specs.Doing.{AreFirst, CountsSent, DoesLines, Held, LinesDone, LinesMoment, LinesRead, LinesStop, held_with}
 use Rattle.hosted_lines.specs.Hosting.{Begun, DoesHost, HostCost, HostDone, HostMoment, HostStop, counted_with}
 use Rattle.hosted_lines.specs.Hosts.{Counted, Event, Happens, HappensFor, InRow, answer, lines_in, push}
-use Rattle.hosted_lines.specs.Lives.{LivesBy, spelled}
+use Rattle.hosted_lines.specs.Lives.{LivesBy, spelled, lines_in as live_lines}
 use Rattle.hosted_lines.proofs.AmidLemmas.{amid_on}
 use Rattle.hosted_lines.proofs.EventLemmas.{length_more, sent_then}
 use Rattle.hosted_lines.proofs.FaultLemmas.{told_any}
@@ -25,7 +25,7 @@ use Rattle.hosted_lines.proofs.RowLemmas.{ArePassed, lines_joined, lines_of_live
 abbrev pub counted_at : LiveState → ℕ → ℕ → Counted
 counted_at live reads syncs = record { live = live; reads = reads; syncs = syncs }
 
-pub begun_none : (lines : List (Option (List ℕ))) (at : LiveState) → Begun lines [] at at
+abbrev pub begun_none : (lines : List (Option (List ℕ))) (at : LiveState) → Begun lines [] at at
 begun_none lines at = record { events = []; rest = lines; split = refl; happened = (refl, refl) }
 
 -- ---- what a live service does of a line
@@ -170,7 +170,7 @@ module _ (lines more : List (Option (List ℕ))) (total : ℕ) (old : Counted) (
       ∙ sym (append_assoc (lines_in d.events) (lines_in events) rest)
       ∙ ap (λ l. l ++ rest) (sym (lines_joined d.events events))
 
-  begun_then : (frames : List Frame) (new : LiveState) → Begun more frames reached.live new → Begun (lines ++ more) (d.frames ++ frames) old.live new
+  abbrev begun_then : (frames : List Frame) (new : LiveState) → Begun more frames reached.live new → Begun (lines ++ more) (d.frames ++ frames) old.live new
   begun_then frames new b = record {
     events = d.events ++ b.events;
     rest = b.rest;
@@ -178,7 +178,7 @@ module _ (lines more : List (Option (List ℕ))) (total : ℕ) (old : Counted) (
     happened = row_then Happens old.live reached.live new d.events b.events d.frames frames (row_plain old reached d.events d.frames d.happened) b.happened;
   }
 
-  begun_row : (shown others : List Frame) (new : LiveState) → Begun more (shown ++ others) reached.live new → Begun (lines ++ more) ((d.frames ++ shown) ++ others) old.live new
+  abbrev begun_row : (shown others : List Frame) (new : LiveState) → Begun more (shown ++ others) reached.live new → Begun (lines ++ more) ((d.frames ++ shown) ++ others) old.live new
   begun_row shown others new b =
       let whole = begun_then (shown ++ others) new b in
       let P : List Frame → Type 0 = λ l. InRow Happens old.live whole.events l new in
@@ -251,7 +251,7 @@ module _ (lines more : List (Option (List ℕ))) (total : ℕ) (old : Counted) (
 
 -- ---- more lines stand behind those that are answered
 
-begun_wide : (lines more : List (Option (List ℕ))) (frames : List Frame) (old new : LiveState) → Begun lines frames old new → Begun (lines ++ more) frames old new
+abbrev begun_wide : (lines more : List (Option (List ℕ))) (frames : List Frame) (old new : LiveState) → Begun lines frames old new → Begun (lines ++ more) frames old new
 begun_wide lines more frames old new b = record {
   events = b.events;
   rest = b.rest ++ more;

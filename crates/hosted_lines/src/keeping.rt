@@ -61,7 +61,7 @@ pub(crate) fn answer_alone<P: PageWorld>(
     turns: &mut HostTurns,
     live: &mut Live<ServiceStepper<P>>,
     line: &[u8],
-    asked: HostLine,
+    asked: &HostLine,
 ) -> Result<(), End>
     requires sound { (its.view live.old).fit }
     requires idle { follows.IsIdle live.old }
@@ -70,8 +70,8 @@ pub(crate) fn answer_alone<P: PageWorld>(
     requires short { length line.now ≤ 8192 }
     requires some { 0 < length line.now }
     requires other { edit_of (Some line.now) ≡ [] }
-    requires asks { asked ≡ host_line line.now }
-    requires range { IsInRange asked }
+    requires asks { asked.now ≡ host_line line.now }
+    requires range { IsInRange asked.now }
     ensures does { SpelledBy turns.old.edits.items (λ lines. ForSound live.old (λ total book. HostsFor P.Streams (lines ++ unless_empty (Some line.now)) total book result live.old live.new)) }
     ensures none { turns.new.edits.items ≡ [] }
     ensures goes { Goes (side_of P.Streams live.old) (side_of P.Streams live.new) }
@@ -87,7 +87,7 @@ pub(crate) fn answer_alone<P: PageWorld>(
         | HostLine::Values { .. }
         | HostLine::Sum { .. }
         | HostLine::Bad { .. } => answer_asked(turns, live, asked),
-        HostLine::Sweep(rule) => answer_step(turns, live, &rule),
+        HostLine::Sweep(rule) => answer_step(turns, live, rule),
         HostLine::Other => answer_other(turns, live, line),
     }
 }

@@ -72,7 +72,7 @@ impl<P: PageWorld> LineWork<Live<ServiceStepper<P>>, End> for HostTurns {
                 settle(self, from)
             }
             Ok(None) => match host_line(self.alloc, line) {
-                Ok(asked) => answer_alone(self, from, line, asked),
+                Ok(asked) => answer_alone(self, from, line, &asked),
                 Err(_) => Err(End::NoMemory),
             },
             Err(_) => Err(End::NoMemory),

@@ -29,20 +29,21 @@ use run_ends::End;
 use std::alloc::Global;
 
 /// The frame of a report is made on the service below.
-struct ReportWork {
+#[derive(Drop)]
+struct ReportWork<'a> {
     alloc: Global,
-    asked: HostLine,
+    asked: &'a HostLine,
 }
 
-impl<P: PageWorld> StepperWork<ServiceStepper<P>> for ReportWork {
+impl<'a, P: PageWorld> StepperWork<ServiceStepper<P>> for ReportWork<'a> {
     type Answer = Result<Frame, ServiceError>;
 
-    ghost may = { λ work at. MayMake work.asked at.service };
+    ghost may = { λ work at. MayMake work.asked.now at.service };
 
-    ghost does = { λ work old answer work' new. Makes work.asked answer old.service new.service };
+    ghost does = { λ work old answer work' new. Makes work.asked.now answer old.service new.service };
 
     fn work(&mut self, stepper: &mut ServiceStepper<P>) -> Result<Frame, ServiceError> {
-        answer_report(self.alloc, &mut stepper.service, &self.asked)
+        answer_report(self.alloc, &mut stepper.service, self.asked)
     }
 }
 
@@ -50,10 +51,10 @@ impl<P: PageWorld> StepperWork<ServiceStepper<P>> for ReportWork {
 fn make_report<P: PageWorld>(
     alloc: Global,
     live: &mut Live<ServiceStepper<P>>,
-    asked: HostLine,
+    asked: &HostLine,
 ) -> Result<Frame, ServiceError>
-    requires { MayMake asked (its.service live.old) }
-    ensures makes { Makes asked result (its.service live.old) (its.service live.new) }
+    requires { MayMake asked.now (its.service live.old) }
+    ensures makes { Makes asked.now result (its.service live.old) (its.service live.new) }
     ensures followed { follows.followed live.new ≡ follows.followed live.old }
     ensures pending { follows.pending live.new ≡ follows.pending live.old }
 {
@@ -65,11 +66,11 @@ fn make_report<P: PageWorld>(
 fn send_report<P: PageWorld>(
     alloc: Global,
     live: &mut Live<ServiceStepper<P>>,
-    asked: HostLine,
+    asked: &HostLine,
 ) -> Result<(), End>
-    requires may { MayMake asked (its.service live.old) }
+    requires may { MayMake asked.now (its.service live.old) }
     requires idle { follows.IsIdle live.old }
-    ensures does { (line : List ℕ) → host_line line ≡ asked → ForSound live.old (λ total book. HostsFor P.Streams (Some line ∷ []) total book result live.old live.new) }
+    ensures does { (line : List ℕ) → host_line line ≡ asked.now → ForSound live.old (λ total book. HostsFor P.Streams (Some line ∷ []) total book result live.old live.new) }
     ensures goes { Goes (side_of P.Streams live.old) (side_of P.Streams live.new) }
     ensures cause { IfErr result (λ e. CausesEnd e (side_of P.Streams live.old) (side_of P.Streams live.new)) }
     ensures faults { CountsFault (fault_in end_fault result) (its.view live.old) (its.view live.new) }
@@ -88,15 +89,15 @@ fn send_report<P: PageWorld>(
 pub(crate) fn answer_asked<P: PageWorld>(
     turns: &mut HostTurns,
     live: &mut Live<ServiceStepper<P>>,
-    asked: HostLine,
+    asked: &HostLine,
 ) -> Result<(), End>
     requires sound { (its.view live.old).fit }
     requires idle { follows.IsIdle live.old }
     requires few { length turns.old.edits.items ≤ most_ahead }
     requires are_edits { All IsEdit turns.old.edits.items }
-    requires report { AsksReport asked }
-    requires range { IsInRange asked }
-    ensures does { (line : List ℕ) → host_line line ≡ asked → SpelledBy turns.old.edits.items (λ lines. ForSound live.old (λ total book. HostsFor P.Streams (lines ++ Some line ∷ []) total book result live.old live.new)) }
+    requires report { AsksReport asked.now }
+    requires range { IsInRange asked.now }
+    ensures does { (line : List ℕ) → host_line line ≡ asked.now → SpelledBy turns.old.edits.items (λ lines. ForSound live.old (λ total book. HostsFor P.Streams (lines ++ Some line ∷ []) total book result live.old live.new)) }
     ensures none { turns.new.edits.items ≡ [] }
     ensures goes { Goes (side_of P.Streams live.old) (side_of P.Streams live.new) }
     ensures cause { IfErr result (λ e. CausesEnd e (side_of P.Streams live.old) (side_of P.Streams live.new)) }

@@ -1,4 +1,4 @@
-use Rattle.std.proofs.Common.{◌++◌, [], ◌∷◌, Some, ap, sym}
+use Rattle.std.proofs.Common.{◌++◌, ◌∙◌, [], ◌∷◌, Some, ap, sym}
 use Rattle.chart_service.specs.Serving.{unless_empty}
 use Rattle.chart_world.specs.LineLaws.{said, says_text}
 use Rattle.hosted_lines.specs.Doing.{held_by, held_with}
@@ -6,8 +6,8 @@ use Rattle.hosted_lines.specs.Shown.{pages}
 use Rattle.hosted_lines.proofs.HostLemmas.{lines_so}
 use Rattle.hosted_lines.proofs.keeping.answer_alone.Goals as goal
 
-pub returns-then-asks_report-clause-does : goal.returns-then-asks_report-clause-does
-returns-then-asks_report-clause-does g c = λ lines spell total book told stands sound.
+pub returns-in-List-clause-does : goal.returns-in-List-clause-does
+returns-in-List-clause-does g c = λ lines spell total book told stands sound.
     let view = g.P.Pages.view in
     let sent = g.P.Streams.sent in
     let line = c.args.line.now in
@@ -16,3 +16,14 @@ returns-then-asks_report-clause-does g c = λ lines spell total book told stands
     lines_so (lines ++ Some line ∷ []) (lines ++ unless_empty (Some line)) total (held_with total book (held_by old)) c.answer_asked.result (view (pages old)) (view (pages new)) (held_by new) (sent (pages old)) (sent (pages new))
     (ap (λ l. lines ++ l) (sym (said (Some line) (says_text line c.requires.some))))
     (c.answer_asked.ensures.does line (sym c.requires.asks) lines spell total book told stands sound)
+
+pub returns-in-Sweep-clause-does : goal.returns-in-Sweep-clause-does
+returns-in-Sweep-clause-does g c = λ lines spell total book told stands sound.
+    let view = g.P.Pages.view in
+    let sent = g.P.Streams.sent in
+    let line = c.args.line.now in
+    let old = c.args.live.now in
+    let new = c.answer_step.new.live in
+    lines_so (lines ++ Some line ∷ []) (lines ++ unless_empty (Some line)) total (held_with total book (held_by old)) c.answer_step.result (view (pages old)) (view (pages new)) (held_by new) (sent (pages old)) (sent (pages new))
+    (ap (λ l. lines ++ l) (sym (said (Some line) (says_text line c.requires.some))))
+    (c.answer_step.ensures.does line (sym c.requires.asks ∙ c.in-Sweep.is) lines spell total book told stands sound)

@@ -67,7 +67,7 @@ pub returns-in-Err-clause-cause : goal.returns-in-Err-clause-cause
 returns-in-Err-clause-cause g c =
     let side = side_of g.P.Streams in
     let e = c.in-Err.ensures.makes in
-    unmade_cause c.args.asked c.in-Err.error c.step_end.result (side c.args.live.now) (side c.make_report.new.live) c.step_end.ensures (e.looks.fit c.requires.may.sound) e.cause
+    unmade_cause c.args.asked.now c.in-Err.error c.step_end.result (side c.args.live.now) (side c.make_report.new.live) c.step_end.ensures (e.looks.fit c.requires.may.sound) e.cause
 
 pub returns-in-Ok-clause-faults : goal.returns-in-Ok-clause-faults
 returns-in-Ok-clause-faults g c =

@@ -21,33 +21,38 @@ returns-then-is_empty-clause-does g c = λ hosted stands.
     host_keeps hosted c.args.self.now.edits.items (shown.IsTold (its.service it)) (its.view it) (held_by it) (g.P.Streams.sent (pages it)) stands (Line c.args.at (Some c.args.line.now)) hosted.ahead c.args.self.now.edits.items
     (ap (λ l. hosted.ahead ++ l) (none_said c.args.line.now none) ∙ append-nil hosted.ahead) tt stands.spell
 
-pub returns-in-Ok-None-clause-does : goal.returns-in-Ok-None-clause-does
-returns-in-Ok-None-clause-does g c = λ hosted stands.
+pub returns-in-Ok-clause-does : goal.returns-in-Ok-clause-does
+returns-in-Ok-clause-does g c = λ hosted stands.
     let it = c.args.from.now in
-    let new = c.answer_other.new.live in
+    let new = c.answer_alone.new.live in
     let sent = g.P.Streams.sent in
     host_does hosted c.args.self.now.edits.items (shown.IsTold (its.service it)) (its.view it) (held_by it) (sent (pages it)) stands (Line c.args.at (Some c.args.line.now)) (its.view new) (held_by new) (sent (pages new))
-    (shown.IsTold (its.service new)) (c.answer_other.ensures.goes.is_told stands.told_so) c.answer_other.new.turns.edits.items c.answer_other.ensures.none c.answer_other.result c.answer_other.ensures.idle
-    (c.answer_other.ensures.does hosted.ahead stands.spell hosted.total hosted.book stands.told_so stands.stands (sound_of stands))
+    (shown.IsTold (its.service new)) (c.answer_alone.ensures.goes.is_told stands.told_so) c.answer_alone.new.turns.edits.items c.answer_alone.ensures.none c.answer_alone.result c.answer_alone.ensures.idle
+    (c.answer_alone.ensures.does hosted.ahead stands.spell hosted.total hosted.book stands.told_so stands.stands (sound_of stands))
 
-pub returns-in-Ok-None-clause-stops : goal.returns-in-Ok-None-clause-stops
-returns-in-Ok-None-clause-stops g c = λ hosted stands.
+pub returns-in-Ok-clause-stops : goal.returns-in-Ok-clause-stops
+returns-in-Ok-clause-stops g c = λ hosted stands.
     let it = c.args.from.now in
-    let new = c.answer_other.new.live in
+    let new = c.answer_alone.new.live in
     let sent = g.P.Streams.sent in
-    host_stops hosted c.args.self.now.edits.items (shown.IsTold (its.service it)) (its.view it) (held_by it) (sent (pages it)) stands (Line c.args.at (Some c.args.line.now)) (its.view new) (held_by new) (sent (pages new)) c.answer_other.result
-    (c.answer_other.ensures.does hosted.ahead stands.spell hosted.total hosted.book stands.told_so stands.stands (sound_of stands))
+    host_stops hosted c.args.self.now.edits.items (shown.IsTold (its.service it)) (its.view it) (held_by it) (sent (pages it)) stands (Line c.args.at (Some c.args.line.now)) (its.view new) (held_by new) (sent (pages new)) c.answer_alone.result
+    (c.answer_alone.ensures.does hosted.ahead stands.spell hosted.total hosted.book stands.told_so stands.stands (sound_of stands))
 
-pub returns-in-Ok-None-clause-leaves : goal.returns-in-Ok-None-clause-leaves
-returns-in-Ok-None-clause-leaves g c = λ hosted stands lasting.
+pub returns-in-Ok-clause-leaves : goal.returns-in-Ok-clause-leaves
+returns-in-Ok-clause-leaves g c = λ hosted stands lasting.
     let it = c.args.from.now in
-    let new = c.answer_other.new.live in
+    let new = c.answer_alone.new.live in
     let sent = g.P.Streams.sent in
-    host_leaves hosted c.args.self.now.edits.items (shown.IsTold (its.service it)) (its.view it) (held_by it) (sent (pages it)) stands (Line c.args.at (Some c.args.line.now)) (its.view new) (held_by new) (sent (pages new)) lasting c.answer_other.result
-    (c.answer_other.ensures.does hosted.ahead stands.spell hosted.total hosted.book stands.told_so stands.stands (sound_of stands))
+    host_leaves hosted c.args.self.now.edits.items (shown.IsTold (its.service it)) (its.view it) (held_by it) (sent (pages it)) stands (Line c.args.at (Some c.args.line.now)) (its.view new) (held_by new) (sent (pages new)) lasting c.answer_alone.result
+    (c.answer_alone.ensures.does hosted.ahead stands.spell hosted.total hosted.book stands.told_so stands.stands (sound_of stands))
 
 pub returns-in-Err-clause-stops : goal.returns-in-Err-clause-stops
 returns-in-Err-clause-stops g c = λ hosted stands.
+    let it = c.args.from.now in
+    host_lacks hosted c.args.self.now.edits.items (shown.IsTold (its.service it)) (its.view it) (held_by it) (g.P.Streams.sent (pages it)) stands (Line c.args.at (Some c.args.line.now))
+
+pub returns-in-Err-host_line-clause-stops : goal.returns-in-Err-host_line-clause-stops
+returns-in-Err-host_line-clause-stops g c = λ hosted stands.
     let it = c.args.from.now in
     host_lacks hosted c.args.self.now.edits.items (shown.IsTold (its.service it)) (its.view it) (held_by it) (g.P.Streams.sent (pages it)) stands (Line c.args.at (Some c.args.line.now))
 
