@@ -15,8 +15,6 @@ mod loads;
 #[cfg(test)]
 mod plans;
 #[cfg(test)]
-mod reported;
-#[cfg(test)]
 mod served;
 #[cfg(test)]
 mod walks;
