@@ -1,5 +1,5 @@
 -- What a client holds of an open session.
-use Rattle.std.proofs.Common.{ℕ, ℤ, ◌≡◌, ◌==◌, Bool, true, false, ◌||◌, List, [], ◌∷◌, map, Option, None, Some, refl, ap, arith}
+use Rattle.std.proofs.Common.{ℕ, ◌≡◌, ◌==◌, Bool, true, false, ◌||◌, List, [], ◌∷◌, map, Some, refl, ap, arith}
 use Rattle.std.specs.Option.{option_map}
 use Rattle.chart_client.specs.declared.holding.Holding.{Holding}
 use Rattle.chart_client.specs.Holdings.{holding_of}

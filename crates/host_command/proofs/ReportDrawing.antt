@@ -1,11 +1,11 @@
 -- What a client does with the frame of a report.
-use Rattle.std.proofs.Common.{ℕ, ℤ, ◌≡◌, ◌∙◌, ◌<◌, Bool, true, false, List, [], ◌∷◌, Option, None, Some, refl, sym, ap, subst, inl, inr, slice_get}
-use Rattle.std.specs.Prelude.{◌↔◌, IsTrue, IsSome, pos}
+use Rattle.std.proofs.Common.{ℕ, ℤ, ◌≡◌, ◌∙◌, ◌<◌, Bool, true, false, List, Option, None, Some, refl, sym, ap, subst, inl, inr, slice_get}
+use Rattle.std.specs.Prelude.{◌↔◌, IsTrue, pos}
 use Rattle.std.specs.Option.{option_map}
 use Rattle.line_raster.specs.Canvas.{Canvas, black_at}
 use Rattle.line_raster.specs.Raster.{InRaster}
 use Rattle.line_raster.specs.declared.position.Point.{Point}
-use Rattle.chart_client.specs.Accepting.{Accepts, AcceptsRows, FailsView, Rejects, session_in}
+use Rattle.chart_client.specs.Accepting.{Accepts, AcceptsRows}
 use Rattle.chart_client.specs.Drawing.{DrawsPoints}
 use Rattle.chart_client.specs.Holdings.{holding_of}
 use Rattle.chart_client.specs.declared.errors.ClientError.TheVariants.{Missing, BadCoefficient, UnknownSession, NoMemory}
@@ -24,18 +24,16 @@ use Rattle.derive_command.specs.declared.request.Request.{Request}
 use Rattle.drawn_replies.specs.Mirrors.{Mirrors, OnlyLacksMemory, mirrored}
 use Rattle.host_lines.specs.declared.asked.HostLine.{HostLine}
 use Rattle.host_lines.specs.declared.asked.HostLine.TheVariants.{List as ListLine, Values, Sum, Sweep, Bad, Other}
-use Rattle.host_replies.specs.Replies.{Reported, Tells, TellsIf, TellsValues, TellsValuesOf, has_session}
+use Rattle.host_replies.specs.Replies.{Reported, TellsIf, TellsValues, TellsValuesOf}
 use Rattle.host_reports.specs.Reports.{catalog_of, values_of}
 use Rattle.m4_groups.specs.Points.{AreInOrder}
 use Rattle.plain_chart.specs.Samples.{kept, sample_points}
 use Rattle.series_book.specs.declared.one_series.Series.{Series}
 use Rattle.series_book.specs.declared.refusals.Refusal.{Refusal}
-use Rattle.series_book.specs.declared.refusals.Refusal.TheVariants.{BadLine, BadWindow, UnknownSeries, UnknownSession as NoSession}
+use Rattle.series_book.specs.declared.refusals.Refusal.TheVariants.{BadLine, BadWindow, UnknownSeries}
 use Rattle.series_book.specs.Edits.{id_of}
 use Rattle.session_sums.specs.Sums.{AnswersSum, HasSumRows, RefusesSum}
-use Rattle.session_sums.specs.Sums.{refused as refused_sum}
-use Rattle.derive_command.specs.declared.derive_refusal.DeriveRefusal.{DeriveRefusal}
-use Rattle.zoom_session.specs.Sessions.{is_open, session_of}
+use Rattle.zoom_session.specs.Sessions.{is_open}
 use Rattle.zoom_session.specs.declared.session.Session.{Session}
 use Rattle.host_command.specs.Drawn.{PicturesAsked, PicturesSum}
 use Rattle.host_command.proofs.Holders.{held, placed, there}
