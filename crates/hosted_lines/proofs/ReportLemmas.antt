@@ -1,5 +1,5 @@
 -- What a line asks of the host alone is reported, and the frame is sent.
-use Rattle.std.proofs.Common.{◌≡◌, ◌≢◌, ◌∙◌, ℕ, ℤ, ◌+◌, ◌≤◌, List, [], ◌∷◌, length, Option, Some, Result, Ok, Err, refl, ap, sym, subst, inl, inr, arith}
+use Rattle.std.proofs.Common.{◌≡◌, ◌≢◌, ◌∙◌, ℕ, ℤ, ◌+◌, ◌≤◌, List, [], ◌∷◌, length, Option, Some, Result, Err, refl, sym, subst, inl, inr, arith}
 use Rattle.std.specs.Prelude.{OnOk, IfErr}
 use Rattle.block_disk.specs.Streams.{sent_after}
 use Rattle.block_disk.specs.View.{Image, View, DiskKept, Now, Only, Passes, sent_now}

@@ -1,8 +1,7 @@
 use Rattle.std.proofs.Common.{[], ◌∷◌, Some}
-use Rattle.std.proofs.lemmas.List.{append-nil}
 use Rattle.hosted_lines.specs.Doing.{held_by, held_with}
 use Rattle.hosted_lines.specs.Shown.{pages}
-use Rattle.hosted_lines.proofs.HostLemmas.{host_then, live_does, lines_so}
+use Rattle.hosted_lines.proofs.HostLemmas.{host_then, live_does}
 use Rattle.hosted_lines.proofs.sweeping.do_step.Goals as goal
 
 pub returns-in-Ok-clause-does : goal.returns-in-Ok-clause-does

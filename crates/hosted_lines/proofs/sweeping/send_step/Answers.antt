@@ -5,7 +5,7 @@ use Rattle.chart_world.specs.FaultLaws.{counts_then}
 use Rattle.chart_world.specs.Faults.{fault_in}
 use Rattle.gate_pages.proofs.Moving.{sent_same}
 use Rattle.run_ends.specs.Faults.{end_fault}
-use Rattle.hosted_lines.specs.Doing.{held_by, held_with}
+use Rattle.hosted_lines.specs.Doing.{held_by}
 use Rattle.hosted_lines.specs.GoesLaws.{held_same}
 use Rattle.hosted_lines.specs.Shown.{pages}
 use Rattle.hosted_lines.proofs.FaultLemmas.{unmade_counts}
