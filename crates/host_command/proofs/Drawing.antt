@@ -25,7 +25,7 @@ use Rattle.series_book.specs.Edits.{Edited, apply}
 use Rattle.series_book.specs.declared.edits.Edit.{Edit}
 use Rattle.series_book.specs.declared.refusals.Refusal.{Refusal}
 use Rattle.host_lines.specs.Grammar.{host_line}
-use Rattle.host_sweeps.specs.Sweeping.{DoesStep, RefusesStep, SweepReplied}
+use Rattle.host_sweeps.specs.Sweeping.{SweepReplied}
 use Rattle.retention.specs.declared.rule.Rule.{Rule}
 use Rattle.host_command.specs.Drawn.{ArePictured, PicturesLines}
 use Rattle.host_command.proofs.ReportDrawing.{Orders, report_drawn}

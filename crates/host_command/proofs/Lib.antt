@@ -1,3 +1,4 @@
 pub mod DiskLemmas
+pub mod Holders
 pub mod ReportDrawing
 pub mod Drawing

@@ -1,11 +1,11 @@
 -- What a client does with the frame of a report.
-use Rattle.std.proofs.Common.{ℕ, ℤ, ◌≡◌, ◌∙◌, ◌<◌, Bool, true, false, List, [], ◌∷◌, Option, None, Some, refl, sym, ap, subst, inl, inr, slice_get}
-use Rattle.std.specs.Prelude.{◌↔◌, IsTrue, IsSome, pos}
+use Rattle.std.proofs.Common.{ℕ, ℤ, ◌≡◌, ◌∙◌, ◌<◌, Bool, true, false, List, Option, None, Some, refl, sym, ap, subst, inl, inr, slice_get}
+use Rattle.std.specs.Prelude.{◌↔◌, IsTrue, pos}
 use Rattle.std.specs.Option.{option_map}
 use Rattle.line_raster.specs.Canvas.{Canvas, black_at}
 use Rattle.line_raster.specs.Raster.{InRaster}
 use Rattle.line_raster.specs.declared.position.Point.{Point}
-use Rattle.chart_client.specs.Accepting.{Accepts, AcceptsRows, FailsView, Rejects, session_in}
+use Rattle.chart_client.specs.Accepting.{Accepts, AcceptsRows}
 use Rattle.chart_client.specs.Drawing.{DrawsPoints}
 use Rattle.chart_client.specs.Holdings.{holding_of}
 use Rattle.chart_client.specs.declared.errors.ClientError.TheVariants.{Missing, BadCoefficient, UnknownSession, NoMemory}
@@ -22,24 +22,21 @@ use Rattle.chart_service.specs.Replies.{refused}
 use Rattle.chart_service.specs.State.{State}
 use Rattle.derive_command.specs.declared.request.Request.{Request}
 use Rattle.drawn_replies.specs.Mirrors.{Mirrors, OnlyLacksMemory, mirrored}
-use Rattle.drawn_replies.proofs.Holders.{held, there}
-use Rattle.drawn_replies.proofs.Kept.{placed}
 use Rattle.host_lines.specs.declared.asked.HostLine.{HostLine}
 use Rattle.host_lines.specs.declared.asked.HostLine.TheVariants.{List as ListLine, Values, Sum, Sweep, Bad, Other}
-use Rattle.host_replies.specs.Replies.{Reported, Tells, TellsIf, TellsValues, TellsValuesOf, has_session}
+use Rattle.host_replies.specs.Replies.{Reported, TellsIf, TellsValues, TellsValuesOf}
 use Rattle.host_reports.specs.Reports.{catalog_of, values_of}
 use Rattle.m4_groups.specs.Points.{AreInOrder}
 use Rattle.plain_chart.specs.Samples.{kept, sample_points}
 use Rattle.series_book.specs.declared.one_series.Series.{Series}
 use Rattle.series_book.specs.declared.refusals.Refusal.{Refusal}
-use Rattle.series_book.specs.declared.refusals.Refusal.TheVariants.{BadLine, BadWindow, UnknownSeries, UnknownSession as NoSession}
+use Rattle.series_book.specs.declared.refusals.Refusal.TheVariants.{BadLine, BadWindow, UnknownSeries}
 use Rattle.series_book.specs.Edits.{id_of}
 use Rattle.session_sums.specs.Sums.{AnswersSum, HasSumRows, RefusesSum}
-use Rattle.session_sums.specs.Sums.{refused as refused_sum}
-use Rattle.derive_command.specs.declared.derive_refusal.DeriveRefusal.{DeriveRefusal}
-use Rattle.zoom_session.specs.Sessions.{is_open, session_of}
+use Rattle.zoom_session.specs.Sessions.{is_open}
 use Rattle.zoom_session.specs.declared.session.Session.{Session}
 use Rattle.host_command.specs.Drawn.{PicturesAsked, PicturesSum}
+use Rattle.host_command.proofs.Holders.{held, placed, there}
 
 -- what a view keeps is in order of time
 abbrev pub Orders : Type 0
@@ -65,22 +62,22 @@ none_some : {n : ℕ} → ◌≡◌ {A = Option ℕ} None (Some n) → ⊥
 none_some is = cc
 
 number_quiet : (number a b : ℕ) → IsQuiet (Refused number a b)
-number_quiet number a b = record { takes = λ drawing old now accepts. accepts; lacks = λ old e rejects. only e rejects }
+number_quiet number a b = record { takes = λ drawing old now accepts. accepts; lacks = λ old e rejects. only old e rejects }
   where
-    only : {old : List Holding} → OnlyLacksMemory (Refused number a b) old
-    only {old} (Missing key) rejects = absurd (refused_no_view rejects.is)
-    only {old} (BadCoefficient key) rejects = absurd (refused_no_view rejects.is)
-    only {old} (UnknownSession n) rejects = absurd (none_some rejects.0)
-    only {old} NoMemory rejects = refl
+    only : (old : List Holding) → OnlyLacksMemory (Refused number a b) old
+    only old (Missing key) rejects = absurd (refused_no_view rejects.is)
+    only old (BadCoefficient key) rejects = absurd (refused_no_view rejects.is)
+    only old (UnknownSession n) rejects = absurd (none_some rejects.0)
+    only old NoMemory rejects = refl
 
 report_quiet : (one : OneReport) → IsQuiet (Report one)
-report_quiet one = record { takes = λ drawing old now accepts. accepts; lacks = λ old e rejects. only e rejects }
+report_quiet one = record { takes = λ drawing old now accepts. accepts; lacks = λ old e rejects. only old e rejects }
   where
-    only : {old : List Holding} → OnlyLacksMemory (Report one) old
-    only {old} (Missing key) rejects = absurd (report_no_view rejects.is)
-    only {old} (BadCoefficient key) rejects = absurd (report_no_view rejects.is)
-    only {old} (UnknownSession n) rejects = absurd (none_some rejects.0)
-    only {old} NoMemory rejects = refl
+    only : (old : List Holding) → OnlyLacksMemory (Report one) old
+    only old (Missing key) rejects = absurd (report_no_view rejects.is)
+    only old (BadCoefficient key) rejects = absurd (report_no_view rejects.is)
+    only old (UnknownSession n) rejects = absurd (none_some rejects.0)
+    only old NoMemory rejects = refl
 
 refused_is : (frame : Frame) (refusal : Refusal) → frame ≡ refused refusal → IsQuiet frame
 refused_is frame refusal is = quiet_so frame (refused refusal) is (number_quiet _ _ _)
@@ -114,16 +111,16 @@ some_none is = cc
 
 -- the session of the rows is held
 sum_held : (n : ℕ) (sessions : List Session) (old : List Holding) → is_open n sessions ≡ true → Mirrors sessions old → holding_of n old ≡ None → ⊥
-sum_held n sessions old open m gone =
-    let one = there n sessions open in
+sum_held n sessions old opened m gone =
+    let one = there n sessions opened in
     some_none (sym (ap (λ hs. holding_of n hs) m ∙ held n sessions ∙ ap (option_map mirrored) one.1) ∙ gone)
 
 sum_lacks : (rows : RowsFrame) (sessions : List Session) (old : List Holding) → is_open rows.session sessions ≡ true → Mirrors sessions old → OnlyLacksMemory (Rows rows) old
-sum_lacks rows sessions old open m (Missing key) rejects = absurd (rows_no_view rejects.is)
-sum_lacks rows sessions old open m (BadCoefficient key) rejects = absurd (rows_no_view rejects.is)
-sum_lacks rows sessions old open m (UnknownSession n) rejects =
-    absurd (sum_held rows.session sessions old open m (ap (λ i. holding_of i old) (some_number rejects.0) ∙ rejects.1))
-sum_lacks rows sessions old open m NoMemory rejects = refl
+sum_lacks rows sessions old opened m (Missing key) rejects = absurd (rows_no_view rejects.is)
+sum_lacks rows sessions old opened m (BadCoefficient key) rejects = absurd (rows_no_view rejects.is)
+sum_lacks rows sessions old opened m (UnknownSession n) rejects =
+    absurd (sum_held rows.session sessions old opened m (ap (λ i. holding_of i old) (some_number rejects.0) ∙ rejects.1))
+sum_lacks rows sessions old opened m NoMemory rejects = refl
 
 sum_pictured : Orders → (book : List Series) (r : Request) (session : ℕ) (rows : RowsFrame) (drawing : Canvas) (old now : List Holding) → HasSumRows book r session rows → AcceptsRows rows drawing old now → PicturesSum book r (Rows rows) (Some drawing)
 sum_pictured order book r session rows drawing old now has accepts =
@@ -150,12 +147,12 @@ sum_pictured order book r session rows drawing old now has accepts =
     }
 
 rows_drawn : Orders → (book : List Series) (r : Request) (session : ℕ) (sessions : List Session) (rows : RowsFrame) → is_open session sessions ≡ true → HasSumRows book r session rows → DrawsSum book r sessions (Rows rows)
-rows_drawn order book r session sessions rows open has = record {
+rows_drawn order book r session sessions rows opened has = record {
   takes = λ drawing old now accepts. taken drawing old now accepts;
   lacks = λ old m.
       let N : ℕ → Type 0 = λ n. is_open n sessions ≡ true in
       let same : session ≡ rows.session = sym (ap (λ (f : RowsFrame). f.session) has.fields.is) in
-      sum_lacks rows sessions old (subst N same open) m;
+      sum_lacks rows sessions old (subst N same opened) m;
 }
   where
     taken : (drawing : Option Canvas) (old now : List Holding) → Accepts (Rows rows) drawing old now → (now ≡ old) × PicturesSum book r (Rows rows) drawing
@@ -173,8 +170,8 @@ refuses_drawn book r sessions frame refuses =
     subst D (sym refuses.frame_is) (refusal_drawn book r sessions _ _ _)
 
 sum_drawn : Orders → (book : List Series) (r : Request) (session : ℕ) (sessions : List Session) (frame : Frame) → is_open session sessions ≡ true → AnswersSum book r session frame → DrawsSum book r sessions frame
-sum_drawn order book r session sessions (Rows rows) open tells = rows_drawn order book r session sessions rows open tells
-sum_drawn order book r session sessions frame open tells = refuses_drawn book r sessions frame tells
+sum_drawn order book r session sessions (Rows rows) opened tells = rows_drawn order book r session sessions rows opened tells
+sum_drawn order book r session sessions frame opened tells = refuses_drawn book r sessions frame tells
 
 -- ---- each report
 
@@ -193,12 +190,12 @@ quiet_bad : (at : ℕ) (frame : Frame) (state : State) → IsQuiet frame → Dra
 quiet_bad at frame state quiet = record { takes = λ drawing old now a. let t = quiet.takes drawing old now a in (t.1, t.0); lacks = λ old m. quiet.lacks old }
 
 sum_asked : Orders → (b : Bool) (session : ℕ) (r : Request) (frame : Frame) (state : State) → is_open session state.sessions ≡ b → TellsIf b (Sum session r) state.total state.book frame → DrawsAsked (Sum session r) frame state
-sum_asked order false session r frame state open tells =
+sum_asked order false session r frame state opened tells =
     let D : Frame → Type 0 = λ f. DrawsSum state.book r state.sessions f in
     let drawn = subst D (sym tells) (refusal_drawn state.book r state.sessions _ _ _) in
     record { takes = drawn.takes; lacks = drawn.lacks }
-sum_asked order true session r frame state open tells =
-    let drawn = sum_drawn order state.book r session state.sessions frame open tells in
+sum_asked order true session r frame state opened tells =
+    let drawn = sum_drawn order state.book r session state.sessions frame opened tells in
     record { takes = drawn.takes; lacks = drawn.lacks }
 
 pub report_drawn : Orders → (asked : HostLine) (frame : Frame) (state : State) → Reported asked frame state → DrawsAsked asked frame state
