@@ -1,0 +1,3 @@
+from golden_data import write_store_with_damaged_tree
+
+write_store_with_damaged_tree()
