@@ -84,8 +84,7 @@ module _ (told told' : Type 0) (old new under under' : View) (s s' : Superblock)
   values_cause name t0 t1 id store.DiskFault names cause = cause
   values_cause name t0 t1 id (store.Damaged page) names cause =
       let I : Image → Type 0 = λ i. IsBadForExport name old.size i page in
-      let C : ℕ → Type 0 = λ n. IsBadForExport name n new.image page in
-      (
+      let C : ℕ → Type 0 = λ n. IsBadForExport name n new.image page in (
         omega (arith, cause.0, names.within, looks.size),
         λ t. let was = looks.was_told t in subst C (sym looks.size) (subst I (sym (looks.image was)) (bad_tree told old s id name page names was cause.0 (cause.1 was))),
       )
@@ -121,9 +120,9 @@ pub found_there : (name : List ℕ) (book : List Series) (id : ℕ) → id_of na
 found_there name book id found = elim (named_or name book) [
   | inl none ↦ (let never : Some id ≡ None = sym found ∙ none in cc)
   | inr named ↦ (
-  let same : Some named.1.id ≡ Some id = sym named.1.id_is ∙ found in
-  let N : ℕ → Type 0 = λ n. slice_get book n ≡ Some named.0 in
-  (named.0, subst N (some_same named.1.id id same) named.1.there))
+      let same : Some named.1.id ≡ Some id = sym named.1.id_is ∙ found in
+      let N : ℕ → Type 0 = λ n. slice_get book n ≡ Some named.0 in
+      (named.0, subst N (some_same named.1.id id same) named.1.there))
 ]
 
 pub values_told : (name : List ℕ) (t0 t1 : ℤ) (total : ℕ) (book : List Series) (id : ℕ) (frame : Frame) → id_of name book ≡ Some id → ((series : Series) → slice_get book id ≡ Some series → TellsValues (Some series) id t0 t1 frame) → Tells (Values name t0 t1) total book frame

@@ -83,10 +83,8 @@ pub(crate) fn answer_alone<P: PageWorld>(
     ensures idle { OnOk result (follows.IsIdle live.new) }
 {
     match asked {
-        HostLine::List
-        | HostLine::Values { .. }
-        | HostLine::Sum { .. }
-        | HostLine::Bad { .. } => answer_asked(turns, live, asked),
+        HostLine::List | HostLine::Values { .. } | HostLine::Sum { .. } | HostLine::Bad { .. } =>
+            answer_asked(turns, live, asked),
         HostLine::Sweep(rule) => answer_step(turns, live, rule),
         HostLine::Other => answer_other(turns, live, line),
     }
