@@ -3,6 +3,7 @@ import asyncio
 import fcntl
 import itertools
 import os
+import time
 
 from .. import store_file
 from ..store import Series
@@ -213,12 +214,17 @@ class Stores:
             tell("a series is made", path=keeper.path, name=names[key], series=text_of(key), step=record.step, scale=record.scale)
 
 
-def alone_in(folder):
-    """A lock that two gateways over one folder can't have; it goes with the process that has it."""
+def alone_in(folder, seconds=2):
+    """A lock that two gateways over one folder can't have; it goes with the process that has it, and with what that was starting when it was
+    killed. So it is tried for so long."""
     file = open(os.path.join(folder, "gateway.lock"), "w")
-    try:
-        fcntl.flock(file, fcntl.LOCK_EX | fcntl.LOCK_NB)
-    except BlockingIOError:
-        file.close()
-        raise OSError(f"another gateway works on {folder}") from None
-    return file
+    ends = time.monotonic() + seconds
+    while True:
+        try:
+            fcntl.flock(file, fcntl.LOCK_EX | fcntl.LOCK_NB)
+            return file
+        except BlockingIOError:
+            if time.monotonic() > ends:
+                file.close()
+                raise OSError(f"another gateway works on {folder}") from None
+            time.sleep(0.05)
