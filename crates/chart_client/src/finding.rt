@@ -50,7 +50,7 @@ pub(crate) fn find(
         slots: view.slots,
         root: root_of(view),
         asked: None,
-        hints: [0; LEVELS],
+        hints: [(0, 0); LEVELS],
     };
     match survey(alloc, &mut nodes, axis, grid, view.lo, view.hi) {
         Ok(findings) => Ok(findings),

@@ -23,24 +23,27 @@ pub(crate) struct HeldNodes<'a> {
     pub(crate) slots: u64,
     pub(crate) root: Option<Span>,
     pub(crate) asked: Option<Key>,
-    /// Where among the sent coefficients the next key of each level may stand.
-    pub(crate) hints: [usize; LEVELS],
+    /// Where among the sent coefficients, and in the cache, the next key of each level may stand.
+    pub(crate) hints: [(usize, usize); LEVELS],
 }
 
 /// More than a tree has.
 pub(crate) const LEVELS: usize = 64;
 
 impl<'a> HeldNodes<'a> {
-    /// The coefficient of a key: the one that is sent or, where none is, the one that is held; and a hint
+    /// The coefficient of a key: the one that is sent or, where none is, the one that is held; and hints
     /// for the next key on its level.
-    pub(crate) fn told(&self, key: Key, hint: usize) -> (Option<Coef>, usize)
+    pub(crate) fn told(&self, key: Key, hint: (usize, usize)) -> (Option<Coef>, (usize, usize))
         requires order { AllPairs Precedes self.now.sent.now }
         ensures { result.0 ≡ held_told self.now.series self.now.sent.now self.now.cache.now key }
     {
-        let (sent, next) = look_up(self.sent, key, hint);
+        let (sent, next) = look_up(self.sent, key, hint.0);
         match sent {
-            Some(coef) => (Some(coef), next),
-            None => (self.cache.find(self.series, key), next),
+            Some(coef) => (Some(coef), (next, hint.1)),
+            None => {
+                let (held, behind) = self.cache.find_near(hint.1, self.series, key);
+                (held, (next, behind))
+            }
         }
     }
 
@@ -58,7 +61,7 @@ impl<'a> HeldNodes<'a> {
         ensures named { IfErr result (λ f. f.key ≡ key) }
         ensures fails { IfErr result (λ f. IsFailure (seen_of self.now) self.now.slots f) }
     {
-        let (told, _) = self.told(key, 0);
+        let (told, _) = self.told(key, (0, 0));
         let Some(coef) = told else {
             return Err(Failure {
                 key,

@@ -76,6 +76,15 @@ impl CoefficientCache {
         self.list.find(SeriesKey::new(series, key))
     }
 
+    /// The same, and a place from which to look for the next key: a key is looked for at some places from
+    /// `from` on before it is looked up, since keys are mostly asked for in the order in which they were
+    /// needed. Any place is right.
+    pub fn find_near(&self, from: usize, series: u16, key: Key) -> (Option<Coef>, usize)
+        ensures { result.0 ≡ coefficient_at self.now.pairs (series_key series key) }
+    {
+        self.list.find_near(from, SeriesKey::new(series, key))
+    }
+
     /// Those of the needed keys of a series, in order, which the list lacks or holds with another
     /// coefficient than the needed one. The list stays as it is.
     pub fn to_send(
@@ -111,7 +120,7 @@ impl CoefficientCache {
     fn holds(&self, from: usize, series: u16, key: Key, coef: Coef) -> (bool, usize)
         ensures { result.0 ≡ holds self.now.pairs (series_key series key, coef) }
     {
-        let (found, next) = self.list.find_near(from, SeriesKey::new(series, key));
+        let (found, next) = self.find_near(from, series, key);
         match found {
             Some(held) => (coef == held, next),
             None => (false, next),

@@ -23,7 +23,7 @@ pub unreachable-requires : goal.unreachable-requires
 unreachable-requires c =
     let low : to_z w64 (of_z w64 c.args.view.now.lo) ≡ c.args.view.now.lo = to_z-of_z w64 c.args.view.now.lo (search rules) in
     let high : to_z w64 (of_z w64 c.args.view.now.hi) ≡ c.args.view.now.hi = to_z-of_z w64 c.args.view.now.hi (search rules) in
-    let nodes : HeldNodes = record { series = c.args.view.now.series; sent = c.as_slice.result; cache = c.args.cache; slots = c.args.view.now.slots; root = c.root_of.result; asked = None; hints = replicate 64 0 } in
+    let nodes : HeldNodes = record { series = c.args.view.now.series; sent = c.as_slice.result; cache = c.args.cache; slots = c.args.view.now.slots; root = c.root_of.result; asked = None; hints = replicate 64 (0, 0) } in
     let are : AreFor nodes c.axis_of-axis.result c.args.view.now c.args.cache.now =
     record { axis_is = c.axis_of-axis.ensures; series = refl; sent = c.as_slice.ensures; cache_is = refl; slots = refl; root = c.root_of.ensures } in
     found_some nodes c.survey.new.nodes c.axis_of-axis.result c.args.view.now c.args.cache.now c.args.grid c.in-Err-Node.field-0 c.in-Err-Node.field-0-0 c.first_failing.result are
@@ -33,7 +33,7 @@ pub returns-in-Ok-clause-wanted : goal.returns-in-Ok-clause-wanted
 returns-in-Ok-clause-wanted c =
     let low : to_z w64 (of_z w64 c.args.view.now.lo) ≡ c.args.view.now.lo = to_z-of_z w64 c.args.view.now.lo (search rules) in
     let high : to_z w64 (of_z w64 c.args.view.now.hi) ≡ c.args.view.now.hi = to_z-of_z w64 c.args.view.now.hi (search rules) in
-    let nodes : HeldNodes = record { series = c.args.view.now.series; sent = c.as_slice.result; cache = c.args.cache; slots = c.args.view.now.slots; root = c.root_of.result; asked = None; hints = replicate 64 0 } in
+    let nodes : HeldNodes = record { series = c.args.view.now.series; sent = c.as_slice.result; cache = c.args.cache; slots = c.args.view.now.slots; root = c.root_of.result; asked = None; hints = replicate 64 (0, 0) } in
     let are : AreFor nodes c.axis_of-axis.result c.args.view.now c.args.cache.now =
     record { axis_is = c.axis_of-axis.ensures; series = refl; sent = c.as_slice.ensures; cache_is = refl; slots = refl; root = c.root_of.ensures } in
     found_wanted nodes c.axis_of-axis.result c.args.view.now c.args.cache.now c.args.grid c.in-Ok.findings.needed are (range_at (λ lo hi. Lists nodes c.axis_of-axis.result c.args.grid lo hi c.in-Ok.findings.needed) _ _ c.args.view.now.lo c.args.view.now.hi low high (c.in-Ok.ensures.told tt))
@@ -42,7 +42,7 @@ pub returns-in-Ok-clause-usable : goal.returns-in-Ok-clause-usable
 returns-in-Ok-clause-usable c =
     let low : to_z w64 (of_z w64 c.args.view.now.lo) ≡ c.args.view.now.lo = to_z-of_z w64 c.args.view.now.lo (search rules) in
     let high : to_z w64 (of_z w64 c.args.view.now.hi) ≡ c.args.view.now.hi = to_z-of_z w64 c.args.view.now.hi (search rules) in
-    let nodes : HeldNodes = record { series = c.args.view.now.series; sent = c.as_slice.result; cache = c.args.cache; slots = c.args.view.now.slots; root = c.root_of.result; asked = None; hints = replicate 64 0 } in
+    let nodes : HeldNodes = record { series = c.args.view.now.series; sent = c.as_slice.result; cache = c.args.cache; slots = c.args.view.now.slots; root = c.root_of.result; asked = None; hints = replicate 64 (0, 0) } in
     let are : AreFor nodes c.axis_of-axis.result c.args.view.now c.args.cache.now =
     record { axis_is = c.axis_of-axis.ensures; series = refl; sent = c.as_slice.ensures; cache_is = refl; slots = refl; root = c.root_of.ensures } in
     found_usable nodes c.axis_of-axis.result c.args.view.now c.args.cache.now c.args.grid c.in-Ok.findings.needed are (range_at (λ lo hi. Lists nodes c.axis_of-axis.result c.args.grid lo hi c.in-Ok.findings.needed) _ _ c.args.view.now.lo c.args.view.now.hi low high (c.in-Ok.ensures.told tt))
@@ -51,7 +51,7 @@ pub returns-in-Ok-clause-rows : goal.returns-in-Ok-clause-rows
 returns-in-Ok-clause-rows c = λ list agrees.
     let low : to_z w64 (of_z w64 c.args.view.now.lo) ≡ c.args.view.now.lo = to_z-of_z w64 c.args.view.now.lo (search rules) in
     let high : to_z w64 (of_z w64 c.args.view.now.hi) ≡ c.args.view.now.hi = to_z-of_z w64 c.args.view.now.hi (search rules) in
-    let nodes : HeldNodes = record { series = c.args.view.now.series; sent = c.as_slice.result; cache = c.args.cache; slots = c.args.view.now.slots; root = c.root_of.result; asked = None; hints = replicate 64 0 } in
+    let nodes : HeldNodes = record { series = c.args.view.now.series; sent = c.as_slice.result; cache = c.args.cache; slots = c.args.view.now.slots; root = c.root_of.result; asked = None; hints = replicate 64 (0, 0) } in
     let are : AreFor nodes c.axis_of-axis.result c.args.view.now c.args.cache.now =
     record { axis_is = c.axis_of-axis.ensures; series = refl; sent = c.as_slice.ensures; cache_is = refl; slots = refl; root = c.root_of.ensures } in
     found_rows nodes c.axis_of-axis.result c.args.view.now c.args.cache.now c.args.grid c.in-Ok.findings.needed c.in-Ok.findings.rows list
@@ -62,7 +62,7 @@ pub returns-in-Some-clause-failed : goal.returns-in-Some-clause-failed
 returns-in-Some-clause-failed c =
     let low : to_z w64 (of_z w64 c.args.view.now.lo) ≡ c.args.view.now.lo = to_z-of_z w64 c.args.view.now.lo (search rules) in
     let high : to_z w64 (of_z w64 c.args.view.now.hi) ≡ c.args.view.now.hi = to_z-of_z w64 c.args.view.now.hi (search rules) in
-    let nodes : HeldNodes = record { series = c.args.view.now.series; sent = c.as_slice.result; cache = c.args.cache; slots = c.args.view.now.slots; root = c.root_of.result; asked = None; hints = replicate 64 0 } in
+    let nodes : HeldNodes = record { series = c.args.view.now.series; sent = c.as_slice.result; cache = c.args.cache; slots = c.args.view.now.slots; root = c.root_of.result; asked = None; hints = replicate 64 (0, 0) } in
     let are : AreFor nodes c.axis_of-axis.result c.args.view.now c.args.cache.now =
     record { axis_is = c.axis_of-axis.ensures; series = refl; sent = c.as_slice.ensures; cache_is = refl; slots = refl; root = c.root_of.ensures } in
     found_failure nodes c.survey.new.nodes c.axis_of-axis.result c.args.view.now c.args.cache.now c.args.grid c.first_failing.result c.in-Some.failure c.error_of.result are
