@@ -13,5 +13,5 @@ returns-in-Some c =
 pub returns-in-None : goal.returns-in-None
 returns-in-None c =
     let series = c.args.self.now.series in
-    told_either series c.args.self.now.sent.now c.args.self.now.cache.now c.args.key None c.find_near-held.result c.find_near-held.result
+    told_either series c.args.self.now.sent.now c.args.self.now.cache.now c.args.key None c.find_near-held.result.0 c.find_near-held.result.0
     refl (sym c.in-None.is ∙ c.look_up-sent.ensures.found series) c.find_near-held.ensures
