@@ -1,7 +1,8 @@
 -- What a call makes is a run.
-use Rattle.std.proofs.Common.{◌≡◌, ◌≢◌, ℕ, zero, suc, ◌<◌, ◌≤◌, ◌^◌, inl, inr, List, [], ◌++◌, map, take}
+use Rattle.std.proofs.Common.{◌≡◌, ◌≢◌, ℕ, Bool, true, false, zero, suc, ◌<◌, ◌≤◌, ◌^◌, inl, inr, List, [], ◌++◌, map, take}
 use Rattle.std.proofs.Common.{drop, Option, None, Some, IfSome, refl, sym, subst, ap, ◌∙◌, arith}
-use Rattle.std.specs.Prelude.{Contains}
+use Rattle.std.specs.Prelude.{Contains, if◌then◌else◌}
+use Rattle.std.specs.List.{list_any}
 use Rattle.std.proofs.lemmas.List.{append_cancel_left, append-nil, take-append-drop}
 use Rattle.block_disk.specs.Streams.{sent_after}
 use Rattle.block_disk.specs.View.{Image, View, sent_now}
@@ -18,7 +19,7 @@ use Rattle.program_words.specs.declared.words.Command.TheVariants.{Plot, Load, D
 use Rattle.program_words.specs.declared.words.Command.TheVariants.{Check, ListSeries, Export, Retain, Cover, Live, Host, Derive}
 use Rattle.series_book.specs.declared.one_series.Series.{Series}
 use Rattle.served_fronts.specs.Fronts.{Draws, Covers}
-use Rattle.served_fronts.specs.Headline.{IsRun}
+use Rattle.served_fronts.specs.Headline.{IsExact, IsRun}
 use Rattle.served_fronts.specs.Headline.Task.{serves, runs, watches, looks, changes}
 use Rattle.served_fronts.specs.Servings.{SendsFirstBytes, ServingsAreExact, TextsAreExact}
 use Rattle.served_fronts.specs.Books.{said_by}
@@ -29,11 +30,13 @@ use Rattle.stored_book.specs.Standing.{RecoversTo, book_pages}
 use Rattle.store_commands.specs.Books.{begun, LeavesSame}
 use Rattle.chart_program.specs.CommandStatuses.{codes_of}
 use Rattle.chart_program.specs.Exact.{run_of, task_of, drawing_codes, MakesRuns, BeginsRuns, DrawsFronts}
+use Rattle.chart_program.specs.HostLines.{asks_sweep}
 use Rattle.chart_program.specs.Lives.{BeginsOn, IsLeftAt}
 use Rattle.chart_program.specs.Ran.{CommandEnds, Leaves}
 use Rattle.chart_program.specs.Served.{Faults, AreTexts}
 use Rattle.live_command.specs.Ended.{LeavesLived, begun_live}
 use Rattle.chart_program.proofs.CommandsEnd.{small_never}
+use Rattle.chart_program.proofs.HostRuns.{quiet_left}
 use Rattle.chart_program.proofs.LiveRuns.{live_follows}
 use Rattle.chart_program.proofs.LivesLemmas.{begun_holds, left_by, run_lives, OneBook}
 
@@ -220,12 +223,29 @@ change_run one command old new input sent code leaves begins after at b is total
     let left = left_by one command input (page_count old.size) total book (sent_now old) after (new.sent_by at) life in
     (left.0, tt, left.2)
 
+-- ---- a run of `host`, which is as one that follows views unless a line asks for a sweep
+
+host_run : LinesSayWhatIsRead → OneBook → (old new : View) (input sent : List ℕ) (code : ℕ) → Leaves Host input old new
+    → (begins after : Image) (at : ℕ) → BeginsOn begins old → IsLeftAt old new at after
+    → IsRun (page_count old.size) (run_of (task_of Host input) begins input sent code old new at after)
+host_run reads one old new input sent code leaves begins after at b is total book recovers =
+    let life = run_lives Host input old new begins after at b leaves is total book recovers in
+    let left = left_by one Host input (page_count old.size) total book (sent_now old) after (new.sent_by at) life in (
+      left.0,
+      (elim (list_any asks_sweep (told input)) as (λ some. list_any asks_sweep (told input) ≡ some
+      → IsExact (if some then changes else watches) total book (run_of (task_of Host input) begins input sent code old new at after) left.0) [
+        | true ↦ λ some. tt
+        | false ↦ λ none. quiet_left reads total book input left.0 none left.1.0
+      ]) refl,
+      left.2,
+    )
+
 -- ---- any command
 
 command_run : ServingsAreExact → TextsAreExact → LinesSayWhatIsRead → OneBook → (command : Command) (old new : View) (input was sent bytes : List ℕ) (faults : Faults)
     (code place : ℕ) → CommandEnds command old new (Some input) (Some bytes) (Some was) (Some (was ++ sent)) faults code place
     → (begins after : Image) (at : ℕ) → BeginsOn begins old → IsLeftAt old new at after
-    → IsRun (page_count old.size) (run_of (task_of command) begins input sent code old new at after)
+    → IsRun (page_count old.size) (run_of (task_of command input) begins input sent code old new at after)
 command_run law texts reads one (Plot w h) old new input was sent bytes faults code place e = look_run old new input sent code e.crash
 command_run law texts reads one Draw old new input was sent bytes faults code place e = look_run old new input sent code e.crash
 command_run law texts reads one (Cover every) old new input was sent bytes faults code place e = look_run old new input sent code e.crash
@@ -242,7 +262,7 @@ command_run law texts reads one (Demo seed rounds) old new input was sent bytes 
     change_run one (Demo seed rounds) old new input sent code e.crash
 command_run law texts reads one Retain old new input was sent bytes faults code place e = change_run one Retain old new input sent code e.crash
 command_run law texts reads one Live old new input was sent bytes faults code place e = live_run reads old new input sent code e.crash
-command_run law texts reads one Host old new input was sent bytes faults code place e = change_run one Host old new input sent code e.crash
+command_run law texts reads one Host old new input was sent bytes faults code place e = host_run reads one old new input sent code e.crash
 
 -- where the input is told
 pub runs_made : ServingsAreExact → TextsAreExact → LinesSayWhatIsRead → OneBook → (command : Command) (old new : View) (left left' before now : Option (List ℕ))

@@ -22,6 +22,8 @@ pub mod CommandCodes
 pub mod EndsByCode
 pub mod CommandsEnd
 pub mod StoreShown
+pub mod LiveRuns
+pub mod HostRuns
 pub mod LivesLemmas
 pub mod Knowing
 pub mod Drawings
@@ -41,5 +43,4 @@ pub mod RetainEnds
 pub mod LiveEnds
 pub mod HostEnds
 pub mod DeriveEnds
-pub mod LiveRuns
 pub mod ExactRuns

@@ -19,7 +19,7 @@ use Rattle.served_fronts.proofs.Books.{by_line, by_request}
 -- ---- a line that asks for a following says no request
 
 -- the words say no request
-abbrev SaysNone : List (List ℕ) → Type 0
+abbrev pub SaysNone : List (List ℕ) → Type 0
 SaysNone words = (end : ℕ) → ok_of (read_by (tokens_fault end words) (named words)) ≡ None
 
 follow_none : (others : List (List ℕ)) → SaysNone (codes "follow" ∷ others)
@@ -58,7 +58,7 @@ asks_none text asks =
 -- ---- the book behind a reply
 
 -- the state's book is that after the line, and its total stays
-abbrev Keeps : Line → LiveState → LiveState → Type 0
+abbrev pub Keeps : Line → LiveState → LiveState → Type 0
 Keeps line old new =
     (new.state.book ≡ after_line old.state.total old.state.book line) × (new.state.total ≡ old.state.total)
 
@@ -80,12 +80,12 @@ by_ask (Unfollow n) text frame old new is r =
 by_ask (Bad at) text frame old new is r = stays text old new r.state (asks_none text (not_other text (Bad at) is (λ never. cc)))
 by_ask Other text frame old new is r = by_line old.state new.state frame (Some text) r.replied.0
 
-by_live : (line : Line) (frame : Frame) (old new : LiveState) → LiveReplied line frame old new → Keeps line old new
+pub by_live : (line : Line) (frame : Frame) (old new : LiveState) → LiveReplied line frame old new → Keeps line old new
 by_live None frame old new r = by_line old.state new.state frame None r.replied.0
 by_live (Some text) frame old new r = by_ask (live_line text) text frame old new refl r
 
 -- a push changes no book
-by_push : (frame : Frame) (old new : LiveState) → Pushed frame old new
+pub by_push : (frame : Frame) (old new : LiveState) → Pushed frame old new
     → (new.state.book ≡ old.state.book) × (new.state.total ≡ old.state.total)
 by_push frame old new p = by_request old.state new.state frame (Ok (own_zoom p.session p.last)) p.replied.0
 

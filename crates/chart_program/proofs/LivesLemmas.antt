@@ -1,5 +1,5 @@
 -- Books outlive their runs.
-use Rattle.std.proofs.Common.{◌≡◌, ℕ, List, [], ◌∷◌, Option, None, Some, IfSome, refl, sym, subst, inl, inr}
+use Rattle.std.proofs.Common.{◌≡◌, ℕ, List, [], ◌∷◌, ◌++◌, Option, None, Some, IfSome, refl, sym, subst, inl, inr}
 use Rattle.block_disk.specs.View.{Image, View}
 use Rattle.gate_pages.specs.Journal.{page_count}
 use Rattle.series_book.specs.declared.one_series.Series.{Series}
@@ -14,6 +14,8 @@ use Rattle.store_commands.proofs.HoldsAgain.{series_there}
 use Rattle.store_commands.specs.Loaded.{IsAheadLoad}
 use Rattle.store_commands.specs.Demonstrated.{IsAheadDemo}
 use Rattle.demo_workload.specs.Workload.{workload}
+use Rattle.chart_program.specs.HostLines.{LeavesHostLines}
+use Rattle.chart_program.proofs.HostRuns.{host_left, host_left_amid}
 use Rattle.chart_program.specs.Lives.{Life, AreLives, IsLife, IsLived, BeginsOn, IsLeftAt, LeavesFrom, IsAfterLines, IsAfterSets, IsAfterRequests, Outlives, AreBooks, life_of}
 use Rattle.chart_program.specs.Ran.{Leaves, LeavesTold}
 use Rattle.chart_program.specs.Served.{Says, Spelled, AreTexts, IsAheadOn}
@@ -158,39 +160,47 @@ left_lived : (input : List ℕ) (count total : ℕ) (book : List Series) (from :
 left_lived input count total book from left sent is =
     (is.state.state.book, record { shown = is.shown; more = is.more; few = is.few; state = is.state; first = is.first; there = refl; low = is.low; high = is.high }, is.there)
 
--- so where edits are done together
+-- so where edits are done together, and by what the lines say and ask
 left_hosted : (input : List ℕ) (count total : ℕ) (book : List Series) (from : ℕ) (left : Image) (sent : ℕ)
     → IsAheadHosted (λ after. RecoversTo count left total after) input (begun_live total book) from sent
-    → (next : List Series) × IsAheadHosted (λ after. next ≡ after) input (begun_live total book) from sent × RecoversTo count left total next
+    → (next : List Series)
+    × (LeavesHostLines total book input next × IsAheadHosted (λ after. next ≡ after) input (begun_live total book) from sent)
+    × RecoversTo count left total next
 left_hosted input count total book from left sent is = elim is.there [
   | inl here ↦ (
     is.state.state.book,
-    record { shown = is.shown; more = is.more; few = is.few; state = is.state; first = is.first; there = inl refl; low = is.low; high = is.high },
+    (
+      host_left input total book (is.shown ++ is.more) is.state is.first,
+      record { shown = is.shown; more = is.more; few = is.few; state = is.state; first = is.first; there = inl refl; low = is.low; high = is.high },
+    ),
     here,
   )
   | inr amid ↦ (
     _,
-    record {
-      shown = is.shown;
-      more = is.more;
-      few = is.few;
-      state = is.state;
-      first = is.first;
-      there = inr (record {
-        none = amid.none;
-        idle = amid.idle;
-        line = amid.line;
-        later = amid.later;
-        lines_are = amid.lines_are;
-        rule = amid.rule;
-        asks = amid.asks;
-        done = amid.done;
-        few = amid.few;
-        there = refl;
-      });
-      low = is.low;
-      high = is.high;
-    },
+    (
+      host_left_amid input total book (is.shown ++ is.more) is.state is.first amid.line amid.later amid.rule amid.done amid.lines_are amid.asks,
+      record {
+        shown = is.shown;
+        more = is.more;
+        few = is.few;
+        state = is.state;
+        first = is.first;
+        there = inr (record {
+          none = amid.none;
+          idle = amid.idle;
+          line = amid.line;
+          later = amid.later;
+          lines_are = amid.lines_are;
+          rule = amid.rule;
+          asks = amid.asks;
+          done = amid.done;
+          few = amid.few;
+          there = refl;
+        });
+        low = is.low;
+        high = is.high;
+      },
+    ),
     amid.there,
   )
 ]

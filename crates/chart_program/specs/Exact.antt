@@ -1,6 +1,8 @@
 -- What a call of the program is in lists of runs: which run it makes, what it leaves for the first one, and what it draws.
-use Rattle.std.specs.Prelude.{⊤, ◌≡◌, ℕ, ◌-◌, ◌++◌, List, [], ◌∷◌, Option, Some}
+use Rattle.std.specs.Prelude.{⊤, ◌≡◌, ℕ, ◌-◌, ◌++◌, List, [], ◌∷◌, Option, Some, if◌then◌else◌}
+use Rattle.std.specs.List.{list_any}
 use Rattle.block_disk.specs.View.{Image, View, Honest, sent_now}
+use Rattle.chart_service.specs.Serving.{told}
 use Rattle.gate_pages.specs.Journal.{page_count}
 use Rattle.program_words.specs.declared.words.Command.{Command}
 use Rattle.program_words.specs.declared.words.Command.TheVariants.{Plot, Load, Demo, Run, Serve, Draw, Init}
@@ -10,25 +12,27 @@ use Rattle.served_fronts.specs.Headline.{Task, IsRun}
 use Rattle.served_fronts.specs.Headline as headline
 use Rattle.served_fronts.specs.Headline.Task.{serves, runs, watches, looks, changes}
 use Rattle.stored_book.specs.Standing.{RecoversTo}
+use Rattle.chart_program.specs.HostLines.{asks_sweep}
 use Rattle.chart_program.specs.Lives.{BeginsOn, IsLeftAt}
 
--- What a command is for. A store that is there is left alone by `init`.
-abbrev pub task_of : Command → Task
-task_of Serve = serves
-task_of Run = runs
-task_of (Load name) = changes
-task_of (Demo seed rounds) = changes
-task_of Retain = changes
-task_of Live = watches
-task_of Host = changes
-task_of Check = looks
-task_of ListSeries = looks
-task_of (Export name window) = looks
-task_of Derive = looks
-task_of (Plot w h) = looks
-task_of Draw = looks
-task_of (Cover every) = looks
-task_of Init = looks
+-- What a command is for over an input. A store that is there is left alone by `init`; where a line asks for a sweep `host` does
+-- more than its lines say, and else it is as `live`.
+abbrev pub task_of : Command → List ℕ → Task
+task_of Serve input = serves
+task_of Run input = runs
+task_of (Load name) input = changes
+task_of (Demo seed rounds) input = changes
+task_of Retain input = changes
+task_of Live input = watches
+task_of Host input = if list_any asks_sweep (told input) then changes else watches
+task_of Check input = looks
+task_of ListSeries input = looks
+task_of (Export name window) input = looks
+task_of Derive input = looks
+task_of (Plot w h) input = looks
+task_of Draw input = looks
+task_of (Cover every) input = looks
+task_of Init input = looks
 
 -- the run of a call from one disk to another that sent these bytes, and a crash at a moment of it
 abbrev pub run_of : Task → Image → List ℕ → List ℕ → ℕ → View → View → ℕ → Image → headline.Run
@@ -48,7 +52,7 @@ abbrev pub MakesRuns : ℕ → Option (List ℕ) → Command → View → View �
 MakesRuns status left command old new input before now =
     (begins after : Image) (at : ℕ) (was sent bytes : List ℕ) → BeginsOn begins old → IsLeftAt old new at after
     → left ≡ Some bytes → before ≡ Some was → now ≡ Some (was ++ sent)
-    → IsRun (page_count old.size) (run_of (task_of command) begins input sent status old new at after)
+    → IsRun (page_count old.size) (run_of (task_of command input) begins input sent status old new at after)
 
 -- what `init` made stands for the book without a series, with nothing pending
 abbrev pub BeginsRuns : Command → View → View → Type 0

@@ -5,6 +5,7 @@ pub mod Runs
 pub mod Known
 pub mod Served
 pub mod Traffic
+pub mod HostLines
 pub mod Lives
 pub mod Ended
 pub mod CommandStatuses

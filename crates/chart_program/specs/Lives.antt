@@ -20,6 +20,7 @@ use Rattle.program_words.specs.declared.words.Command.TheVariants.{Plot, Load, D
 use Rattle.store_commands.specs.Books.{begun}
 use Rattle.store_commands.specs.Loaded.{IsAheadLoad}
 use Rattle.store_commands.specs.Demonstrated.{AnswersFirst, IsAheadDemo}
+use Rattle.chart_program.specs.HostLines.{LeavesHostLines}
 use Rattle.chart_program.specs.Served.{Spelled, AreTexts, IsAheadOn}
 use Rattle.retain_command.specs.Sweeping.{IsAhead as IsAheadBy}
 use Rattle.hosted_lines.specs.Running.{IsAhead as IsAheadHosted}
@@ -139,7 +140,8 @@ Outlives ListSeries input total old new from sent = new ≡ old
 Outlives (Export name window) input total old new from sent = new ≡ old
 Outlives Retain input total old new from sent = IsAheadBy (λ after. new ≡ after) total old input from sent
 Outlives Live input total old new from sent = IsAheadLive (λ after. new ≡ after) input (begun_live total old) from sent
-Outlives Host input total old new from sent = IsAheadHosted (λ after. new ≡ after) input (begun_live total old) from sent
+Outlives Host input total old new from sent =
+    LeavesHostLines total old input new × IsAheadHosted (λ after. new ≡ after) input (begun_live total old) from sent
 Outlives Derive input total old new from sent = new ≡ old
 Outlives (Plot w h) input total old new from sent = new ≡ old
 Outlives Draw input total old new from sent = new ≡ old
