@@ -1,11 +1,13 @@
-//! A sweep that is stopped after each of its calls, with each way to tear what is pending then.
+//! A sweep that is stopped after each of its calls, with each way to tear what is pending then, and one in steps.
 
 use crate::deeds::{Deed, MANY, after, bytes_of, fused, run};
 use crate::stops::{TEARS, pages_of};
 use block_disk::{MemDisk, Tear};
 use disk_store::{disk_of, open_store};
-use retention::{Rule, sweep};
+use gate_pages::Pages;
+use retention::{Rule, sweep, sweep_some};
 use series_book::Name;
+use series_store::Store;
 use std::alloc::Global;
 use std::test::Fail;
 
@@ -40,12 +42,17 @@ const FULL: [Deed; 24] = [
 /// The slots before the time 5,000: those of one range of 4,096 slots, and some of the next one.
 const CLEARS: [Deed; 2] = [Deed::Clear(0, 4096), Deed::Clear(4096, 904)];
 
-/// Drops them on a disk of these bytes that stops after so many calls: whether that was done, and the disk.
-fn swept(alloc: Global, image: &[u8], calls: u64) -> Result<(bool, MemDisk), Fail> {
-    let rule = Rule::Before {
+/// The rule that drops them.
+fn rule(alloc: Global) -> Result<Rule, Fail> {
+    Ok(Rule::Before {
         name: Name::new(alloc, b"a")?,
         time: 5_000,
-    };
+    })
+}
+
+/// Drops them on a disk of these bytes that stops after so many calls: whether that was done, and the disk.
+fn swept(alloc: Global, image: &[u8], calls: u64) -> Result<(bool, MemDisk), Fail> {
+    let rule = rule(alloc)?;
     let disk = fused(alloc, image, calls, &[])?;
     let (done, disk) = match open_store(alloc, disk) {
         Ok(mut store) => {
@@ -115,5 +122,48 @@ fn a_stop_leaves_some_first_clears(rt: HostRuntime) -> Result<(), Fail> {
     for (tear, _) in TEARS {
         stops_in_order(alloc, full.as_slice(), images.as_slice(), calls, tear)?;
     }
+    Ok(())
+}
+
+/// A step of at most so many clears: how many it made, and whether more are left.
+fn step<P: Pages>(store: &mut Store<P>, rule: &Rule, most: u64) -> Result<(u64, bool), Fail> {
+    if !store.is_sound() {
+        return Err(Fail::new("the store isn't sound"));
+    }
+    match sweep_some(store, rule, most) {
+        Ok(swept) => Ok((swept.clears, swept.more)),
+        Err(_) => Err(Fail::new("no step")),
+    }
+}
+
+/// Steps of at most so many clears on a disk of these bytes, one behind the other: what each told, and the disk.
+fn stepped(
+    alloc: Global,
+    image: &[u8],
+    mosts: &[u64],
+) -> Result<(Vec<(u64, bool)>, MemDisk), Fail> {
+    let rule = rule(alloc)?;
+    let disk = fused(alloc, image, MANY, &[])?;
+    let Ok(mut store) = open_store(alloc, disk) else {
+        return Err(Fail::new("no store"));
+    };
+    let mut told = Vec::new(alloc);
+    for most in mosts {
+        told.push(step(&mut store, &rule, *most)?)?;
+    }
+    Ok((told, disk_of(store).into_inner()))
+}
+
+#[test]
+fn steps_go_on_until_no_clear_is_left(rt: HostRuntime) -> Result<(), Fail> {
+    let alloc = rt.alloc();
+    let full = after(alloc, &FULL)?;
+    let images = images_of(alloc, full.as_slice())?;
+    let (told, disk) = stepped(alloc, full.as_slice(), &[0, 1])?;
+    assert!(rt; told.as_slice() == [(0, true), (1, true)].as_slice());
+    assert_eq!(rt; clears_in(alloc, disk, images.as_slice())?, 1);
+    let (told, disk) = stepped(alloc, full.as_slice(), &[1, 1, 1])?;
+    assert!(rt; told.as_slice() == [(1, true), (1, false), (0, false)].as_slice());
+    assert_eq!(rt; clears_in(alloc, disk, images.as_slice())?, 2);
     Ok(())
 }
