@@ -233,10 +233,10 @@ host_run reads one old new input sent code leaves begins after at b is total boo
     let left = left_by one Host input (page_count old.size) total book (sent_now old) after (new.sent_by at) life in (
       left.0,
       (elim (list_any asks_sweep (told input)) as (λ some. list_any asks_sweep (told input) ≡ some
-      → IsExact (if some then changes else watches) total book (run_of (task_of Host input) begins input sent code old new at after) left.0) [
-        | true ↦ λ some. tt
-        | false ↦ λ none. quiet_left reads total book input left.0 none left.1.0
-      ]) refl,
+          → IsExact (if some then changes else watches) total book (run_of (task_of Host input) begins input sent code old new at after) left.0) [
+            | true ↦ λ some. tt
+            | false ↦ λ none. quiet_left reads total book input left.0 none left.1.0
+          ]) refl,
       left.2,
     )
 

@@ -156,7 +156,7 @@ stepped_book : (rule : Rule) (frame : Frame) (old new : LiveState) → SweepRepl
 stepped_book rule frame old new replied = elim replied.0 [
   | inl refuses ↦ (
     ap (λ s. s.book) refuses.state_same
-    ∙ sym (ap (λ cs. after_edits old.state.total old.state.book (take most_clears cs)) (none_swept old.state.total old.state.book rule refuses.none)),
+        ∙ sym (ap (λ cs. after_edits old.state.total old.state.book (take most_clears cs)) (none_swept old.state.total old.state.book rule refuses.none)),
     ap (λ s. s.total) refuses.state_same,
   )
   | inr does ↦ (ap (λ s. s.book) does.state_is, ap (λ s. s.total) does.state_is)
@@ -171,9 +171,11 @@ swept text frames old new s =
     let book = old.state.book in
     let here = stepped_book s.rule s.frame old new s.replied in
     let clears : clears_of total book (Some text) ≡ sweeps_some total book s.rule most_clears =
-    ap (λ asked. clears_asked asked (begun total book)) s.asks in
-    (here.0 ∙ sym (ap (after_edits total (after_line total book (Some text))) clears
-    ∙ ap (λ b. after_edits total b (sweeps_some total book s.rule most_clears)) (unsaid total book text (not_other text s.rule s.asks))), here.1)
+    ap (λ asked. clears_asked asked (begun total book)) s.asks in (
+      here.0 ∙ sym (ap (after_edits total (after_line total book (Some text))) clears
+          ∙ ap (λ b. after_edits total b (sweeps_some total book s.rule most_clears)) (unsaid total book text (not_other text s.rule s.asks))),
+      here.1,
+    )
 
 -- ---- edits that are done together
 
@@ -227,7 +229,7 @@ join_lines (line ∷ front) rest total book = join_lines front rest total (after
 joined : (front rest : List Line) (old between new : LiveState) → Follows front old between → Follows rest between new → Follows (front ++ rest) old new
 joined front rest old between new first later = (
   later.0 ∙ ap (λ t. after_all_hosted t between.state.book rest) first.1 ∙ ap (λ b. after_all_hosted old.state.total b rest) first.0
-  ∙ sym (join_lines front rest old.state.total old.state.book),
+      ∙ sym (join_lines front rest old.state.total old.state.book),
   later.1 ∙ first.1,
 )
 
