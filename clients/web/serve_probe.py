@@ -61,7 +61,7 @@ class Served:
         with contextlib.suppress(ConnectionError):
             connection.send(body)
         answer = connection.getresponse()
-        data = answer.read()
+        data, self.headers = answer.read(), answer.headers
         connection.close()
         return answer.status, data
 

@@ -25,8 +25,9 @@ sys.path.insert(0, os.path.join(ROOT, "clients/python"))
 
 from page_server.changes import Changes  # noqa: E402
 from page_server.sessions import Sessions  # noqa: E402
+from zurtkvani_client import page_rules  # noqa: E402
 
-OPENED, CLOSED, DONE, REFUSED, VIEW = 3, 4, 1, 2, 5
+DONE, REFUSED, OPENED, CLOSED, VIEW, ROWS, _, CATALOG, VALUES, SWEPT = range(1, 11)
 
 
 class Page(unittest.TestCase):
@@ -42,13 +43,46 @@ class Page(unittest.TestCase):
 
 class Answers(Page):
     def test_lines_are_answered_in_order(self):
-        status, data = self.served.request(b"open 1", b"view 1 a 4 4 0 4 auto", b"close 1")
+        self.assertEqual(self.kinds(b"open 1", b"view 1 a 4 4 0 4 auto", b"close 1"), [OPENED, VIEW, CLOSED])
+
+    def kinds(self, *lines):
+        """The kinds of the frames that answer some lines; of a refusal its number below 0."""
+        status, data = self.served.request(*lines)
         self.assertEqual(status, 200)
         kinds = []
         while data:
-            kinds.append(data[4])
+            kinds.append(-data[5] if data[4] == REFUSED else data[4])
             data = data[4 + int.from_bytes(data[:4], "big") :]
-        self.assertEqual(kinds, [OPENED, VIEW, CLOSED])
+        return kinds
+
+    def test_a_sum_is_answered_and_leaves_what_the_session_was_answered(self):
+        self.served.request(b"create b 0 1 1", b"append b 1 1 1", b"create c 1 2 1")
+        self.served.ask("POST", "/catalog")
+        self.assertEqual(self.served.headers[page_rules.OFFERS], "sum")
+        sum_of = b"sum 1 a %s 1 -1 4 4 0 4 auto"
+        self.assertEqual(self.kinds(b"open 1", sum_of % b"b", b"zoom 1 0 2"), [OPENED, ROWS, -16])
+        self.assertEqual(self.kinds(b"view 1 a 4 4 0 4 auto", sum_of % b"b", b"zoom 1 0 2"), [VIEW, ROWS, VIEW])
+        lines = sum_of % b"c", sum_of % b"none", b"sum 1 a b 1 1 4 4 4 4 auto", b"sum 1 a b 1 1 0 4 0 4 auto", b"sum 2 a b 1 1 4 4 0 4 auto"
+        self.assertEqual(self.kinds(*lines), [-11, -8, -17, -18, -4])
+
+    def test_a_sum_counts_as_a_request_of_its_session(self):
+        self.assertEqual(page_rules.number_in(b"sum 7 a b 1 1 4 4 0 4 auto"), b"7")
+
+    def test_reports_are_answered(self):
+        self.assertEqual(self.kinds(b"list", b"values a 0 4", b"sweep last a 2"), [CATALOG, VALUES, SWEPT])
+
+    def test_a_page_is_told_what_a_sweep_changed(self):
+        self.served.request(b"create b 0 1 1", b"open 1")
+        with self.served.events(1) as stream:
+            read_until(stream, b": here")
+            self.served.request(b"sweep last a 9")  # clears nothing
+            self.served.request(b"sweep last a 1")
+            told = read_until(stream, b"}]\n\n")
+            self.assertEqual(told[told.index(b"event:") :], b'event: changed\ndata: [{"name": "a", "start": "0", "step": 1, "scale": 1, "slots": 3}]\n\n')
+
+    def test_a_session_isnt_made_to_follow(self):
+        for line in (b"follow 1", b"unfollow 1"):
+            self.assertEqual(self.served.request(b"open 1", line)[0], 403)
 
     def test_a_close_that_is_refused_closes_nothing(self):
         self.served.request(b"open 1")
@@ -106,7 +140,7 @@ class WithoutEdits(Page):
     words = []
 
     def test_edits_are_refused(self):
-        for line in (b"append a 9", b"create x 0 1 0", b"clear a 0 1", b" set a 0 5", b"sets"):
+        for line in (b"append a 9", b"create x 0 1 0", b"clear a 0 1", b"sweep last a 1", b" set a 0 5", b"sets"):
             self.assertEqual(self.served.request(line)[0], 403, line)
             self.assertEqual(self.served.request(b"open 1", line)[0], 403, line)
 

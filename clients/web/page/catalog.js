@@ -9,11 +9,14 @@ const seriesOf = (told) => ({ ...told, start: BigInt(told.start) });
 export class Catalog {
   constructor() {
     this.series = new Map();
-    this.lasts = new Map(); // the last values, by names, with the number of slots then
+    this.lasts = new Map(); // the last values, by names
+    this.hasSums = false; // whether the server answers sums, too
   }
 
   async load() {
-    const told = await (await post("catalog", "")).json();
+    const response = await post("catalog", "");
+    const told = await response.json();
+    this.hasSums = response.headers.get("X-Chart-Offers") === "sum";
     this.series = new Map(told.map((one) => [one.name, seriesOf(one)]));
   }
 

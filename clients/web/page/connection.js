@@ -1,4 +1,5 @@
 /** One session of the program, and the client that draws its frames. Requests go one behind the other. */
+import { refusalOf } from "../chart_client.js";
 import { coverOf, newClient } from "./clients.js";
 
 const CACHE = 131072;
@@ -7,6 +8,7 @@ const BETWEEN_COVERS = 100; // and from one cover to the next
 const [UNKNOWN_SESSION, SESSION_OPEN] = [4, 5];
 export const TOO_MANY_SESSIONS = 6;
 export const BAD_FILTER = 3;
+const OF_SUMS = new Map([[11, 23], [13, 24]]); // prettier-ignore
 
 const token = new URLSearchParams(location.hash.slice(1)).get("token") ?? "";
 
@@ -28,11 +30,13 @@ export class Denied extends Error {
   }
 }
 
-/** A request that the program refused: `frame` has its number, its name and its numbers. */
+/** A request that the program refused: `frame` has its number, its name and its numbers. Two of a sum stand for others that no frame has. */
 export class Refused extends Error {
-  constructor(frame) {
-    super(frame.meaning);
-    this.frame = frame;
+  constructor(frame, line) {
+    const own = line.startsWith("sum ") ? OF_SUMS.get(frame.number) : null;
+    const told = own ? refusalOf(own, frame.a, frame.b) : frame;
+    super(told.meaning);
+    this.frame = told;
   }
 }
 
@@ -165,7 +169,7 @@ export class Connection {
       frames.add(piece.value);
       for (let bytes = frames.next(); bytes; bytes = frames.next()) {
         performance.measure("chart: answer", { start: asked });
-        const answer = this.take(bytes, drawn.client);
+        const answer = this.take(bytes, drawn.client, lines[answers.length]);
         if (isAnswer(answer.frame, lines[answers.length])) {
           answers.push(answer);
           took(answers.length - 1, answer);
@@ -181,8 +185,8 @@ export class Connection {
     return answers;
   }
 
-  /** What one frame tells. */
-  take(bytes, client) {
+  /** What one frame tells, which may answer a line. */
+  take(bytes, client, line) {
     const start = performance.now();
     const [{ frame, picture }] = client.push(bytes);
     performance.measure("chart: picture", { start });
@@ -192,7 +196,7 @@ export class Connection {
     if (frame.number === UNKNOWN_SESSION) {
       this.number = 0;
     }
-    return { bytes, frame, picture, refused: new Refused(frame) };
+    return { bytes, frame, picture, refused: new Refused(frame, line) };
   }
 
   /** Lets the session go. */

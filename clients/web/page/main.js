@@ -6,6 +6,7 @@ import { Catalog } from "./catalog.js";
 import { Connection } from "./connection.js";
 import { listenToControls, showControls } from "./controls.js";
 import { Crosshair } from "./crosshair.js";
+import { curvesOf } from "./curves.js";
 import { part, tell } from "./dom.js";
 import { drawPanels } from "./drawing.js";
 import { Line } from "./live.js";
@@ -103,11 +104,12 @@ class Page {
 
   /** Makes the panels that are asked for, where they aren't there. */
   makePanels(asked) {
-    const shown = asked.panels.map(({ names }) => names.map((name) => this.catalog.shown(name)));
-    const key = JSON.stringify([shown, asked.panels.map(({ names, filter, range }) => [names, filter, range])]);
+    const curves = asked.panels.map((spec) => curvesOf(spec, this.catalog));
+    const labels = curves.map((some) => some.map(({ label }) => label));
+    const key = JSON.stringify([labels, asked.panels.map(({ names, filter, range }) => [names, filter, range])]);
     if (key !== this.made) {
       [this.made, this.digits] = [key, 0];
-      this.panels = asked.panels.map((spec, number) => new Panel(spec, shown[number], number, this.doing(number)));
+      this.panels = asked.panels.map((spec, number) => new Panel(spec, curves[number], number, this.doing(number)));
       this.panels.forEach((panel) => listenOver(panel, this));
       keepFocus(() => part("panels").replaceChildren(...this.panels.map(({ element }) => element)));
     }
@@ -231,7 +233,7 @@ class Page {
 
   showAsked(asked, window) {
     showControls(this, asked, window === NOWHERE ? null : window);
-    const names = asked.panels.flatMap((panel) => panel.names.map((name) => this.catalog.shown(name))).join(", ");
+    const names = this.panels.flatMap(({ shown }) => shown).join(", ");
     document.title = names === "" ? "Chart" : `${names} - Chart`;
   }
 

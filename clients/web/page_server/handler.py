@@ -11,12 +11,14 @@ import sys
 import time
 
 from zurtkvani_client import Ended, page_rules
-from zurtkvani_client.page_rules import BEAT, MOST_BYTES, REST
+from zurtkvani_client.page_rules import BEAT, EDITS, MOST_BYTES, OF_SESSION, REST
 
 from .connections import ANSWER, BODY, HEAD, WAITING, Connections, refuse
 
 FOLDER = os.path.dirname(os.path.dirname(os.path.realpath(__file__)))
 MOST_STREAMS = 48
+READING = (*OF_SESSION, b"list", b"values")
+EDITING = (*READING, *EDITS, b"sweep")
 
 
 class Handler(http.server.BaseHTTPRequestHandler):
@@ -63,13 +65,13 @@ class Handler(http.server.BaseHTTPRequestHandler):
             self.send_header(name, str(value))
         self.end_headers()
 
-    def send(self, status, kind, body):
-        self.head(status, kind, {"Content-Length": len(body)})
+    def send(self, status, kind, body, **more):
+        self.head(status, kind, {"Content-Length": len(body), **more})
         if self.command != "HEAD":
             self.wfile.write(body)
 
-    def send_json(self, status, value):
-        self.send(status, "application/json", json.dumps(value).encode())
+    def send_json(self, status, value, **more):
+        self.send(status, "application/json", json.dumps(value).encode(), **more)
 
     def refuse(self, status, why):
         # What is left of the request isn't read, so the connection can't go on.
@@ -124,11 +126,11 @@ class Handler(http.server.BaseHTTPRequestHandler):
     def answer_lines(self, body):
         """Sends the frames of request lines, each as soon as it is there."""
         try:
-            lines = page_rules.lines_of(body, None if self.server.edits else page_rules.OF_SESSION)
+            lines = page_rules.lines_of(body, EDITING if self.server.edits else READING)
         except ValueError as why:
             return self.refuse(400, str(why))
         except PermissionError:
-            return self.refuse(403, "without --edit only open, close, view, zoom and pan are taken")
+            return self.refuse(403, "a line isn't taken that follows a view, nor without --edit one that edits")
         frames = self.server.sessions.answers(lines)
         if len(lines) == 1:
             return self.send(200, page_rules.FRAMES, next(frames))
@@ -145,7 +147,8 @@ class Handler(http.server.BaseHTTPRequestHandler):
             self.close_connection = True
 
     def send_catalog(self, _):
-        self.send_json(200, [page_rules.told(series) for series in list(self.server.program.catalog.values())])
+        series = [page_rules.told(one) for one in list(self.server.program.catalog.values())]
+        self.send_json(200, series, **{page_rules.OFFERS: "sum"})
 
     def send_events(self, number):
         """A stream of events, which holds a session: `changed` with the series that changed, `ended` with how the program ended,
