@@ -59,6 +59,13 @@ test("a sum is asked in the decimals of the finer series", () => {
   const [large] = curvesOf({ names: ["a", "b"], factors: [10 ** 9, 1], filter: "" }, catalog);
   assert.strictEqual(large.fault(catalog), "with 3 decimals a factor is more than 10^9");
   assert.strictEqual(sum.fault({ ...catalog, hasSums: false }), "this server answers no sums");
+  const told = (number) => sum.told({ message: "its own", frame: { number, a: 0, b: 0 } });
+  assert.deepStrictEqual([8, 11, 13, 17].map(told), [
+    "the two series aren't of one store",
+    "the steps of the two series differ, or their starts by no multiple of the step",
+    "a sum in the window is more than 10^18 in size",
+    "its own",
+  ]);
   const [series] = curvesOf({ names: ["a"], factors: null, filter: "v > 0" }, catalog);
   assert.strictEqual(series.line(7, ...placed, null), "view 7 a 10 5 -4 4 auto where v > 0");
   assert.deepStrictEqual([[-1, 1], [0, -5], [2, 3]].map((factors) => titleOf(["a", "b"], factors)), ["− a + b", "0 a − 5 b", "2 a + 3 b"]); // prettier-ignore
@@ -161,6 +168,31 @@ test("the times of a column are those that the picture puts there", () => {
     }
   }
   assert.deepStrictEqual([timesOf(window, 0, 5).from, timesOf(window, 4, 5).to], [-3n, 14n]);
+});
+
+test("the frames of an answer wait for what was pushed before them", async () => {
+  globalThis.location = { hash: "" };
+  const done = [0, 0, 0, 9, 1, 0, 0, 0, 0, 0, 0, 0]; // the front of a Done frame, behind which the slots stand
+  const sent = globalThis.fetch;
+  const answers = [];
+  globalThis.fetch = (path) => (path === "request" ? new Promise((answer) => answers.push(answer)) : Promise.reject(new Error("no such file")));
+  try {
+    const { Connection } = await import("./page/connection.js");
+    const { Client } = await import("./chart_client.js");
+    const connection = new Connection(() => {});
+    connection.drawn = { client: new Client(), module: null };
+    const seen = [];
+    const asked = connection.ask(["x"], (_, { frame }) => seen.push(frame.slots));
+    answers[0](new Response(new Uint8Array([...done, 2]), { headers: { "X-Chart-Pushed": "1" } }));
+    await new Promise((later) => setTimeout(later, 20));
+    assert.deepStrictEqual(seen, []);
+    seen.push(connection.push(btoa(String.fromCharCode(...done, 1))).frame.slots);
+    await asked;
+    assert.deepStrictEqual(seen, [1, 2]);
+  } finally {
+    globalThis.fetch = sent;
+    delete globalThis.location;
+  }
 });
 
 test("alarms are told in words", () => {

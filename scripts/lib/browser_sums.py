@@ -1,7 +1,7 @@
 """What scripts/gate/browser looks at where a panel shows the sum of two series: its pixels are those of `derive`."""
 import itertools
 
-from browser_driver import KEYS, require, wait_for
+from browser_driver import KEYS, Failed, require, wait_for
 from browser_looks import names_shown, set_range
 from browser_page import START, STEP
 
@@ -56,6 +56,35 @@ def see_values_of_sum(page):
         wanted = " to ".join(dict.fromkeys(spelled(end) for end in (min(inside), max(inside)))) if inside else "–"
         require(page.read()["panels"][0]["values"] == [wanted], f"column {column} is told as {page.read()['panels'][0]['values']}, and has {wanted}")
     require(" values from " in told["label"] and told["label"].startswith("2 tide − 3 wind from "), f"the chart is told as {told['label']!r}")
+
+
+def add_by_keys(page):
+    """From the list to a sum and its factors, by the keyboard alone."""
+    page.open("panel=few")
+    active = "const it = document.activeElement; return it.getAttribute('aria-label') ?? it.id"
+
+    def go_to(name, *held):
+        for _ in range(60):
+            if page.browser.run(active) == name:
+                return
+            page.browser.press(*held, KEYS["tab"])
+        raise Failed(f"Tab doesn't reach {name}, but {page.browser.run(active)}")
+
+    go_to("open_picker")
+    page.browser.press(KEYS["enter"])
+    for name in ("Choose tide", "Choose wind"):
+        go_to(name)
+        page.browser.press(KEYS["space"])
+    go_to("add_difference", KEYS["shift"])
+    page.do(lambda: page.browser.press(KEYS["enter"]))
+    require(labels(page) == ["few", "tide − wind"], f"by keys there are {labels(page)}")
+    go_to("Settings of panel 2")
+    page.browser.press(KEYS["enter"])
+    require(page.browser.run("return document.activeElement.name") == "factor", "the settings don't have the focus")
+    page.browser.press("5")
+    page.do(lambda: page.browser.press(KEYS["enter"]))
+    page.compare()
+    require("5" in labels(page)[1], f"by keys there are {labels(page)}")
 
 
 def change_sum(page):
@@ -122,4 +151,4 @@ def refuse_sum(page):
     page.compare()
 
 
-STEPS = (choose_sum, see_values_of_sum, change_sum, follow_sum, refuse_sum)
+STEPS = (choose_sum, see_values_of_sum, add_by_keys, change_sum, follow_sum, refuse_sum)

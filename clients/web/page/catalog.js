@@ -10,13 +10,14 @@ export class Catalog {
   constructor() {
     this.series = new Map();
     this.lasts = new Map(); // the last values, by names
-    this.hasSums = false; // whether the server answers sums, too
+    this.hasSums = this.hasPushes = false; // what the server has beside views
   }
 
   async load() {
     const response = await post("catalog", "");
     const told = await response.json();
-    this.hasSums = response.headers.get("X-Chart-Offers") === "sum";
+    const offers = (response.headers.get("X-Chart-Offers") ?? "").split(" ");
+    [this.hasSums, this.hasPushes] = ["sum", "follow"].map((word) => offers.includes(word));
     this.series = new Map(told.map((one) => [one.name, seriesOf(one)]));
   }
 

@@ -1,5 +1,4 @@
 /** One session of the program, and the client that draws its frames. Requests go one behind the other. */
-import { refusalOf } from "../chart_client.js";
 import { coverOf, newClient } from "./clients.js";
 
 const CACHE = 131072;
@@ -8,7 +7,6 @@ const BETWEEN_COVERS = 100; // and from one cover to the next
 const [UNKNOWN_SESSION, SESSION_OPEN] = [4, 5];
 export const TOO_MANY_SESSIONS = 6;
 export const BAD_FILTER = 3;
-const OF_SUMS = new Map([[11, 23], [13, 24]]); // prettier-ignore
 
 const token = new URLSearchParams(location.hash.slice(1)).get("token") ?? "";
 
@@ -30,13 +28,11 @@ export class Denied extends Error {
   }
 }
 
-/** A request that the program refused: `frame` has its number, its name and its numbers. Two of a sum stand for others that no frame has. */
+/** A request that the program refused: `frame` has its number, its name and its numbers. */
 export class Refused extends Error {
-  constructor(frame, line) {
-    const own = line.startsWith("sum ") ? OF_SUMS.get(frame.number) : null;
-    const told = own ? refusalOf(own, frame.a, frame.b) : frame;
-    super(told.meaning);
-    this.frame = told;
+  constructor(frame) {
+    super(frame.meaning);
+    this.frame = frame;
   }
 }
 
@@ -96,6 +92,8 @@ export class Connection {
     this.turn = null; // ends with the requests that are under way
     this.cut = new AbortController(); // of what is under way
     this.number = 0; // of the session; 0 while none is open
+    this.pushes = 0; // how many frames the session was pushed
+    this.follows = false; // whether it is pushed what changes of the view that it was answered last
     this.bytes = 0; // of all frames so far
     this.last = 0; // of the last answer
   }
@@ -104,7 +102,7 @@ export class Connection {
   async begin() {
     this.close();
     this.cut.abort();
-    [this.cut, this.turn] = [new AbortController(), null];
+    [this.cut, this.turn, this.pushes, this.follows] = [new AbortController(), null, 0, false];
     this.drawn = await newClient();
     this.said(this.drawn);
     while (this.number === 0) {
@@ -160,7 +158,10 @@ export class Connection {
 
   async read(lines, took, covered, enough) {
     const [asked, answers, frames, { drawn }] = [performance.now(), [], new Frames(), this];
-    const response = await post("request", lines.join("\n"), { signal: this.cut.signal });
+    const { signal } = this.cut;
+    this.follows &&= !lines.some((line) => line.startsWith("view "));
+    const response = await post("request", lines.join("\n"), { signal });
+    await this.haveCome(Number(response.headers.get("X-Chart-Pushed") ?? 0), signal);
     const reader = response.body.getReader();
     this.last = 0;
     for (let piece = await reader.read(); !piece.done; piece = await reader.read()) {
@@ -169,7 +170,7 @@ export class Connection {
       frames.add(piece.value);
       for (let bytes = frames.next(); bytes; bytes = frames.next()) {
         performance.measure("chart: answer", { start: asked });
-        const answer = this.take(bytes, drawn.client, lines[answers.length]);
+        const answer = this.take(bytes, drawn.client);
         if (isAnswer(answer.frame, lines[answers.length])) {
           answers.push(answer);
           took(answers.length - 1, answer);
@@ -185,8 +186,42 @@ export class Connection {
     return answers;
   }
 
-  /** What one frame tells, which may answer a line. */
-  take(bytes, client, line) {
+  /** Waits until so many frames were pushed, since those that follow may stand on them. */
+  async haveCome(pushes, signal) {
+    while (this.pushes < pushes) {
+      signal.throwIfAborted();
+      await new Promise((done) => {
+        this.onPush = done;
+        signal.addEventListener("abort", done, { once: true });
+      });
+    }
+  }
+
+  /** Has the session follow the view that it was answered last, unless that is too large. */
+  async follow() {
+    const [{ refused }] = await this.ask([`follow ${this.number}`]);
+    this.follows = !refused;
+  }
+
+  /** Takes a frame that was pushed, as a text in base 64; gives what it tells, null where the session was let go. */
+  push(text) {
+    if (!this.drawn) {
+      return null;
+    }
+    const bytes = Uint8Array.from(atob(text), (one) => one.charCodeAt(0));
+    [this.last, this.bytes, this.pushes] = [bytes.length, this.bytes + bytes.length, this.pushes + 1];
+    try {
+      return this.take(bytes, this.drawn.client);
+    } catch (error) {
+      this.close();
+      throw error;
+    } finally {
+      this.onPush?.();
+    }
+  }
+
+  /** What one frame tells. */
+  take(bytes, client) {
     const start = performance.now();
     const [{ frame, picture }] = client.push(bytes);
     performance.measure("chart: picture", { start });
@@ -196,7 +231,7 @@ export class Connection {
     if (frame.number === UNKNOWN_SESSION) {
       this.number = 0;
     }
-    return { bytes, frame, picture, refused: new Refused(frame, line) };
+    return { bytes, frame, picture, refused: new Refused(frame) };
   }
 
   /** Lets the session go. */

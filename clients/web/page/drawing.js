@@ -61,7 +61,7 @@ class Job {
     this.answers[place] = answer;
     if (answer.refused) {
       const { number, a } = answer.refused.frame;
-      this.fail(answer.refused.message, number === BAD_FILTER ? charactersIn(this.panel.spec.filter, Number(a)) : null);
+      this.fail(this.curves[place].told(answer.refused), number === BAD_FILTER ? charactersIn(this.panel.spec.filter, Number(a)) : null);
     }
   }
 }

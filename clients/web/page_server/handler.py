@@ -1,4 +1,5 @@
 """The answers over HTTP: the page's files, and behind its token request lines, the catalog and the stream of what changes."""
+import base64
 import hmac
 import http.server
 import itertools
@@ -130,15 +131,17 @@ class Handler(http.server.BaseHTTPRequestHandler):
         except ValueError as why:
             return self.refuse(400, str(why))
         except PermissionError:
-            return self.refuse(403, "a line isn't taken that follows a view, nor without --edit one that edits")
+            return self.refuse(403, "without --edit no line is taken that edits, and none that isn't a request")
         frames = self.server.sessions.answers(lines)
+        first = next(frames)
+        pushed = {page_rules.PUSHED: self.server.sessions.pushed(lines[0])}
         if len(lines) == 1:
-            return self.send(200, page_rules.FRAMES, next(frames))
-        return self.send_pieces(next(frames), frames)
+            return self.send(200, page_rules.FRAMES, first, **pushed)
+        return self.send_pieces(first, frames, pushed)
 
-    def send_pieces(self, first, others):
+    def send_pieces(self, first, others, more):
         """Sends a first piece and those that follow it, as they come. Where the program ends in between, the answer has no end."""
-        self.head(200, page_rules.FRAMES, {"Transfer-Encoding": "chunked"})
+        self.head(200, page_rules.FRAMES, {"Transfer-Encoding": "chunked", **more})
         try:
             for piece in itertools.chain([first], others, [b""]):
                 self.wfile.write(b"%x\r\n%b\r\n" % (len(piece), piece))
@@ -148,11 +151,11 @@ class Handler(http.server.BaseHTTPRequestHandler):
 
     def send_catalog(self, _):
         series = [page_rules.told(one) for one in list(self.server.program.catalog.values())]
-        self.send_json(200, series, **{page_rules.OFFERS: "sum"})
+        self.send_json(200, series, **{page_rules.OFFERS: "sum follow"})
 
     def send_events(self, number):
-        """A stream of events, which holds a session: `changed` with the series that changed, `ended` with how the program ended,
-        and `closed` where the session had to give way."""
+        """A stream of events, which holds a session: `pushed` with a frame of it, `changed` with the series that changed, `ended` with how
+        the program ended, and `closed` where the session is over, and whether it had to give way."""
         session = self.server.sessions.attach(number)
         if session is None:
             return self.refuse(404, "the session isn't open")
@@ -181,6 +184,8 @@ class Handler(http.server.BaseHTTPRequestHandler):
                 return self.event("closed", session.gave_way)
             self.wfile.flush()
             session.seen, series = changes.since(session.seen, 1)
+            while session.pushes:
+                self.event("pushed", base64.b64encode(session.pushes.popleft()).decode())
             if series:
                 self.event("changed", [page_rules.told(one) for one in series])
                 time.sleep(REST)

@@ -9,18 +9,21 @@ import subprocess
 import threading
 
 from zurtkvani_client import frames
-from zurtkvani_client.page_rules import DONE
+from zurtkvani_client.page_rules import DONE, EDITS, ROWS, VIEW
 from zurtkvani_client.run import Listener
 from zurtkvani_client.store import Series
 
 CLEARS = slice(5, 7)  # where a Swept frame has their number
+CHANGING = (*EDITS, b"sweep")
+NO_LINE = b"?"  # it is refused, behind all frames that the lines before it push
 
 
 class Program:
-    """A run of `host`. `changed` is called with each series that edits or sweeps changed, behind their answers. Raises Ended."""
+    """A run of `host`. `changed` is called with each series that edits or sweeps changed, behind their answers, and `pushed` with each
+    frame that a session is pushed, before anything else is asked. Raises Ended."""
 
     def __init__(self, program, store, changed):
-        self.catalog, self.changed = {}, changed
+        self.catalog, self.changed, self.pushed = {}, changed, lambda frame: None
         pipes = {"stdin": subprocess.PIPE, "stdout": subprocess.PIPE, "stderr": subprocess.PIPE}
         # A session of its own, so that Control-C reaches this process alone.
         self.child = subprocess.Popen([program, store, "host"], start_new_session=True, **pipes)
@@ -49,11 +52,10 @@ class Program:
 
     def answers(self, lines):
         """The frames of some lines, one each, of at most MOST_LINES edits or of one other line."""
+        may_push = any(line.partition(b" ")[0] in CHANGING for line in lines)
         with self.turn:
             try:
-                self.child.stdin.write(b"".join(line + b"\n" for line in lines))
-                self.child.stdin.flush()
-                answers = [self.frame() for _ in lines]
+                answers = self.answered([*lines, NO_LINE], self.pushed)[:-1] if may_push else self.answered(lines)
             except (OSError, ValueError):
                 self.over.wait()
                 raise self.end from None
@@ -61,6 +63,16 @@ class Program:
             series = [self.catalog[name] for name in changed]
         if series:
             self.changed(series)
+        return answers
+
+    def answered(self, lines, pushed=None):
+        """What lines are answered. Of those that may push, `pushed` is handed the frames of charts, which answer none of them."""
+        self.child.stdin.write(b"".join(line + b"\n" for line in lines))
+        self.child.stdin.flush()
+        answers = []
+        while len(answers) < len(lines):
+            frame = self.frame()
+            (pushed if pushed and frame[4] in (VIEW, ROWS) else answers.append)(frame)
         return answers
 
     def note(self, line, frame):
