@@ -170,6 +170,12 @@ def draw_followed(page):
         page.request(f"set sea {START + 24 * STEP} 12")
         follows(lambda: page.press("-"))
         page.compare_in_the_end()
+    # Many pushes wait while the page is busy. (A line between edits has each of them stored and pushed alone.)
+    browser.run("setTimeout(() => { for (const end = performance.now() + 1500; performance.now() < end; ); })")
+    for value in range(3):
+        page.request("\nlist\n".join(f"set sea {START + slot * STEP} {slot * value}" for slot in range(20, 50)))
+    wait_for(lambda: "view" in requests(), "what changes too fast to be drawn one by one isn't asked for")
+    page.compare_in_the_end()
     page.open("panel=sea&last=3600")
     follows(lambda: browser.click("#in"))
     follows(lambda: browser.click("#resume"))

@@ -1,14 +1,15 @@
 /**
  * The view that is followed: of a page that shows one series alone, once nothing was drawn for a moment. What changes of it is pushed, so
- * nothing is asked for it, until its window moves or another view is asked for.
+ * nothing is asked for it, until its window moves, another view is asked for, or more changes than can be drawn one by one.
  */
 import { Panel } from "./panel.js";
 
 const STILL = 200; // milliseconds without a drawing
+const [PAUSE, MOST] = [5, 20]; // milliseconds between two pushes, and so many without one: what changes faster is told together, and asked for
 
 export class Followed {
   constructor(page) {
-    Object.assign(this, { page, timer: null, isPushed: false });
+    Object.assign(this, { page, timer: null, isPushed: false, ended: 0, inARow: 0 });
   }
 
   /** The panel whose view can be followed, or null. */
@@ -41,10 +42,20 @@ export class Followed {
         panel.show({ answers: [answer], window, range, scales }, page.look);
         this.isPushed = true;
         page.tellShown(began);
+        this.keepUp(began - this.ended);
       }
     } catch (error) {
       page.tellFault(error);
     }
+  }
+
+  /** Asks for the view anew, by which it isn't followed any more, where pushes come faster than they are drawn. */
+  keepUp(pause) {
+    this.inARow = pause < PAUSE ? this.inARow + 1 : 0;
+    if (this.inARow === MOST) {
+      this.page.draw();
+    }
+    this.ended = performance.now();
   }
 
   /** Whether a change is drawn, since a push came before it was told, and the window stands where it stood. */
