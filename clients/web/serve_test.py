@@ -25,6 +25,7 @@ from serve_probe import PROGRAM, ROOT, SECONDS, Page, Served, made_store, read_u
 sys.path.insert(0, os.path.join(ROOT, "clients/python"))
 
 from page_server.changes import Changes  # noqa: E402
+from page_server.handler import PUSHED  # noqa: E402
 from page_server.sessions import Sessions  # noqa: E402
 from zurtkvani_client import page_rules  # noqa: E402
 
@@ -74,7 +75,7 @@ class Answers(Page):
         self.assertLess(told.index(b"event: pushed"), told.index(b"event: changed"))
         self.assertEqual(self.served.kinds(b"zoom 1 0 4", b"unfollow 1", b"set a 0 3"), [VIEW, LIVE, DONE])
         self.served.request(b"zoom 1 0 4")
-        self.assertEqual(self.served.headers[page_rules.PUSHED], "3")
+        self.assertEqual(self.served.headers[PUSHED], "3")
 
     def test_a_close_that_is_refused_closes_nothing(self):
         self.served.request(b"open 1")

@@ -18,7 +18,8 @@ from .connections import ANSWER, BODY, HEAD, WAITING, Connections, refuse
 
 FOLDER = os.path.dirname(os.path.dirname(os.path.realpath(__file__)))
 MOST_STREAMS = 48
-READING = (*OF_SESSION, b"list", b"values")
+PUSHED = "X-Chart-Pushed"  # the header of an answer with how many frames its session had been pushed before it
+READING = (*OF_SESSION, b"follow", b"unfollow", b"list", b"values")
 EDITING = (*READING, *EDITS, b"sweep")
 
 
@@ -134,7 +135,7 @@ class Handler(http.server.BaseHTTPRequestHandler):
             return self.refuse(403, "without --edit no line is taken that edits, and none that isn't a request")
         frames = self.server.sessions.answers(lines)
         first = next(frames)
-        pushed = {page_rules.PUSHED: self.server.sessions.pushed(lines[0])}
+        pushed = {PUSHED: self.server.sessions.pushed(lines[0])}
         if len(lines) == 1:
             return self.send(200, page_rules.FRAMES, first, **pushed)
         return self.send_pieces(first, frames, pushed)
