@@ -104,6 +104,7 @@ def add_series(page):
     """A sum is drawn as `derive` does, also behind writes, where the gateway answers sums; else it isn't offered, and told where it is asked for."""
     page.open("sum=1+sea_v+-3+sea_v&panel=tide_v&sum=1+sea_v+1+tide_v&zone=utc")
     told = page.read()["panels"]
+    page.browser.click("#open_picker")
     if page.browser.run("return document.getElementById('add_sum').hidden"):
         require([panel["fault"] for panel in told] == ["this server answers no sums", "", "this server answers no sums"], f"the page says {told}")
         return

@@ -52,7 +52,6 @@ def choose_several(page):
     page.do(lambda: page.browser.click("#add_one"))
     require(names_shown(page)[3] == ["sea", "tide"], f"shown are {names_shown(page)}")
     page.compare()
-    page.show("panels")
 
 
 def arrange_panels(page):

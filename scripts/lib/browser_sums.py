@@ -15,7 +15,7 @@ def labels(page):
 
 def choose_sum(page):
     """Two series that are chosen in the list are shown as their sum and as their difference, in panels that the address names."""
-    page.open("panel=sea")
+    page.open("panel=sea+tide")
     for button, title, words in (("add_difference", "tide − wind", "sum=1+tide+-1+wind"), ("add_sum", "wind + tide", "sum=1+wind+1+tide")):
         page.browser.click("#open_picker")
         page.browser.run("const it = document.getElementById('find'); it.value = ''; it.dispatchEvent(new Event('input'));")
@@ -29,9 +29,9 @@ def choose_sum(page):
         black, width, _ = page.compare()
         require(black > width, f"{black} black pixels")
     page.do(lambda: page.browser.send("/refresh", {}), is_new=True)
-    require(labels(page) == ["sea", "tide − wind", "wind + tide"], f"behind a reload there are {labels(page)}")
+    require(labels(page) == ["sea", "tide", "tide − wind", "wind + tide"], f"behind a reload there are {labels(page)}")
     page.compare()
-    page.show("sums")
+    page.show("panels")
 
 
 def readings(page, name):
