@@ -1,8 +1,9 @@
 // What the page's modules reckon: addresses, windows, ticks and values. Run by `node --test clients/web/page_test.js`.
 import assert from "node:assert";
 import { test } from "node:test";
-import { readAddress, spellAddress } from "./page/address.js";
+import { factorOf, readAddress, spellAddress } from "./page/address.js";
 import { beginOf, summaryOf, wordsOf } from "./page/alarms.js";
+import { curvesOf, titleOf } from "./page/curves.js";
 import { floorOf, nextMultiple, roundNumbers, wholeNumber } from "./page/numbers.js";
 import { guessUnit, spelled, timeOf, timeTicks } from "./page/times.js";
 import { decimal, rangeOf, rescaled, rowOf, sharedRange, valueTicks, wholeOf } from "./page/values.js";
@@ -16,8 +17,8 @@ test("an address is read as it was spelled", () => {
   const query = "?panel=sea+few&filter=v+%3E+10+and+not+t+%3D+5&range=-5..15.5&height=240&panel=wind&from=-60&to=2000000000000000000&last=3600&unit=seconds&zone=utc&grid=off";
   const asked = readAddress(query);
   assert.deepStrictEqual(asked.panels, [
-    { names: ["sea", "few"], filter: "v > 10 and not t = 5", range: "-5..15.5", height: 240 },
-    { names: ["wind"], filter: "", range: "", height: 0 },
+    { names: ["sea", "few"], factors: null, filter: "v > 10 and not t = 5", range: "-5..15.5", height: 240 },
+    { names: ["wind"], factors: null, filter: "", range: "", height: 0 },
   ]);
   assert.deepStrictEqual([asked.t0, asked.t1, asked.last, asked.grid], [-60n, 2n * 10n ** 18n, 3600n, "off"]);
   assert.strictEqual(spellAddress(asked), query);
@@ -27,11 +28,47 @@ test("an address is read as it was spelled", () => {
 test("an address keeps to its rules", () => {
   const asked = readAddress(`?filter=x&${"panel=a+b+c+d+e+a&".repeat(9)}panel=%3Cb%3E&from=5&to=5&last=0&unit=days&height=7`);
   assert.strictEqual(asked.panels.length, 8);
-  assert.deepStrictEqual(asked.panels[7], { names: ["a", "b", "c", "d"], filter: "", range: "", height: 0 });
+  assert.deepStrictEqual(asked.panels[7], { names: ["a", "b", "c", "d"], factors: null, filter: "", range: "", height: 0 });
   assert.deepStrictEqual([asked.t0, asked.t1, asked.last, asked.unit], [null, null, null, ""]);
   assert.strictEqual(readAddress("?panel=a&height=10").panels[0].height, 80);
   assert.strictEqual(readAddress("?panel=a&from=5").t0, null);
   assert.strictEqual(readAddress("?panel=a&filter=v%0Aset+a+0+5").panels[0].filter, "v set a 0 5");
+});
+
+test("an address names sums", () => {
+  const query = "?sum=1+tide+-3+wind&range=-5..15.5&panel=tide&sum=-1000000000+tide+0+tide&height=240";
+  const asked = readAddress(query);
+  assert.deepStrictEqual(asked.panels[0], { names: ["tide", "wind"], factors: [1, -3], filter: "", range: "-5..15.5", height: 0 });
+  assert.deepStrictEqual([asked.panels[1].factors, asked.panels[2].names, asked.panels[2].factors], [null, ["tide", "tide"], [-(10 ** 9), 0]]);
+  assert.strictEqual(spellAddress(asked), query);
+  for (const wrong of ["a b", "1 a b", "1 a 1", "1 a 1 b 1 c", "1000000001 a 1 b", "1.5 a 1 b", "1 a - b", "1 a 1 <b>", "1 a  1 b"]) {
+    assert.deepStrictEqual(readAddress(`?${new URLSearchParams({ sum: wrong })}`).panels, [], wrong);
+  }
+  assert.strictEqual(readAddress("?sum=1+a+1+b&filter=v+%3E+0").panels[0].filter, "");
+  assert.deepStrictEqual(["7", " -7 ", "−7", "-0", "", "1e3", "+7"].map(factorOf), [7, -7, -7, 0, null, null, null]);
+});
+
+test("a sum is asked in the decimals of the finer series", () => {
+  const all = new Map([["a", { scale: 1 }], ["b", { scale: 3 }]]); // prettier-ignore
+  const catalog = { hasSums: true, get: (name) => all.get(name), shown: (name) => name.toUpperCase() };
+  const [sum] = curvesOf({ names: ["a", "b"], factors: [1, -2], filter: "" }, catalog);
+  assert.deepStrictEqual([sum.label, sum.scale, sum.fault(catalog)], ["A − 2 B", 3, null]);
+  const placed = [{ w: 10, h: 5 }, { t0: -4n, t1: 4n }];
+  assert.strictEqual(sum.line(7, ...placed, null), "sum 7 a b 100 -2 10 5 -4 4 auto");
+  assert.strictEqual(sum.line(7, ...placed, { lo: -1n, hi: 2n }), "sum 7 a b 100 -2 10 5 -4 4 -1..2");
+  const [large] = curvesOf({ names: ["a", "b"], factors: [10 ** 9, 1], filter: "" }, catalog);
+  assert.strictEqual(large.fault(catalog), "with 3 decimals a factor is more than 10^9");
+  assert.strictEqual(sum.fault({ ...catalog, hasSums: false }), "this server answers no sums");
+  const told = (number) => sum.told({ message: "its own", frame: { number, a: 0, b: 0 } });
+  assert.deepStrictEqual([8, 11, 13, 17].map(told), [
+    "the two series aren't of one store",
+    "the steps of the two series differ, or their starts by no multiple of the step",
+    "a sum in the window is more than 10^18 in size",
+    "its own",
+  ]);
+  const [series] = curvesOf({ names: ["a"], factors: null, filter: "v > 0" }, catalog);
+  assert.strictEqual(series.line(7, ...placed, null), "view 7 a 10 5 -4 4 auto where v > 0");
+  assert.deepStrictEqual([[-1, 1], [0, -5], [2, 3]].map((factors) => titleOf(["a", "b"], factors)), ["− a + b", "0 a − 5 b", "2 a + 3 b"]); // prettier-ignore
 });
 
 test("whole numbers", () => {
@@ -131,6 +168,31 @@ test("the times of a column are those that the picture puts there", () => {
     }
   }
   assert.deepStrictEqual([timesOf(window, 0, 5).from, timesOf(window, 4, 5).to], [-3n, 14n]);
+});
+
+test("the frames of an answer wait for what was pushed before them", async () => {
+  globalThis.location = { hash: "" };
+  const done = [0, 0, 0, 9, 1, 0, 0, 0, 0, 0, 0, 0]; // the front of a Done frame, behind which the slots stand
+  const sent = globalThis.fetch;
+  const answers = [];
+  globalThis.fetch = (path) => (path === "request" ? new Promise((answer) => answers.push(answer)) : Promise.reject(new Error("no such file")));
+  try {
+    const { Connection } = await import("./page/connection.js");
+    const { Client } = await import("./chart_client.js");
+    const connection = new Connection(() => {});
+    connection.drawn = { client: new Client(), module: null };
+    const seen = [];
+    const asked = connection.ask(["x"], (_, { frame }) => seen.push(frame.slots));
+    answers[0](new Response(new Uint8Array([...done, 2]), { headers: { "X-Chart-Pushed": "1" } }));
+    await new Promise((later) => setTimeout(later, 20));
+    assert.deepStrictEqual(seen, []);
+    seen.push(connection.push(btoa(String.fromCharCode(...done, 1))).frame.slots);
+    await asked;
+    assert.deepStrictEqual(seen, [1, 2]);
+  } finally {
+    globalThis.fetch = sent;
+    delete globalThis.location;
+  }
 });
 
 test("alarms are told in words", () => {

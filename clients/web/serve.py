@@ -2,8 +2,8 @@
 """A page for a store: gives the files of this folder to a browser, and answers its request lines by one `chart` that it starts.
 
 It prints the page's address, which holds a token. It listens on the loopback address alone. Request lines are taken by POST only with
-the token and from the page's own origin; without --edit only open, close, view, zoom and pan are. Where the program ends at its start,
-this ends with its status and says why; where it ends later, the page says so, and no second one is started. It needs only Python.
+the token and from the page's own origin; without --edit none that edits. Where the program ends at its start, this ends with its status
+and says why; where it ends later, the page says so, and no second one is started. It needs only Python.
 """
 import argparse
 import html

@@ -2,16 +2,20 @@
 import contextlib
 import http.client
 import os
+import shutil
 import socket
 import subprocess
 import sys
+import tempfile
 import time
+import unittest
 import urllib.parse
 
 HERE = os.path.dirname(os.path.realpath(__file__))
 ROOT = os.path.dirname(os.path.dirname(HERE))
 PROGRAM = os.environ.get("CHART_PROGRAM", os.path.join(ROOT, "dist/chart_program"))
 SECONDS = 300  # a guard alone
+REFUSED = 2  # the kind of a frame
 
 
 def until(holds):
@@ -61,12 +65,21 @@ class Served:
         with contextlib.suppress(ConnectionError):
             connection.send(body)
         answer = connection.getresponse()
-        data = answer.read()
+        data, self.headers = answer.read(), answer.headers
         connection.close()
         return answer.status, data
 
     def request(self, *lines):
         return self.ask("POST", "/request", b"\n".join(lines))
+
+    def kinds(self, *lines):
+        """The kinds of the frames that answer some lines; of a refusal its number below 0."""
+        _, data = self.request(*lines)
+        kinds = []
+        while data:
+            kinds.append(-data[5] if data[4] == REFUSED else data[4])
+            data = data[4 + int.from_bytes(data[:4], "big") :]
+        return kinds
 
     def events(self, session):
         """A stream of a session's events, its head read."""
@@ -79,6 +92,17 @@ class Served:
     def end(self):
         self.process.terminate()
         self.process.communicate(timeout=SECONDS)
+
+
+class Page(unittest.TestCase):
+    words, pipes = ["--edit"], {}
+
+    def setUp(self):
+        self.folder = tempfile.mkdtemp()
+        self.addCleanup(shutil.rmtree, self.folder)
+        self.store = made_store(self.folder)
+        self.served = Served(self.store, *self.words, **self.pipes)
+        self.addCleanup(self.served.end)
 
 
 def run_served(*words, server=os.path.join(HERE, "serve.py"), **more):

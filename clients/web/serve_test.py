@@ -4,6 +4,7 @@
 What stands here needs no browser: sessions of pages that are gone, too many connections and half requests, the token and who may ask,
 what comes of a wrong store or port, and edits from standard input.
 """
+import base64
 import contextlib
 import json
 import os
@@ -19,36 +20,62 @@ import unittest
 import urllib.parse
 
 sys.dont_write_bytecode = True
-from serve_probe import PROGRAM, ROOT, SECONDS, Served, made_store, read_until, run_served, until
+from serve_probe import PROGRAM, ROOT, SECONDS, Page, Served, made_store, read_until, run_served, until
 
 sys.path.insert(0, os.path.join(ROOT, "clients/python"))
 
 from page_server.changes import Changes  # noqa: E402
+from page_server.handler import PUSHED  # noqa: E402
 from page_server.sessions import Sessions  # noqa: E402
+from zurtkvani_client import page_rules  # noqa: E402
 
-OPENED, CLOSED, DONE, REFUSED, VIEW = 3, 4, 1, 2, 5
-
-
-class Page(unittest.TestCase):
-    words, pipes = ["--edit"], {}
-
-    def setUp(self):
-        self.folder = tempfile.mkdtemp()
-        self.addCleanup(shutil.rmtree, self.folder)
-        self.store = made_store(self.folder)
-        self.served = Served(self.store, *self.words, **self.pipes)
-        self.addCleanup(self.served.end)
+DONE, REFUSED, OPENED, CLOSED, VIEW, ROWS, LIVE, CATALOG, VALUES, SWEPT = range(1, 11)
 
 
 class Answers(Page):
     def test_lines_are_answered_in_order(self):
-        status, data = self.served.request(b"open 1", b"view 1 a 4 4 0 4 auto", b"close 1")
-        self.assertEqual(status, 200)
-        kinds = []
-        while data:
-            kinds.append(data[4])
-            data = data[4 + int.from_bytes(data[:4], "big") :]
-        self.assertEqual(kinds, [OPENED, VIEW, CLOSED])
+        self.assertEqual(self.served.kinds(b"open 1", b"view 1 a 4 4 0 4 auto", b"close 1"), [OPENED, VIEW, CLOSED])
+
+    def test_a_sum_is_answered_and_leaves_what_the_session_was_answered(self):
+        self.served.request(b"create b 0 1 1", b"append b 1 1 1", b"create c 1 2 1")
+        self.served.ask("POST", "/catalog")
+        self.assertEqual(self.served.headers[page_rules.OFFERS], "sum follow")
+        sum_of = b"sum 1 a %s 1 -1 4 4 0 4 auto"
+        self.assertEqual(self.served.kinds(b"open 1", sum_of % b"b", b"zoom 1 0 2"), [OPENED, ROWS, -16])
+        self.assertEqual(self.served.kinds(b"view 1 a 4 4 0 4 auto", sum_of % b"b", b"zoom 1 0 2"), [VIEW, ROWS, VIEW])
+        lines = sum_of % b"c", sum_of % b"none", b"sum 1 a b 1 1 4 4 4 4 auto", b"sum 1 a b 1 1 0 4 0 4 auto", b"sum 2 a b 1 1 4 4 0 4 auto"
+        self.assertEqual(self.served.kinds(*lines), [-11, -8, -17, -18, -4])
+
+    def test_a_sum_counts_as_a_request_of_its_session(self):
+        self.assertEqual(page_rules.number_in(b"sum 7 a b 1 1 4 4 0 4 auto"), b"7")
+
+    def test_reports_are_answered(self):
+        self.assertEqual(self.served.kinds(b"list", b"values a 0 4", b"sweep last a 2"), [CATALOG, VALUES, SWEPT])
+
+    def test_a_page_is_told_what_a_sweep_changed(self):
+        self.served.request(b"create b 0 1 1", b"open 1")
+        with self.served.events(1) as stream:
+            read_until(stream, b": here")
+            self.served.request(b"sweep last a 9")  # clears nothing
+            self.served.request(b"sweep last a 1")
+            told = read_until(stream, b"}]\n\n")
+            self.assertEqual(told[told.index(b"event:") :], b'event: changed\ndata: [{"name": "a", "start": "0", "step": 1, "scale": 1, "slots": 3}]\n\n')
+
+    def test_a_page_is_pushed_what_changes_of_the_view_that_it_follows(self):
+        self.served.request(b"create b 0 1 1")
+        self.assertEqual(self.served.kinds(b"open 1", b"view 1 a 4 4 0 4 auto", b"follow 1"), [OPENED, VIEW, LIVE])
+        with self.served.events(1) as stream:
+            read_until(stream, b": here")
+            self.assertEqual(self.served.kinds(b"set a 0 9", b"append b 5", b"append a 7", b"sweep last a 1"), [DONE, DONE, DONE, SWEPT])
+            told = b""
+            while told.count(b"event: pushed") < 3 or not told.endswith(b"}]\n\n"):
+                told += read_until(stream, b"\n\n")
+        frames = [base64.b64decode(data) for data in re.findall(rb'event: pushed\ndata: "(.*)"\n', told)]
+        self.assertEqual([(frame[4], frame[5:9]) for frame in frames], [(VIEW, b"\0\0\0\1")] * 3)
+        self.assertLess(told.index(b"event: pushed"), told.index(b"event: changed"))
+        self.assertEqual(self.served.kinds(b"zoom 1 0 4", b"unfollow 1", b"set a 0 3"), [VIEW, LIVE, DONE])
+        self.served.request(b"zoom 1 0 4")
+        self.assertEqual(self.served.headers[PUSHED], "3")
 
     def test_a_close_that_is_refused_closes_nothing(self):
         self.served.request(b"open 1")
@@ -101,12 +128,18 @@ class Answers(Page):
         for path in ("/", "/page.css", "/panels.css", "/page/main.js", "/chart_client.js", "/client/views.js", "/proved_client.js", "/refusals.js", "/chart_client.wasm"):
             self.assertEqual(self.served.ask("GET", path)[0], 200, path)
 
+    def test_each_answer_says_that_nothing_is_fetched_from_elsewhere(self):
+        for words in (("GET", "/"), ("GET", "/page/main.js"), ("GET", "/nothing"), ("POST", "/catalog"), ("POST", "/request", b"open 1")):
+            self.served.ask(*words)
+            policy = self.served.headers["Content-Security-Policy"].split("; ")
+            self.assertEqual((policy[0], "connect-src 'self'" in policy, self.served.headers["X-Content-Type-Options"]), ("default-src 'none'", True, "nosniff"))
+
 
 class WithoutEdits(Page):
     words = []
 
     def test_edits_are_refused(self):
-        for line in (b"append a 9", b"create x 0 1 0", b"clear a 0 1", b" set a 0 5", b"sets"):
+        for line in (b"append a 9", b"create x 0 1 0", b"clear a 0 1", b"sweep last a 1", b" set a 0 5", b"sets"):
             self.assertEqual(self.served.request(line)[0], 403, line)
             self.assertEqual(self.served.request(b"open 1", line)[0], 403, line)
 
@@ -156,6 +189,18 @@ class Sweeps(unittest.TestCase):
         before = held.asked
         sessions.detach(held)
         self.assertGreaterEqual(held.asked, before + 55)
+
+    def test_a_page_that_doesnt_keep_up_with_what_it_is_pushed_has_to_begin_anew(self):
+        program = self.Program()
+        self.addCleanup(program.over.set)
+        sessions = Sessions(program, Changes())
+        sessions.answer(b"open 1")
+        held = sessions.attach(b"1")
+        for _ in range(1000):
+            program.pushed(bytes((0, 0, 0, 88, VIEW, 0, 0, 0, 1)))
+        self.assertTrue(held.over.is_set())
+        self.assertLess(len(held.pushes), 100)
+        self.assertTrue(until(lambda: program.lines[-1] == b"close 1"))
 
     def test_who_is_idle_longest_gives_way_first_those_that_no_page_holds(self):
         program = self.Program()

@@ -35,8 +35,7 @@ class Behind(Page):
         super().__init__(browser, None, screenshots, f"http://127.0.0.1:{gateway.port}/#token=none")
 
     def wanted(self, number, told, size):
-        (name,) = told["names"]
-        self.store = self.stores[name]
+        self.store = self.stores[self.asked()[number]["names"][0]]
         return super().wanted(number, told, size)
 
     def compare(self):
@@ -81,7 +80,7 @@ def behind_gateway(browser, folder, screenshots):
         status, text = gateway.write(lines_of(0, browser_page.values_of(6000)))
         require(status == 204, text)
         page = Behind(browser, gateway, screenshots)
-        for step in (draw_alone, draw_in_a_crowd, show_alarms, call_by_labels, outlive_a_run, lose_gateway):
+        for step in (draw_alone, add_series, draw_in_a_crowd, show_alarms, call_by_labels, outlive_a_run, lose_gateway):
             step(page)
     except AssertionError as why:
         raise Failed(str(why)) from None
@@ -99,6 +98,22 @@ def draw_alone(page):
     page.do(lambda: page.browser.click("#all"))
     page.compare()
     require(page.alarms()["hidden"], f"alarms are shown where none stand: {page.alarms()}")
+
+
+def add_series(page):
+    """A sum is drawn as `derive` does, also behind writes, where the gateway answers sums; else it isn't offered, and told where it is asked for."""
+    page.open("sum=1+sea_v+-3+sea_v&panel=tide_v&sum=1+sea_v+1+tide_v&zone=utc")
+    told = page.read()["panels"]
+    page.browser.click("#open_picker")
+    if page.browser.run("return document.getElementById('add_sum').hidden"):
+        require([panel["fault"] for panel in told] == ["this server answers no sums", "", "this server answers no sums"], f"the page says {told}")
+        return
+    apart = page.stores["sea_v"] != page.stores["tide_v"]
+    require(told[2]["fault"] == ("the two series aren't of one store" if apart else ""), f"the page says {told[2]['fault']!r}")
+    page.open("sum=1+sea_v+-3+sea_v&panel=tide_v&zone=utc")
+    page.compare()
+    page.do(lambda: page.write(lines_of(2000, [750, -750, 0.25])))
+    page.compare()
 
 
 def draw_in_a_crowd(page):

@@ -11,7 +11,7 @@ import urllib.parse
 
 from browser_driver import KEYS, Failed, require, wait_for
 from browser_page import PROGRAM, ROOT, SLOTS, START, STEP, edit, make_store, served
-import browser_looks
+import browser_axes
 import browser_page
 
 # The next answer is no frame, and of the next client the first drawing fails.
@@ -129,6 +129,64 @@ def draw_pushes(page):
     page.browser.type("#line", f"set sea {START + 1} 5")
     wait_for(lambda: page.read()["answer"].startswith("the time is no slot's"), lambda: f"a wrong edit is answered by {page.read()['answer']!r}")
     page.request(f"set sea {START + 51 * STEP} 0")
+
+
+# The first words of the requests that the page sends from now on.
+COUNT = """
+window.requests = [];
+const sent = window.counted ?? window.fetch;
+window.counted = sent;
+window.fetch = (path, ...words) => {
+  if (path === "request") {
+    window.requests.push(words[0].body.split(" ")[0]);
+  }
+  return sent(path, ...words);
+};
+"""
+
+
+def draw_followed(page):
+    """Of a view that is alone what changes is pushed, and drawn without being asked for; one that isn't still is asked for anew."""
+    browser, requests = page.browser, lambda: page.browser.run("return window.requests")
+
+    def follows(step):
+        """Does a step that asks for a view, and waits until that is followed."""
+        browser.run(COUNT)
+        page.do(step)
+        wait_for(lambda: requests()[-2:] == ["view", "follow"], lambda: f"the page asks for {requests()}")
+        browser.run(COUNT)
+
+    for query in (f"panel=sea&from={START}&to={START + 5000 * STEP}", f"panel=sea&filter=v+%3E+0&range=-900..900&from={START}&to={START + 50 * STEP}"):
+        page.open(query)
+        follows(lambda: browser.click("#in"))
+        for value in (3333, -4444, 55):
+            page.do(lambda: page.request(f"set sea {START + 25 * STEP} {value}"))
+            page.compare()
+        page.request("append sea 1")  # behind the window
+        page.request("set few 0 7")
+        page.do(lambda: page.request(f"set sea {START + 26 * STEP} 44"))
+        page.compare()
+        require(requests() == [], f"what is pushed is asked for, too: {requests()}")
+        page.request(f"set sea {START + 24 * STEP} 12")
+        follows(lambda: page.press("-"))
+        page.compare_in_the_end()
+    # Many pushes wait while the page is busy. (A line between edits has each of them stored and pushed alone.)
+    browser.run("setTimeout(() => { for (const end = performance.now() + 1500; performance.now() < end; ); })")
+    for value in range(3):
+        page.request("\nlist\n".join(f"set sea {START + slot * STEP} {slot * value}" for slot in range(20, 50)))
+    wait_for(lambda: "view" in requests(), "what changes too fast to be drawn one by one isn't asked for")
+    page.compare_in_the_end()
+    page.open("panel=sea&last=3600")
+    follows(lambda: browser.click("#in"))
+    follows(lambda: browser.click("#resume"))
+    follows(lambda: page.request("append sea 2"))  # by which the window moves
+    page.compare()
+    page.open("panel=sea&panel=tide")
+    browser.run(COUNT)
+    page.do(lambda: browser.click("#in"))
+    page.do(lambda: page.request(f"set sea {START + 25 * STEP} 5"))
+    page.compare()
+    require("follow" not in requests(), "one of several views is followed")
 
 
 def follow_end(page):
@@ -258,7 +316,7 @@ def without_module(browser, folder):
         require(said == ["false", "Drawn by the client in JavaScript, which isn't proved: its module isn't built."], f"the page says {said}")
         page.compare()
         require(page.browser.run("return document.getElementById('edit').hidden"), "the page asks for edits without --edit")
-        browser_looks.see_crosshair(page)
+        browser_axes.see_crosshair(page)
 
 
 def show_sunspots(browser, folder, screenshots):
@@ -272,7 +330,8 @@ def show_sunspots(browser, folder, screenshots):
     taken, given = os.pipe()
     try:
         with served(browser, store, screenshots, "sunspots", "--feed", stdin=taken) as (page, _):
-            page.open("panel=sunspots&zone=utc")
+            page.open("zone=utc")  # the only series is shown at once
+            require(page.browser.run("return location.search") == "?panel=sunspots&zone=utc", "the only series isn't shown")
             before = page.window()
             # They come from now on, so that not all of them are there before the page is, however slow it is.
             with subprocess.Popen([os.path.join(examples, "later_months"), "2400", "0.02"], stdout=given, start_new_session=True) as feeder:
@@ -300,4 +359,4 @@ def wait_until_quiet(page):
     wait_for(is_quiet, lambda: f"what comes doesn't end, or isn't drawn: {seen[-1]} and the window {page.window()}")
 
 
-EDITING = (fail_module, give_way, rest_unseen, fall_behind, draw_pushes, follow_end, come_slowly)
+EDITING = (fail_module, give_way, rest_unseen, fall_behind, draw_pushes, draw_followed, follow_end, come_slowly)

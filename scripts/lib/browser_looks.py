@@ -1,9 +1,10 @@
-"""What scripts/gate/browser looks at where nothing changes: the list, panels, axes, the crosshair, windows, keys, sizes and colours."""
+"""What scripts/gate/browser looks at where nothing changes: the list, panels, windows, keys, sizes and colours."""
+import itertools
 import os
-import re
 
 from browser_driver import KEYS, require, wait_for
 from browser_page import SLOTS, START, STEP, WHOLE, values_of
+import browser_axes
 import browser_page
 
 PART = f"from={START + 123456}&to={START + 654321}"  # of a window
@@ -51,7 +52,6 @@ def choose_several(page):
     page.do(lambda: page.browser.click("#add_one"))
     require(names_shown(page)[3] == ["sea", "tide"], f"shown are {names_shown(page)}")
     page.compare()
-    page.show("panels")
 
 
 def arrange_panels(page):
@@ -77,6 +77,23 @@ def arrange_panels(page):
     page.compare()
 
 
+def fill_page(page):
+    """Eight panels of four series each; of those in a panel the last one is told to be on top. There is no room for a ninth."""
+    page.open("&".join("panel=" + "+".join(names) for names in itertools.islice(itertools.permutations(("sea", "tide", "wind", "few")), 0, 24, 3)) + "&zone=utc")
+    page.compare()
+    told = page.read()["panels"]
+    require(len(told) == 8 and all(sorted(panel["names"]) == ["few", "sea", "tide", "wind"] for panel in told), f"there are {names_shown(page)}")
+    tops = "return [...document.querySelectorAll('.panel')].map((it) => [...it.querySelectorAll('.legend small')].map((top) => [top.textContent, top.parentElement.querySelector('b').textContent]))"
+    require(page.browser.run(tops) == [[["on top", panel["names"][-1]]] for panel in told], f"on top are {page.browser.run(tops)}")
+    inks = "return [...document.querySelectorAll('.panel:first-child .legend li')].map((it) => getComputedStyle(it, '::before').backgroundColor)"
+    require(len(set(page.browser.run(inks))) == 4, f"the colours are {page.browser.run(inks)}")
+    page.browser.click("#open_picker")
+    page.browser.click("#rows .name")
+    wait_for(lambda: page.read()["chosen"] == "There is room for 8 panels, and these would be 9.", lambda: f"the list says {page.read()['chosen']!r}")
+    page.browser.press(KEYS["escape"])
+    require(page.browser.run("return document.getElementById('picker').hidden"), "Escape doesn't close the list")
+
+
 def set_range(page, number, text):
     page.browser.click(f"[aria-label='Settings of panel {number + 1}']")
     page.browser.type(f".panel:nth-of-type({number + 1}) [name=range]", text)
@@ -86,7 +103,7 @@ def fix_range(page):
     page.open("panel=sea&panel=tide")
     page.do(lambda: set_range(page, 1, "-20..55.5"))
     ticks = [text for text, _ in page.read()["panels"][1]["ticks"]]
-    require(ticks[0] == "−20.0" and "0.0" in ticks and number_in(ticks[-1]) > 30, f"the ticks are {ticks}")
+    require(ticks[0] == "−20.0" and "0.0" in ticks and browser_axes.number_in(ticks[-1]) > 30, f"the ticks are {ticks}")
     page.compare()
     set_range(page, 1, "5..1")
     wait_for(lambda: "the range is auto, or two values" in page.read()["panels"][1]["fault"], "a range that is none isn't told")
@@ -112,97 +129,6 @@ def name_client(page):
     said = page.browser.run("const it = document.getElementById('client'); return [it.dataset.proved, it.textContent]")
     wanted = "Drawn by the proved client" if has_module else "Drawn by the client in JavaScript, which isn't proved: its module isn't built."
     require(said[0] == str(has_module).lower() and said[1].startswith(wanted), f"the page says {said}")
-
-
-def number_in(text):
-    return float(text.replace("−", "-"))
-
-
-def see_axes(page):
-    """Each tick stands at the row or the column of its value or time."""
-    page.open("panel=tide&panel=sea&zone=utc")
-    told = page.read()
-    for number, panel in enumerate(told["panels"]):
-        _, (width, height) = page.canvas(number)
-        lo, hi = (number_in(end) for end in re.search(r"values from (\S+) to (\S+)$", panel["label"]).groups())
-        require(len(panel["ticks"]) >= 3, f"the ticks are {panel['ticks']}")
-        for text, top in panel["ticks"]:
-            row = int((number_in(text) - lo) * (height - 1) / (hi - lo) + 1e-9)
-            require(abs(top - (height - 1 - row + 0.5)) < 0.02, f"the tick {text} of {lo} to {hi} stands at {top} of {height}")
-        require(re.fullmatch(r"−?\d+\.\d" if number == 0 else r"−?\d+", panel["ticks"][0][0]), "a tick hasn't the decimals of its series")
-    days = [text for text, _ in told["times"]]
-    require(days == ["2023"] + [f"{day} Jan" for day in range(3, 22, 2)] or len(days) >= 3, f"the times are {days}")
-    for text, left in told["times"]:
-        day = 1 if text == "2023" else int(text.split()[0])
-        column = (day - 1) * 86400 * width // (WHOLE[1] - WHOLE[0])
-        require(abs(left - column - 0.5) < 0.02, f"the time {text} stands at {left} of {width}")
-    require(told["t0"] == "2023-01-01 00:00:00 UTC" and told["t1"] == "2023-01-21 20:00:00 UTC", f"the ends are {told['t0']} and {told['t1']}")
-    before = page.canvas(0)
-    require(told["panels"][0]["lines"] == len(told["panels"][0]["ticks"]) + len(told["times"]), "the grid isn't whole")
-    page.do(lambda: page.browser.choose("#grid", "off"))
-    require(page.read()["panels"][0]["lines"] == 0, "the grid can't be turned off")
-    require(page.canvas(0) == before, "the grid touches a pixel of the chart")
-    page.do(lambda: page.browser.choose("#grid", ""))
-
-
-# The texts beside the charts and below them that pass the panel's edge or the page's, and the left edges of charts and axis.
-READ_EDGES = """
-const box = (it) => it.getBoundingClientRect();
-const values = [...document.querySelectorAll(".values span")].filter((it) => box(it).left < box(it.closest(".panel")).left);
-const times = [...document.querySelectorAll("#times span")].filter((it) => box(it).right > box(document.getElementById("panels")).right);
-const lefts = [...document.querySelectorAll(".plot, #times")].map((it) => box(it).left);
-return [[...values, ...times].map((it) => it.textContent), [...new Set(lefts)], box(document.getElementById("axis")).bottom, innerHeight];
-"""
-
-
-def fit_texts(page):
-    """Long values have room beside the charts, times don't pass the edge, and the axis stays in sight; on a narrow page too."""
-    for width in (1160, 360):
-        page.browser.size(width, 760)
-        # (the window ends at a tick)
-        for query in ("panel=sea&range=-123456789..987654321", "panel=sea&panel=tide&panel=wind&panel=sea+tide+wind"):
-            page.open(f"{query}&panel=tide&from={START}&to={START + 86401}&zone=utc")
-            texts, lefts, bottom, height = page.browser.run(READ_EDGES)
-            require(not texts, f"on {width} pixels {texts} pass the edge")
-            require(len(lefts) == 1, f"on {width} pixels the charts and the axis begin at {lefts}")
-            require(bottom <= height, f"on {width} by {height} pixels the axis ends at {bottom}")
-            page.compare()
-    page.browser.size(1160, 760)
-
-
-def column_values(column, width, window=WHOLE):
-    """What the readings of `sea` have in a column."""
-    t0, t1 = window
-    times = [START + STEP * slot for slot in range(SLOTS)]
-    values = values_of(SLOTS)
-    return [value for time, value in zip(times, values) if t0 <= time < t1 and (time - t0) * width // (t1 - t0) == column]
-
-
-def see_crosshair(page):
-    """At the pointer, and by keys, the least and the greatest value of the column are told, exactly."""
-    page.open("panel=sea&panel=tide&zone=utc")
-    if not page.browser.run("return document.querySelector('canvas') !== null"):
-        return
-    left, top, width, height = page.browser.box(page.plot())
-    _, (columns, _) = page.canvas(0)
-    for column in (0, 333, columns - 1):
-        page.browser.point(left + column + 0.4, top + height / 2)
-        told = page.read()["panels"][0]["values"][0]
-        require(told, f"no values of column {column} are told")
-        inside = column_values(column, columns)
-        wanted = [str(end).replace("-", "−") for end in (min(inside), max(inside))]
-        require(told == " to ".join(wanted), f"column {column} is told as {told}, and has {wanted}")
-    require(page.read()["moment"].endswith("2023-01-21 19:59:59 UTC"), f"the time is told as {page.read()['moment']}")
-    page.browser.press(KEYS["escape"])
-    page.press(KEYS["shift"], KEYS["home"])
-    page.press(KEYS["shift"], KEYS["right"])
-    inside = column_values(1, columns)
-    said = page.read()["aloud"]
-    told = f"sea {min(inside)} to {max(inside)}".replace("-", "−")
-    require(told in said and said.startswith("2023-01-01 00:"), f"by keys it is told as {said!r}")
-    page.show("crosshair")
-    page.press(KEYS["escape"])
-    require(page.read()["moment"] == "", "Escape doesn't take the line away")
 
 
 def drag_zoom(page):
@@ -360,7 +286,7 @@ def name_nothing(page):
 
 def name_parts(page):
     """What a screen reader tells: each thing that can be used has a role and a name."""
-    page.open("panel=sea+tide&panel=few")
+    page.open("panel=sea+tide&panel=few&sum=1+tide+-1+wind")
     browser = page.browser
     browser.run("document.querySelectorAll('details').forEach((it) => (it.open = true))")
     wanted = {".plot": "img", ".grip": "separator", "#open_picker": "button", "#last": "combobox", "#from": "textbox", ".panel": "region"}
@@ -373,11 +299,11 @@ def name_parts(page):
         name = browser.send(f"/element/{element}/computedlabel")
         shown = browser.run("return arguments[0].outerHTML.slice(0, 80)", {"element-6066-11e4-a52e-4f735466cecf": element})
         require(name.strip(), f"{shown} has no name")
-    label = page.read()["panels"][0]["label"]
-    require(label.startswith("sea and tide from ") and ": values from " in label, f"the chart is told as {label!r}")
+    for panel, front in zip(page.read()["panels"], ("sea and tide from ", "few from ", "tide − wind from ")):
+        require(panel["label"].startswith(front) and ": values from " in panel["label"], f"the chart is told as {panel['label']!r}")
 
 
 STEPS = (
-    list_series, choose_several, arrange_panels, fix_range, share_a_link, name_client, see_axes, fit_texts, see_crosshair, drag_zoom, pan, turn_wheel,
+    list_series, choose_several, arrange_panels, fill_page, fix_range, share_a_link, name_client, *browser_axes.STEPS, drag_zoom, pan, turn_wheel,
     go_back, name_window, type_filter, resize, darken, go_by_keys, name_nothing, name_parts,
 )  # fmt: skip

@@ -167,7 +167,10 @@ class Page:
         panels = []
         for key, value in urllib.parse.parse_qsl(urllib.parse.urlsplit(self.browser.run("return location.href")).query):
             if key == "panel":
-                panels.append({"names": value.split(), "filter": "", "range": ""})
+                panels.append({"names": value.split(), "factors": None, "filter": "", "range": ""})
+            elif key == "sum":
+                one, first, other, second = value.split()
+                panels.append({"names": [first, second], "factors": [int(one), int(other)], "filter": "", "range": ""})
             elif key in ("filter", "range"):
                 panels[-1][key] = value
         return panels
@@ -195,8 +198,18 @@ class Page:
         views = [(f"{name} {size[0]} {size[1]} {told['t0']} {told['t1']}", where) for name in told["names"]]
         return [f"view 1 {words} {range_}{where}" for (words, _), range_ in zip(views, self.ranges(asked, views, told["names"]))]
 
+    def derived(self, asked, told, size):
+        """What `derive` makes of the sum of a panel, over the window that it tells."""
+        scales = [self.scales()[name] for name in asked["names"]]
+        factors = [factor * 10 ** (max(scales) - scale) for factor, scale in zip(asked["factors"], scales)]
+        range_ = "..".join(str(round(float(end) * 10 ** max(scales))) for end in asked["range"].split("..")) if asked["range"] else "auto"
+        line = " ".join(map(str, [*asked["names"], *factors, *size, told["t0"], told["t1"], range_]))
+        return self.program(["derive"], line.encode())
+
     def wanted(self, number, told, size):
-        """What `draw` makes of the window that a panel tells, for each of its series."""
+        """What `draw` makes of the window that a panel tells, for each of its series, or `derive` of its sum."""
+        if self.asked()[number]["factors"]:
+            return [self.derived(self.asked()[number], told, size)]
         lines = "".join(line + "\n" for line in ["open 1 131072", *self.lines(number, told, size)])
         frames = self.program(["serve"], lines.encode())
         pictures = subprocess.run([PROGRAM, "-", "draw"], input=frames, stdout=subprocess.PIPE, check=True).stdout

@@ -50,7 +50,7 @@ export class Alarms {
   item(alarm) {
     const show = () => {
       const { panels } = this.page.asked();
-      if (!panels.some(({ names }) => names.includes(alarm.name))) {
+      if (!panels.some(({ names, factors }) => !factors && names.includes(alarm.name))) {
         this.page.change({ panels: [...panels, newPanel([alarm.name])].slice(-MOST_PANELS) });
       }
     };

@@ -9,11 +9,15 @@ const seriesOf = (told) => ({ ...told, start: BigInt(told.start) });
 export class Catalog {
   constructor() {
     this.series = new Map();
-    this.lasts = new Map(); // the last values, by names, with the number of slots then
+    this.lasts = new Map(); // the last values, by names
+    this.hasSums = this.hasPushes = false; // what the server has beside views
   }
 
   async load() {
-    const told = await (await post("catalog", "")).json();
+    const response = await post("catalog", "");
+    const told = await response.json();
+    const offers = (response.headers.get("X-Chart-Offers") ?? "").split(" ");
+    [this.hasSums, this.hasPushes] = ["sum", "follow"].map((word) => offers.includes(word));
     this.series = new Map(told.map((one) => [one.name, seriesOf(one)]));
   }
 

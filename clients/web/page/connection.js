@@ -92,6 +92,8 @@ export class Connection {
     this.turn = null; // ends with the requests that are under way
     this.cut = new AbortController(); // of what is under way
     this.number = 0; // of the session; 0 while none is open
+    this.pushes = 0; // how many frames the session was pushed
+    this.follows = false; // whether it is pushed what changes of the view that it was answered last
     this.bytes = 0; // of all frames so far
     this.last = 0; // of the last answer
   }
@@ -100,7 +102,7 @@ export class Connection {
   async begin() {
     this.close();
     this.cut.abort();
-    [this.cut, this.turn] = [new AbortController(), null];
+    [this.cut, this.turn, this.pushes, this.follows] = [new AbortController(), null, 0, false];
     this.drawn = await newClient();
     this.said(this.drawn);
     while (this.number === 0) {
@@ -156,7 +158,10 @@ export class Connection {
 
   async read(lines, took, covered, enough) {
     const [asked, answers, frames, { drawn }] = [performance.now(), [], new Frames(), this];
-    const response = await post("request", lines.join("\n"), { signal: this.cut.signal });
+    const { signal } = this.cut;
+    this.follows &&= !lines.some((line) => line.startsWith("view "));
+    const response = await post("request", lines.join("\n"), { signal });
+    await this.haveCome(Number(response.headers.get("X-Chart-Pushed") ?? 0), signal);
     const reader = response.body.getReader();
     this.last = 0;
     for (let piece = await reader.read(); !piece.done; piece = await reader.read()) {
@@ -179,6 +184,40 @@ export class Connection {
       }
     }
     return answers;
+  }
+
+  /** Waits until so many frames were pushed, since those that follow may stand on them. */
+  async haveCome(pushes, signal) {
+    while (this.pushes < pushes) {
+      signal.throwIfAborted();
+      await new Promise((done) => {
+        this.onPush = done;
+        signal.addEventListener("abort", done, { once: true });
+      });
+    }
+  }
+
+  /** Has the session follow the view that it was answered last, unless that is too large. */
+  async follow() {
+    const [{ refused }] = await this.ask([`follow ${this.number}`]);
+    this.follows = !refused;
+  }
+
+  /** Takes a frame that was pushed, as a text in base 64; gives what it tells, null where the session was let go. */
+  push(text) {
+    if (!this.drawn) {
+      return null;
+    }
+    const bytes = Uint8Array.from(atob(text), (one) => one.charCodeAt(0));
+    [this.last, this.bytes, this.pushes] = [bytes.length, this.bytes + bytes.length, this.pushes + 1];
+    try {
+      return this.take(bytes, this.drawn.client);
+    } catch (error) {
+      this.close();
+      throw error;
+    } finally {
+      this.onPush?.();
+    }
   }
 
   /** What one frame tells. */

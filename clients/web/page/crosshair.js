@@ -39,7 +39,7 @@ export class Crosshair {
   /** What each series has in the column, in words. */
   values() {
     const traces = this.page.panels.flatMap((panel) => panel.traces).filter(({ value }) => value.textContent);
-    return traces.map(({ name, value }) => `${this.page.catalog.shown(name)} ${value.textContent}`);
+    return traces.map(({ label, value }) => `${label} ${value.textContent}`);
   }
 
   /** Shows it where it is, also behind a drawing. */
@@ -49,20 +49,10 @@ export class Crosshair {
       const isShown = column !== null && panel.window !== null && column < panel.w;
       panel.cross.hidden = !isShown;
       panel.cross.style.left = `${(column ?? 0) / devicePixelRatio}px`;
-      panel.traces.forEach((trace) => tell(trace.value, isShown ? this.valueOf(trace, column) : ""));
+      panel.traces.forEach(({ value, picture }, place) => tell(value, isShown ? valueOf(picture, column, panel.scales[place]) : ""));
     }
     const window = page.panels.find(({ window }) => window)?.window;
     tell(part("moment"), column === null || !window ? "" : this.moment(timesOf(window, column, this.width())));
-  }
-
-  valueOf({ picture, name }, column) {
-    const found = picture?.column?.(column);
-    if (!found) {
-      return picture?.column ? "–" : "";
-    }
-    const { scale } = this.page.catalog.get(name);
-    const [lo, hi] = [found.least, found.greatest].map((value) => decimal(value, scale));
-    return lo === hi ? lo : `${lo} to ${hi}`;
   }
 
   /** The times of a column: its first one, and where it has more than one the last of them, too. */
@@ -70,4 +60,14 @@ export class Crosshair {
     const { spelled } = this.page.look;
     return to - from > 1n ? `${spelled(from)} to ${spelled(to - 1n)}` : spelled(from);
   }
+}
+
+/** What a picture has in a column, in so many decimals; nothing of a cover, whose values aren't known. */
+function valueOf(picture, column, scale) {
+  if (!picture) {
+    return "";
+  }
+  const found = picture.column(column);
+  const [lo, hi] = found ? [found.least, found.greatest].map((value) => decimal(value, scale)) : ["–", "–"];
+  return lo === hi ? lo : `${lo} to ${hi}`;
 }

@@ -1,5 +1,6 @@
 /** Asks for the pictures of panels, and shows each panel's as soon as it has them. */
 import { BAD_FILTER } from "./connection.js";
+import { curvesOf } from "./curves.js";
 import { Panel } from "./panel.js";
 import { rangeOf, rescaled, sharedRange } from "./values.js";
 
@@ -7,11 +8,12 @@ import { rangeOf, rescaled, sharedRange } from "./values.js";
 class Job {
   constructor(panel, window, catalog) {
     Object.assign(this, { panel, window, answers: [], hasFailed: false, range: null });
-    this.series = panel.spec.names.map((name) => catalog.get(name));
-    this.scales = this.series.map((series) => series?.scale ?? 0);
-    const missing = panel.spec.names.filter((_, place) => !this.series[place]);
-    if (missing.length > 0) {
-      this.fail(`no series has the name ${missing.join(", ")}`);
+    this.curves = curvesOf(panel.spec, catalog);
+    this.scales = this.curves.map(({ scale }) => scale);
+    const missing = panel.spec.names.filter((name) => !catalog.get(name));
+    const fault = missing.length > 0 ? `no series has the name ${missing.join(", ")}` : this.curves[0].fault(catalog);
+    if (fault) {
+      this.fail(fault);
     } else if (panel.spec.range) {
       this.fix();
     }
@@ -34,18 +36,14 @@ class Job {
     this.panel.fail(why, at);
   }
 
-  /** The words of the view of its series at a place. */
-  words(place) {
-    const { names, filter } = this.panel.spec;
-    const { w, h } = this.size;
-    const own = this.range && rescaled(this.range, this.scales[place]);
-    const range = own ? `${own.lo}..${own.hi}` : "auto";
-    return `${names[place]} ${w} ${h} ${this.window.t0} ${this.window.t1} ${range}${filter ? ` where ${filter}` : ""}`;
+  /** The line that asks for its curve at a place. */
+  line(place, session) {
+    return this.curves[place].line(session, this.size, this.window, this.range && rescaled(this.range, this.scales[place]));
   }
 
-  /** The places of the series that have to be asked for: all, and once their ranges are known those that were drawn in another one. */
+  /** The places of the curves that have to be asked for: all, and once their ranges are known those that were drawn in another one. */
   wanted() {
-    const all = [...this.panel.spec.names.keys()];
+    const all = [...this.curves.keys()];
     if (this.hasFailed || this.answers.length === 0) {
       return this.hasFailed ? [] : all;
     }
@@ -63,7 +61,7 @@ class Job {
     this.answers[place] = answer;
     if (answer.refused) {
       const { number, a } = answer.refused.frame;
-      this.fail(answer.refused.message, number === BAD_FILTER ? charactersIn(this.panel.spec.filter, Number(a)) : null);
+      this.fail(this.curves[place].told(answer.refused), number === BAD_FILTER ? charactersIn(this.panel.spec.filter, Number(a)) : null);
     }
   }
 }
@@ -94,7 +92,8 @@ async function askFor(jobs, connection, painting, done) {
     }
   };
   if (asks.length > 0) {
-    await connection.view(asks.map(({ job, place }) => job.words(place)), took, covered);
+    const lines = asks.map(({ job, place }) => job.line(place, connection.number));
+    await connection.ask(lines, took, covered);
   }
 }
 
@@ -103,7 +102,7 @@ export async function drawPanels(panels, window, { connection, catalog, look }, 
   const jobs = panels.map((panel) => Object.assign(new Job(panel, window, catalog), { size: panel.size() }));
   const show = (job) => {
     painting();
-    job.panel.show(job.answers, window, job.range, look);
+    job.panel.show(job, look);
   };
   const again = [];
   await askFor(jobs, connection, painting, (job) => (job.wanted().length > 0 ? again.push(job) : show(job)));

@@ -106,6 +106,8 @@ export class Line {
     for await (const { name, value } of readEvents(this.page.connection.number, alive, this.cut)) {
       if (name === "changed") {
         this.change(value);
+      } else if (name === "pushed") {
+        this.page.followed.show(value);
       } else if (name === "alarms") {
         this.page.alarms.show(value);
       } else if (name === "ended") {

@@ -6,8 +6,10 @@ import { Catalog } from "./catalog.js";
 import { Connection } from "./connection.js";
 import { listenToControls, showControls } from "./controls.js";
 import { Crosshair } from "./crosshair.js";
+import { curvesOf } from "./curves.js";
 import { part, tell } from "./dom.js";
 import { drawPanels } from "./drawing.js";
+import { Followed } from "./followed.js";
 import { Line } from "./live.js";
 import { theme } from "./paint.js";
 import { Panel } from "./panel.js";
@@ -31,6 +33,7 @@ class Page {
     this.picker = new Picker(this);
     this.alarms = new Alarms(this);
     this.line = new Line(this);
+    this.followed = new Followed(this);
     this.query = location.search; // names what is asked for
     this.digits = 0; // for so many there is room beside the charts
     this.look = { unit: "numbers", zone: "", grid: true, painted: "", spelled: String };
@@ -103,11 +106,12 @@ class Page {
 
   /** Makes the panels that are asked for, where they aren't there. */
   makePanels(asked) {
-    const shown = asked.panels.map(({ names }) => names.map((name) => this.catalog.shown(name)));
-    const key = JSON.stringify([shown, asked.panels.map(({ names, filter, range }) => [names, filter, range])]);
+    const curves = asked.panels.map((spec) => curvesOf(spec, this.catalog));
+    const labels = curves.map((some) => some.map(({ label }) => label));
+    const key = JSON.stringify([labels, asked.panels.map(({ names, filter, range }) => [names, filter, range])]);
     if (key !== this.made) {
       [this.made, this.digits] = [key, 0];
-      this.panels = asked.panels.map((spec, number) => new Panel(spec, shown[number], number, this.doing(number)));
+      this.panels = asked.panels.map((spec, number) => new Panel(spec, curves[number], number, this.doing(number)));
       this.panels.forEach((panel) => listenOver(panel, this));
       keepFocus(() => part("panels").replaceChildren(...this.panels.map(({ element }) => element)));
     }
@@ -171,6 +175,9 @@ class Page {
     if (!this.shown(asked).some(({ name }) => names.includes(name))) {
       return this.line.caughtUp();
     }
+    if (this.followed.hasDrawn(this.asksFor(asked))) {
+      return this.line.caughtUp();
+    }
     const movesOn = isFollowing(asked) || (asked.t0 === null && asked.last === null);
     return this.drawOf(movesOn ? null : names, performance.now());
   }
@@ -200,6 +207,7 @@ class Page {
     }
     document.body.toggleAttribute("data-drawing", false);
     this.isDrawing = false;
+    this.followed.soon();
   }
 
   /** Says why nothing was drawn. Where the session was lost with that, the line begins another one, which draws. */
@@ -215,7 +223,7 @@ class Page {
     const asked = this.greeted();
     this.readLook(asked);
     this.makePanels(asked);
-    const window = windowOf(asked, this.shown(asked), this.panels[0]?.size().w ?? 1) ?? NOWHERE;
+    const window = this.asksFor(asked);
     setTimeout(() => this.showAsked(asked, window)); // while the answers are on their way
     if (this.panels.length > 0) {
       const some = this.panels.filter(({ spec }) => names === null || spec.names.some((name) => names.includes(name)));
@@ -223,15 +231,25 @@ class Page {
       const drawAxis = this.makeAxis(window); // while the answers are on their way
       await drawn;
       drawAxis();
-      this.makeRoom();
-      this.crosshair.show();
-      this.tellDrawn(began);
+      this.tellShown(began);
     }
+  }
+
+  /** The window of what is asked for, on the panels that are there. */
+  asksFor(asked) {
+    return windowOf(asked, this.shown(asked), this.panels[0]?.size().w ?? 1) ?? NOWHERE;
+  }
+
+  /** Puts around the pictures what goes with them, and says what they show. */
+  tellShown(began) {
+    this.makeRoom();
+    this.crosshair.show();
+    this.tellDrawn(began);
   }
 
   showAsked(asked, window) {
     showControls(this, asked, window === NOWHERE ? null : window);
-    const names = asked.panels.flatMap((panel) => panel.names.map((name) => this.catalog.shown(name))).join(", ");
+    const names = this.panels.flatMap(({ shown }) => shown).join(", ");
     document.title = names === "" ? "Chart" : `${names} - Chart`;
   }
 

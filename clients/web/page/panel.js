@@ -1,20 +1,25 @@
 /** One panel: its series' names and values, its canvases one above the other, the values beside it, and its settings. */
 import { drawValues, makeTimeLines } from "./axes.js";
+import { factorOf } from "./address.js";
 import { make, signButton, tell } from "./dom.js";
 import { makeGrip } from "./grip.js";
 import { clear, paint, pixelsOf } from "./paint.js";
 import { decimal, sharedRange } from "./values.js";
 
-/** A series of a panel: what stands of it on the page, and what was drawn of it last. */
+const IS_TOP = ["on top", "Where charts overlap, this one is seen"];
+const IS_SUM = ["a sum, asked for anew with each change", "The program pushes changes of series alone"];
+
+/** A curve of a panel: what stands of it on the page, and what was drawn of it last. */
 class Trace {
-  constructor(name, shown, place, isTop, remove) {
-    this.name = name;
+  /** `notes` are texts behind its label, each with what it means; `remove` takes it away, where it can be. */
+  constructor({ name, label }, place, notes, remove) {
+    this.label = label;
     this.place = place;
     this.canvas = make("canvas", { "data-name": name });
     this.value = make("span", { class: "value" });
-    const drop = signButton("×", `Take ${shown} away`, remove, { class: "drop" });
-    const top = isTop ? [make("small", { title: "Where charts overlap, this one is seen" }, "on top")] : [];
-    this.entry = make("li", { class: `series-${place + 1}` }, make("b", {}, shown), ...top, this.value, drop);
+    const drop = remove ? [signButton("×", `Take ${label} away`, remove, { class: "drop" })] : [];
+    const told = notes.map(([text, title]) => make("small", { title }, text));
+    this.entry = make("li", { class: `series-${place + 1}` }, make("b", {}, label), ...told, this.value, ...drop);
   }
 
   /** Puts a picture on the canvas, where it isn't there already. */
@@ -35,12 +40,13 @@ class Trace {
 }
 
 export class Panel {
-  /** `shown` has what its series are called, and `does` what the panel's buttons do: remove(), drop(place), up(), down(), change(words). */
-  constructor(spec, shown, number, does) {
-    Object.assign(this, { spec, shown, number, does, range: null, window: null, digits: 0 });
-    const { names } = spec;
-    const isTop = (place) => names.length > 1 && place === names.length - 1;
-    this.traces = names.map((name, place) => new Trace(name, shown[place], place, isTop(place), () => does.drop(place)));
+  /** `does` has what the panel's buttons do: remove(), drop(place), up(), down(), change(words). */
+  constructor(spec, curves, number, does) {
+    Object.assign(this, { spec, number, does, range: null, scales: [], window: null, digits: 0 });
+    this.shown = curves.map(({ label }) => label);
+    const isTop = (place) => curves.length > 1 && place === curves.length - 1;
+    const notes = (place) => [...(spec.factors ? [IS_SUM] : []), ...(isTop(place) ? [IS_TOP] : [])];
+    this.traces = curves.map((curve, place) => new Trace(curve, place, notes(place), spec.factors ? null : () => does.drop(place)));
     this.labels = make("div", { class: "values", "aria-hidden": "true" });
     this.lines = { values: make("div", { class: "grid" }), times: make("div", { class: "grid" }) };
     this.selection = make("div", { class: "selection", hidden: true });
@@ -48,10 +54,10 @@ export class Panel {
     this.covered = make("p", { class: "covered", hidden: true }, "coming in: what is white stays white");
     this.fault = make("pre", { class: "fault", role: "alert" });
     this.plot = this.makePlot();
-    this.settings = this.makeSettings();
+    this.settings = this.makeSettings(curves[0]);
     this.grip = makeGrip(this, (height) => does.change({ height }));
     const body = make("div", { class: "body" }, this.labels, this.plot);
-    const label = `Panel ${number + 1}: ${shown.join(", ")}`;
+    const label = `Panel ${number + 1}: ${this.shown.join(", ")}`;
     this.element = make("section", { class: "panel", "aria-label": label }, this.makeHead(), this.settings, this.fault, body, this.grip);
   }
 
@@ -74,25 +80,39 @@ export class Panel {
     return make("header", {}, legend, make("span", { class: "note" }, notes.join("; ")), make("span", { class: "tools" }, ...tools));
   }
 
-  makeSettings() {
-    const field = (name, label, placeholder) => {
-      const input = make("input", { name, value: this.spec[name], placeholder, autocomplete: "off", spellcheck: "false" });
+  makeSettings({ shown }) {
+    const { factors, filter, range } = this.spec;
+    const field = (name, label, value, placeholder) => {
+      const input = make("input", { name, value, placeholder, autocomplete: "off", spellcheck: "false" });
       return make("label", {}, label, input);
     };
     const submit = (event) => {
       event.preventDefault();
-      const { filter, range } = event.target.elements;
-      this.does.change({ filter: filter.value.trim(), range: range.value.trim() === "auto" ? "" : range.value.trim() });
+      this.apply(event.target.elements);
     };
-    const fields = [field("filter", "Filter", "v > 10 and not t = 5"), field("range", "Range of values", "auto, or -5..15.5")];
+    const own = factors
+      ? factors.map((factor, at) => field("factor", `Factor of ${shown[at]}`, factor, "1"))
+      : [field("filter", "Filter", filter, "v > 10 and not t = 5")];
+    const fields = [...own, field("range", "Range of values", range, "auto, or -5..15.5")];
     return make("form", { class: "settings", hidden: true, on: { submit } }, ...fields, make("button", {}, "Apply"));
+  }
+
+  /** Changes what stands in the settings' fields. */
+  apply({ filter, factor, range }) {
+    const text = range.value.trim();
+    const factors = this.spec.factors && [...factor].map(({ value }) => factorOf(value));
+    if (factors?.includes(null)) {
+      this.fail("a factor is a whole number of at most 10^9 in size");
+    } else {
+      this.does.change({ range: text === "auto" ? "" : text, ...(factors ? { factors } : { filter: filter.value.trim() }) });
+    }
   }
 
   openSettings(isOpen) {
     this.settings.hidden = !isOpen;
     this.opener.setAttribute("aria-expanded", String(isOpen));
     if (isOpen) {
-      this.settings.elements.filter.focus();
+      this.settings.elements[0].focus();
     }
   }
 
@@ -109,9 +129,9 @@ export class Panel {
     return { w: pixelsOf(this.plot.clientWidth), h: pixelsOf(this.plot.clientHeight) };
   }
 
-  /** Shows the pictures of its series, of one window and one range. */
-  show(answers, window, range, look) {
-    Object.assign(this, { window, range, h: answers[0].picture.h, w: answers[0].picture.w });
+  /** Shows the pictures of its curves, of one window and one range. */
+  show({ answers, window, range, scales }, look) {
+    Object.assign(this, { window, range, scales, h: answers[0].picture.h, w: answers[0].picture.w });
     this.traces.forEach((trace, place) => trace.show(answers[place].picture, look.painted));
     this.covered.hidden = true;
     tell(this.fault, "");
@@ -152,7 +172,7 @@ export class Panel {
     });
   }
 
-  /** The range that its series have in common, of the answers to views with ranges of their own; null where all are blank. */
+  /** The range that its curves have in common, of the answers to views with ranges of their own; null where all are blank. */
   static rangeOf(answers, scales) {
     const shown = answers.map((answer, place) => ({ ...answer, scale: scales[place] })).filter(({ picture }) => !picture.isBlank());
     return shown.length > 0 ? sharedRange(shown.map(({ frame: { lo, hi }, scale }) => ({ lo, hi, scale })), scales) : null;

@@ -21,6 +21,8 @@ export class Picker {
     part("open_picker").addEventListener("click", () => this.open(part("picker").hidden));
     part("add_each").addEventListener("click", () => this.add([...this.chosen].map((name) => newPanel([name]))));
     part("add_one").addEventListener("click", () => this.addTogether());
+    part("add_sum").addEventListener("click", () => this.add([newPanel([...this.chosen], { factors: [1, 1] })]));
+    part("add_difference").addEventListener("click", () => this.add([newPanel([...this.chosen], { factors: [1, -1] })]));
     part("picker").addEventListener("keydown", (event) => event.key === "Escape" && this.open(false));
   }
 
@@ -133,6 +135,7 @@ export class Picker {
   tellChosen() {
     const count = this.chosen.size;
     ["add_each", "add_one"].forEach((id) => (part(id).disabled = count === 0));
+    ["add_sum", "add_difference"].forEach((id) => Object.assign(part(id), { hidden: !this.page.catalog.hasSums, disabled: count !== 2 }));
     tell(part("chosen"), count === 0 ? "A click on a name shows it; boxes choose several." : `${count} chosen`);
   }
 }

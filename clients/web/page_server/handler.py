@@ -1,4 +1,5 @@
 """The answers over HTTP: the page's files, and behind its token request lines, the catalog and the stream of what changes."""
+import base64
 import hmac
 import http.server
 import itertools
@@ -11,12 +12,15 @@ import sys
 import time
 
 from zurtkvani_client import Ended, page_rules
-from zurtkvani_client.page_rules import BEAT, MOST_BYTES, REST
+from zurtkvani_client.page_rules import BEAT, EDITS, MOST_BYTES, OF_SESSION, REST
 
 from .connections import ANSWER, BODY, HEAD, WAITING, Connections, refuse
 
 FOLDER = os.path.dirname(os.path.dirname(os.path.realpath(__file__)))
 MOST_STREAMS = 48
+PUSHED = "X-Chart-Pushed"  # the header of an answer with how many frames its session had been pushed before it
+READING = (*OF_SESSION, b"follow", b"unfollow", b"list", b"values")
+EDITING = (*READING, *EDITS, b"sweep")
 
 
 class Handler(http.server.BaseHTTPRequestHandler):
@@ -63,13 +67,13 @@ class Handler(http.server.BaseHTTPRequestHandler):
             self.send_header(name, str(value))
         self.end_headers()
 
-    def send(self, status, kind, body):
-        self.head(status, kind, {"Content-Length": len(body)})
+    def send(self, status, kind, body, **more):
+        self.head(status, kind, {"Content-Length": len(body), **more})
         if self.command != "HEAD":
             self.wfile.write(body)
 
-    def send_json(self, status, value):
-        self.send(status, "application/json", json.dumps(value).encode())
+    def send_json(self, status, value, **more):
+        self.send(status, "application/json", json.dumps(value).encode(), **more)
 
     def refuse(self, status, why):
         # What is left of the request isn't read, so the connection can't go on.
@@ -124,19 +128,21 @@ class Handler(http.server.BaseHTTPRequestHandler):
     def answer_lines(self, body):
         """Sends the frames of request lines, each as soon as it is there."""
         try:
-            lines = page_rules.lines_of(body, None if self.server.edits else page_rules.OF_SESSION)
+            lines = page_rules.lines_of(body, EDITING if self.server.edits else READING)
         except ValueError as why:
             return self.refuse(400, str(why))
         except PermissionError:
-            return self.refuse(403, "without --edit only open, close, view, zoom and pan are taken")
+            return self.refuse(403, "without --edit no line is taken that edits, and none that isn't a request")
         frames = self.server.sessions.answers(lines)
+        first = next(frames)
+        pushed = {PUSHED: self.server.sessions.pushed(lines[0])}
         if len(lines) == 1:
-            return self.send(200, page_rules.FRAMES, next(frames))
-        return self.send_pieces(next(frames), frames)
+            return self.send(200, page_rules.FRAMES, first, **pushed)
+        return self.send_pieces(first, frames, pushed)
 
-    def send_pieces(self, first, others):
+    def send_pieces(self, first, others, more):
         """Sends a first piece and those that follow it, as they come. Where the program ends in between, the answer has no end."""
-        self.head(200, page_rules.FRAMES, {"Transfer-Encoding": "chunked"})
+        self.head(200, page_rules.FRAMES, {"Transfer-Encoding": "chunked", **more})
         try:
             for piece in itertools.chain([first], others, [b""]):
                 self.wfile.write(b"%x\r\n%b\r\n" % (len(piece), piece))
@@ -145,11 +151,12 @@ class Handler(http.server.BaseHTTPRequestHandler):
             self.close_connection = True
 
     def send_catalog(self, _):
-        self.send_json(200, [page_rules.told(series) for series in list(self.server.program.catalog.values())])
+        series = [page_rules.told(one) for one in list(self.server.program.catalog.values())]
+        self.send_json(200, series, **{page_rules.OFFERS: "sum follow"})
 
     def send_events(self, number):
-        """A stream of events, which holds a session: `changed` with the series that changed, `ended` with how the program ended,
-        and `closed` where the session had to give way."""
+        """A stream of events, which holds a session: `pushed` with a frame of it, `changed` with the series that changed, `ended` with how
+        the program ended, and `closed` where the session is over, and whether it had to give way."""
         session = self.server.sessions.attach(number)
         if session is None:
             return self.refuse(404, "the session isn't open")
@@ -178,6 +185,8 @@ class Handler(http.server.BaseHTTPRequestHandler):
                 return self.event("closed", session.gave_way)
             self.wfile.flush()
             session.seen, series = changes.since(session.seen, 1)
+            while session.pushes:
+                self.event("pushed", base64.b64encode(session.pushes.popleft()).decode())
             if series:
                 self.event("changed", [page_rules.told(one) for one in series])
                 time.sleep(REST)
