@@ -59,7 +59,14 @@ class Viewer:
 
     def pictures(self, *views):
         """The pictures of views, as raw PBMs."""
-        answers = self.request(*(f"view {self.number} {words}" for words in views))
+        return self.drawn("view", views)
+
+    def sums(self, *sums):
+        """The pictures of sums of two series, as raw PBMs; or what they are refused."""
+        return self.drawn("sum", sums)
+
+    def drawn(self, word, lines):
+        answers = self.request(*(f"{word} {self.number} {words}" for words in lines))
         told = [pair for kind, pair in answers if kind not in (frames.OPENED, frames.CLOSED)]
         return [picture.to_pbm() if picture else frame for frame, picture in told]
 
@@ -104,6 +111,11 @@ def names_in(path):
     """The names of the series in a file that no run holds."""
     listed = subprocess.run([PROGRAM, path, "list"], stdout=subprocess.PIPE, check=True).stdout
     return {row.split()[0] for row in listed.decode().splitlines()}
+
+
+def derived(path, sums):
+    """What `derive` draws of each of some sums, of the store in a file that no run holds."""
+    return [subprocess.run([PROGRAM, path, "derive"], input=words.encode(), stdout=subprocess.PIPE, check=True).stdout for words in sums]
 
 
 def drawn(path, views):

@@ -10,7 +10,7 @@ import threading
 import unittest
 
 from gateway_server import OverAGateway, T, require_all
-from page_viewer import Denied, Viewer, drawn, names_in, slots_of
+from page_viewer import Denied, Viewer, derived, drawn, names_in, slots_of
 
 require_all()
 
@@ -137,6 +137,38 @@ class Crowd(Viewed):
         self.assertEqual(self.gateway.metrics()["zurtkvani_gateway_page_viewers"], 20)
 
 
+class Sums(Viewed):
+    SUMS = [
+        f"sea_v tide_v 1 -1 150 60 {T} {T + SLOTS} auto", f"tide_v wind_v 3 2 200 40 {T + 500} {T + 900} -9999..9999",
+        f"sea_v sea_v -2 1 90 30 {T} {T + SLOTS} auto",
+    ]
+
+    def require_exact_sums(self, viewers):
+        """Has all viewers draw sums and views by turns, and compares each picture."""
+        with tempfile.NamedTemporaryFile() as copy:
+            shutil.copyfile(os.path.join(self.gateway.stores, "gateway.store"), copy.name)
+            wanted = derived(copy.name, self.SUMS)
+        at_once([lambda viewer=viewer: self.assertEqual(viewer.sums(*self.SUMS), wanted) for viewer in viewers])
+        self.require_exact(viewers, views_of)
+        at_once([lambda viewer=viewer: self.assertEqual(viewer.sums(*self.SUMS), wanted) for viewer in viewers])
+
+    def test_twenty_viewers_draw_sums_as_derive_does(self):
+        self.assertEqual(self.gateway.ask("/catalog", b"")[2][page_rules.OFFERS], "sum")
+        viewers = self.viewers(20)
+        self.require_exact_sums(viewers)
+        # An edit of the second series alone changes a sum, too.
+        self.require_written(lines_of("tide", 500, 300, self.chance))
+        self.require_exact_sums(viewers)
+
+    def test_a_sum_that_there_isnt_is_refused(self):
+        (viewer,) = self.viewers(1)
+        window = f"9 9 {T} {T + 9} auto"
+        self.assertEqual(viewer.sums(f"sea_v none 1 1 {window}", f"sea_v tide_v 1 1 9 9 {T} {T} auto"), [frames.Refused(8, 0, 0), frames.Refused(17, 0, 0)])
+        for words in (f"sea_v tide_v 1 1 {window} where v > 1", f"sea_v 1 1 {window}", f"../x sea_v 1 1 {window}"):
+            with self.assertRaises(Denied):
+                viewer.sums(words)
+
+
 class Pushes(Viewed):
     def require_told(self, viewers, words, turn):
         """One value more is told to all viewers, and they draw it."""
@@ -198,6 +230,11 @@ class Stores(Viewed):
             self.require_exact(viewers, views_of)
             self.require_written(lines_of("sea", 100, 50, self.chance) + "\n" + lines_of("wind", 100, 50, self.chance))
         self.require_exact(viewers, lambda at: views_of(at + 1))
+        # A sum is of series that one store has.
+        window = f"9 9 {T} {T + 9} auto"
+        pairs = [f"{one} {other} 1 1 {window}" for one in ("sea_v", "tide_v", "wind_v") for other in ("sea_v", "tide_v", "wind_v")]
+        refused = sum(answer == frames.Refused(8, 0, 0) for answer in viewers[0].sums(*pairs))
+        self.assertEqual(refused, 4)
 
 
 class Let(Viewed):

@@ -237,7 +237,7 @@ class Broken(unittest.TestCase):
 
     def test_a_run_that_ends_at_once_isnt_started_for_ever(self):
         with tempfile.TemporaryDirectory() as folder:
-            gateway = Gateway(folder, {}, SECOND, program=script(folder, '[ "$2" != serve ] || exit 3\nexec PROGRAM "$@"')).start()
+            gateway = Gateway(folder, {}, SECOND, program=script(folder, '[ "$2" != host ] || exit 3\nexec PROGRAM "$@"')).start()
             try:
                 self.assertIn(b"ended at once", gateway.ask("/healthz")[1])
                 self.assertEqual(gateway.write(f"w v=1 {T}")[0], 503)

@@ -10,7 +10,7 @@ from . import bodies, child
 from .labels import text_of
 from .viewers import Full
 
-TAKEN = (b"open", b"close", b"view")
+TAKEN = (b"open", b"close", b"view", b"sum")
 MOST_ALARMS = 100  # that a page shows
 MOST_PUSHES = 200  # a second, of all pages; what changes faster is told together
 
@@ -83,7 +83,7 @@ async def lines(gateway, request):
             await send(gateway, response, frames)
         return response
     except PermissionError:
-        raise Refusal(403, "only open, close and view are taken") from None
+        raise Refusal(403, "only open, close, view and sum are taken") from None
     except ValueError as why:
         raise Refusal(400, str(why)) from None
     except (Full, child.Down, TimeoutError) as why:
@@ -109,7 +109,7 @@ async def send(gateway, response, data):
 
 @refusing
 async def catalog(gateway, _request):
-    return web.json_response([told(known) for known in gateway.stores.inner.values()])
+    return web.json_response([told(known) for known in gateway.stores.inner.values()], headers={page_rules.OFFERS: "sum"})
 
 
 def told(known):

@@ -19,7 +19,7 @@ STOP_SECONDS = 60  # for requests that are under way when the gateway ends
 
 
 async def metrics_of(gateway, _request):
-    return web.Response(text=metrics.text(gateway), headers={"Content-Type": "text/plain; version=0.0.4; charset=utf-8"})
+    return web.Response(text=await metrics.text(gateway), headers={"Content-Type": "text/plain; version=0.0.4; charset=utf-8"})
 
 
 async def health(gateway, _request):

@@ -67,11 +67,11 @@ class Sessions:
             return frames[-1:] if is_open else frames[-2:]
         raise child.Down("the store's runs end before they answer")
 
-    async def whole(self, cache, words):
-        """The frames of a view for whoever has a client that keeps so many coefficients: those of a session that is opened for it and closed behind
+    async def whole(self, cache, word, words):
+        """The frames of a view or a sum for whoever has a client that keeps so many coefficients: those of a session that is opened for it and closed behind
         it. A refusal stands alone."""
         for at in range(MOST_LOST):
-            frames = await self.asked([b"open %d %d" % (WHOLE, cache), b"view %d %b" % (WHOLE, words), b"close %d" % WHOLE], at)
+            frames = await self.asked([b"open %d %d" % (WHOLE, cache), b"%b %d %b" % (word, WHOLE, words), b"close %d" % WHOLE], at)
             if frames is not None:
                 return [frames[1]] if refusal_in(frames[1]) else frames
         raise child.Down("the store's runs end before they answer")

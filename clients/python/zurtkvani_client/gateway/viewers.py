@@ -18,8 +18,11 @@ MOST_SHARED = 2**25  # bytes of frames that are kept to be shared
 # What a page sends: the number of its session, and what stands behind it.
 LINE = re.compile(
     rb"(?:open ([1-9][0-9]{0,9}) ([1-9][0-9]{0,5})|close ([1-9][0-9]{0,9})"
-    rb"|view ([1-9][0-9]{0,9}) ([A-Za-z0-9_.-]{1,31}( [0-9]{1,4}){2}( -?[0-9]{1,19}){2} (auto|-?[0-9]{1,19}[.]{2}-?[0-9]{1,19})( where [^\n]*)?))\r?"
+    rb"|view (?P<viewer>[1-9][0-9]{0,9}) (?P<view>NAME WINDOW( where [^\n]*)?)"
+    rb"|sum (?P<summer>[1-9][0-9]{0,9}) (?P<sum>NAME NAME( -?[0-9]{1,19}){2} WINDOW))\r?".replace(b"NAME", b"[A-Za-z0-9_.-]{1,31}")
+    .replace(b"WINDOW", b"[0-9]{1,4} [0-9]{1,4}( -?[0-9]{1,19}){2} (?:auto|-?[0-9]{1,19}[.]{2}-?[0-9]{1,19})")
 )
+UNKNOWN_SERIES = 8  # the number of a refusal
 
 
 class Full(Exception):
@@ -43,7 +46,7 @@ class Viewer:
 
 
 class Shared:
-    """What is sent of a view to several viewers: as of so many changes of its series, and of a run."""
+    """What is sent of a view to several viewers: as of so many changes of each of its series, and of a run."""
 
     def __init__(self, count, run, work):
         self.count, self.run, self.task = count, run, asyncio.ensure_future(work)
@@ -80,8 +83,9 @@ class Viewers:
         such a line, Full, child.Down and TimeoutError."""
         found = LINE.fullmatch(line)
         if not found:
-            raise ValueError("a line opens or closes a session, or is a view, as the page sends them")
-        opened, cache, closed, number, words, *_ = found.groups()
+            raise ValueError("a line opens or closes a session, or is a view or a sum, as the page sends them")
+        opened, cache, closed = found.groups()[:3]
+        number, words, drawn = (found["viewer"], found["view"], self.view) if found["view"] else (found["summer"], found["sum"], self.sum)
         if opened:
             return [self.opened(int(opened), int(cache))]
         if closed:
@@ -92,7 +96,7 @@ class Viewers:
         viewer.asked = time.monotonic()
         async with viewer.turn:
             try:
-                return await self.view(viewer, words)
+                return await drawn(viewer, words)
             finally:
                 if viewer.is_over:
                     self.close(viewer)
@@ -117,7 +121,17 @@ class Viewers:
         sessions = self.sessions_of(known.keeper if known else self.stores.keepers[0])
         frames, way = await sessions.view(viewer, words), "own"
         if frames is None:
-            frames, way = await self.whole(sessions, known, viewer.cache, words)
+            frames, way = await self.whole(sessions, [known], viewer.cache, b"view", words)
+        self.counts.add("page_views_total", way=way)
+        return frames
+
+    async def sum(self, viewer, words):
+        """The frames of a sum of two series, which is sent whole: it leaves what a client keeps as it is. Both are of one store."""
+        pair = [self.stores.inner.get(name.decode()) for name in words.split(b" ", 2)[:2]]
+        keepers = {known.keeper for known in pair if known}
+        if None in pair or len(keepers) > 1:
+            return [refusal(UNKNOWN_SERIES)]
+        frames, way = await self.whole(self.sessions_of(keepers.pop()), pair, viewer.cache, b"sum", words)
         self.counts.add("page_views_total", way=way)
         return frames
 
@@ -126,13 +140,13 @@ class Viewers:
             self.sessions[keeper] = Sessions(keeper, self.read.seconds / 10**9)
         return self.sessions[keeper]
 
-    async def whole(self, sessions, known, cache, words):
-        """The frames of a view for whoever has no session of its own, and whether they were asked for or are another viewer's, too."""
-        key, way = (sessions, cache, words), "shared"
-        run, count = await sessions.standing(), self.news.of(known.name) if known else 0
+    async def whole(self, sessions, series, cache, word, words):
+        """The frames of a view or a sum for whoever has no session of its own, and whether they were asked for or are another viewer's, too."""
+        key, way = (sessions, cache, word, words), "shared"
+        run, count = await sessions.standing(), [self.news.of(known.name) for known in series if known]
         shared = self.shared.pop(key, None)
         if shared is None or (shared.run, shared.count) != (run, count):
-            shared, way = Shared(count, run, sessions.whole(cache, words)), "whole"
+            shared, way = Shared(count, run, sessions.whole(cache, word, words)), "whole"
         self.shared[key] = shared
         try:
             return await asyncio.shield(shared.task), way
