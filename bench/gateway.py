@@ -145,7 +145,7 @@ def gateway(folder, stores=1):
     # No limit that a benchmark reaches.
     sections = {"read": 'most_values = 100000000\nseconds = "600s"', "limits": "client_requests_a_second = 1000000"}
     if stores > 1:
-        sections["stores"] = f"files = {json.dumps([f'{at}.store' for at in range(stores)])}"
+        sections["stores"] = f"files = {json.dumps([f'{at}.store' for at in range(stores)])}\nmost = {stores}"
         os.mkdir(folder := os.path.join(folder, f"over{stores}"))
     one = Gateway(folder, sections, SERIES, size="2G").start()
     try:

@@ -18,6 +18,7 @@ from ..store import Series
 from .log import tell
 
 MOST_FRAME = 4_194_304  # bytes behind a frame's length
+READ = 2**18  # bytes that are read at once
 DONE_BYTES = 4 + frames.LENGTHS[frames.DONE][0]
 SESSION = 1  # the one session of a run; its views have a filter, so its client keeps nothing
 OPEN = b"open %d 1" % SESSION
@@ -49,7 +50,7 @@ class Run:
 
     def __init__(self, child, path):
         self.child, self.path, self.said = child, path, None
-        self.answered = 0  # lines
+        self.answered, self.came = 0, b""  # lines; and what came and isn't a whole frame yet
         self.listening = asyncio.create_task(self._listen())
 
     @classmethod
@@ -81,7 +82,7 @@ class Run:
             answers = await asyncio.wait_for(self._answers(lines), MOST_SECONDS)
             self.answered += len(lines)
             return answers
-        except (asyncio.IncompleteReadError, asyncio.TimeoutError, ConnectionError) as why:
+        except (asyncio.TimeoutError, ConnectionError) as why:
             with contextlib.suppress(ProcessLookupError):
                 self.child.kill()
             raise Lost(str(why) or f"no answer within {MOST_SECONDS} s") from None
@@ -89,14 +90,32 @@ class Run:
     async def _answers(self, lines):
         self.child.stdin.write(b"\n".join(lines) + b"\n")
         await self.child.stdin.drain()
-        return [await self._frame() for _ in lines]
+        answers = []
+        while True:
+            at, came, wanted = 0, self.came, 4
+            while len(answers) < len(lines) and len(came) - at >= 4:
+                wanted = 4 + int.from_bytes(came[at : at + 4], "big")
+                if wanted > 4 + MOST_FRAME:
+                    raise ConnectionError("the program sends no frames")
+                if len(came) - at < wanted:
+                    break
+                answers.append(came[at : at + wanted])
+                at, wanted = at + wanted, 4
+            self.came = came[at:]
+            if len(answers) == len(lines):
+                return answers
+            self.came += await self._more(wanted - len(self.came))
 
-    async def _frame(self):
-        head = await self.child.stdout.readexactly(4)
-        (length,) = struct.unpack(">I", head)
-        if length > MOST_FRAME:
-            raise ConnectionError("the program sends no frames")
-        return head + await self.child.stdout.readexactly(length)
+    async def _more(self, least):
+        """What comes next, so many bytes at least."""
+        parts = []
+        while least > 0:
+            part = await self.child.stdout.read(READ)
+            if not part:
+                raise ConnectionError("the run has ended")
+            parts.append(part)
+            least -= len(part)
+        return b"".join(parts)
 
     async def end(self):
         """How it ended, once it has."""
