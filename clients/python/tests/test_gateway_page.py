@@ -184,6 +184,9 @@ class Pushes(Viewed):
         self.require_exact(viewers, lambda _: [words])
         for turn in range(4):
             self.require_told(viewers, words, turn)
+        metrics = self.gateway.metrics()
+        self.assertGreaterEqual(metrics["zurtkvani_gateway_pushes_total"], 4 * 40)
+        self.assertGreater(metrics["zurtkvani_gateway_push_seconds_total"], 0)
 
     def test_a_killed_run_is_started_again_and_viewers_go_on(self):
         viewers, words = self.viewers(20), f"sea_v 200 60 {T} {T + 2 * SLOTS} auto"

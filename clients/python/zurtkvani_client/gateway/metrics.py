@@ -19,6 +19,8 @@ HELP = {
     "request_seconds_total": "Time of these requests",
     "views_total": "Views that were asked of stores",
     "page_views_total": "Views that pages were answered: by a session of their own, whole, or as another page",
+    "pushes_total": "Changes that pages were told, together where they came together",
+    "push_seconds_total": "Time from a change to when a page was sent it, of these",
     "made_series_total": "Series that the gateway made",
     "alarms_total": "Alarms that began and that ended",
     "untold_alarms_total": "Alarms that were given up, and not told",

@@ -146,7 +146,9 @@ async def send_changes(gateway, request, response, viewer):
         if alarms.changes != shown:
             shown, listed = alarms.changes, alarms.listed()
             await send(gateway, response, page_rules.event("alarms", {"alarms": listed[:MOST_ALARMS], "count": len(listed)}))
-        viewer.seen, series = await news.since(viewer.seen, 1)
+        viewer.seen, series = await news.since(viewer.seen, page_rules.BEAT)
         if series:
             await send(gateway, response, page_rules.event("changed", [told(known) for known in series]))
+            gateway.counts.add("pushes_total")
+            gateway.counts.add("push_seconds_total", news.age(series))
             await asyncio.sleep(max(page_rules.REST, len(gateway.viewers.held) / MOST_PUSHES))

@@ -193,6 +193,7 @@ async def serve(given):
         await ended.wait()
         tell("the gateway ends")
         gateway.is_ending.set()
+        gateway.news.wake()
     finally:
         await runner.cleanup()
         await gateway.stop()

@@ -174,6 +174,7 @@ class Viewers:
         viewer = self.held.pop(number, None)
         if viewer:
             viewer.is_over = True
+            self.news.wake()
             self.close(viewer)
         return viewer is not None
 
