@@ -187,6 +187,21 @@ class Broken(unittest.TestCase):
             finally:
                 gateway.close()
 
+    def test_a_file_that_is_too_small_is_told_and_not_tried_again(self):
+        with tempfile.TemporaryDirectory() as folder:
+            gateway = Gateway(folder, {}, SECOND)
+            os.mkdir(gateway.stores)
+            with open(os.path.join(gateway.stores, "gateway.store"), "wb") as file:
+                file.truncate(100 * 4096)
+            try:
+                gateway.start()
+                self.assertIn(b"status 12", gateway.ask("/healthz")[1])
+                self.assertEqual(gateway.write(f"w v=1 {T}")[0], 503)
+                self.assertEqual(len(gateway.events("a run ended")), 1)
+                self.assertEqual(gateway.stop(), 0)
+            finally:
+                gateway.close()
+
     def test_a_write_that_the_system_refuses_loses_nothing_that_was_answered(self):
         with tempfile.TemporaryDirectory() as folder:
             # as ./chart does, so that it is a write that fails, and no signal
