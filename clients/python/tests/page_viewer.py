@@ -1,4 +1,5 @@
 """A viewer of the page behind a gateway, without a browser: it asks as the page does, and draws by the client in frames.py."""
+import base64
 import contextlib
 import http.client
 import io
@@ -83,17 +84,34 @@ class Viewer:
         """The series that the next change tells, each with its slots."""
         return {one["name"]: one["slots"] for one in self.told("changed")}
 
-    def told(self, name):
-        """What the next event of a name tells; others are passed over."""
-        event = None
+    def follow(self, word="follow"):
+        """The frame by which its last view is followed, or not any more."""
+        ((_, (frame, _)),) = self.request(f"{word} {self.number}")
+        return frame
+
+    def pushed(self):
+        """The picture of the next frame that is pushed, as a raw PBM."""
+        fields = frames.Fields(io.BytesIO(base64.b64decode(self.told("pushed"))))
+        return frames.accept(fields, self.sessions)[1].to_pbm()
+
+    def event(self):
+        """The next event: its name, and what it tells."""
+        name = None
         while True:
             line = self.answer.readline()
             if not line:
                 raise Denied("the stream has ended")
             if line.startswith(b"event: "):
-                event = line[7:].strip().decode()
-            if line.startswith(b"data: ") and event == name:
-                return json.loads(line[6:])
+                name = line[7:].strip().decode()
+            if line.startswith(b"data: ") and name:
+                return name, json.loads(line[6:])
+
+    def told(self, name):
+        """What the next event of a name tells; others are passed over."""
+        while True:
+            event, value = self.event()
+            if event == name:
+                return value
 
     def hang_up(self):
         if self.stream:

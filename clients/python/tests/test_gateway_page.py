@@ -84,6 +84,15 @@ class Viewed(OverAGateway):
             for words, picture in zip(some, pictures[at], strict=True):
                 self.assertEqual(picture, wanted[words], f"viewer {at}: {words}")
 
+    def require_no_push(self, viewer, series, turn):
+        """A change of a series is told, and nothing is pushed."""
+        self.require_written(f"{series} v={turn} {T + SLOTS + turn}")
+        told, name, slots = [], f"{series}_v", slots_of(viewer, f"{series}_v")
+        while (name, slots) not in told:
+            event, value = viewer.event()
+            self.assertNotEqual(event, "pushed", value)
+            told += [(one["name"], one["slots"]) for one in value] if event == "changed" else []
+
     def ways(self):
         """How many views were answered by each way."""
         text = 'zurtkvani_gateway_page_views_total{way="'
@@ -153,7 +162,7 @@ class Sums(Viewed):
         at_once([lambda viewer=viewer: self.assertEqual(viewer.sums(*self.SUMS), wanted) for viewer in viewers])
 
     def test_twenty_viewers_draw_sums_as_derive_does(self):
-        self.assertEqual(self.gateway.ask("/catalog", b"")[2][page_rules.OFFERS], "sum")
+        self.assertEqual(self.gateway.ask("/catalog", b"")[2][page_rules.OFFERS], "sum follow")
         viewers = self.viewers(20)
         self.require_exact_sums(viewers)
         # An edit of the second series alone changes a sum, too.
@@ -187,6 +196,44 @@ class Pushes(Viewed):
         metrics = self.gateway.metrics()
         self.assertGreaterEqual(metrics["zurtkvani_gateway_pushes_total"], 4 * 40)
         self.assertGreater(metrics["zurtkvani_gateway_push_seconds_total"], 0)
+
+    def test_what_is_followed_is_pushed(self):
+        viewers, words = self.viewers(16), f"sea_v 200 60 {T} {T + 2 * SLOTS} auto"
+        self.assertEqual(viewers[0].follow(), frames.Refused(16, 0, 0))
+        self.require_exact(viewers, lambda _: [words])
+        # Those who have a session of their own may follow their views.
+        told = [viewer.follow() for viewer in viewers]
+        followers = [viewer for viewer, frame in zip(viewers, told) if isinstance(frame, frames.Live) and frame.on]
+        self.assertEqual((len(followers), told.count(frames.Refused(16, 0, 0))), (14, 2))
+        for turn in range(3):
+            self.require_written("\n".join(f"sea v={turn * 300 + at} {T + SLOTS + 90 * turn + at}" for at in range(70)))
+            wanted = self.drawn([words])[words]
+            for viewer in followers:
+                while viewer.pushed() != wanted:
+                    pass
+        self.require_exact(viewers, lambda _: [words])
+        # Another view ends it, and so does a line.
+        one, other = followers[:2]
+        for viewer in (one, other):
+            while viewer.event()[0] != "changed":
+                pass
+        self.assertEqual(one.follow().on, True)
+        self.assertEqual(one.follow("unfollow").on, False)
+        self.require_no_push(one, "sea", 1000)
+        self.require_no_push(other, "sea", 1001)
+        self.assertEqual(self.gateway.metrics()['zurtkvani_gateway_store_up{store="gateway.store"}'], 1)
+
+    def test_a_killed_run_pushes_no_more_until_it_is_followed_anew(self):
+        (viewer,), words = self.viewers(1), f"sea_v 200 60 {T} {T + 2 * SLOTS} auto"
+        for turn in range(2):
+            self.require_exact([viewer], lambda _: [words])
+            self.assertTrue(viewer.follow().on)
+            self.require_written(f"sea v={turn} {T + SLOTS + 2 * turn}")
+            self.assertEqual(viewer.pushed(), self.drawn([words])[words])
+            while viewer.event()[0] != "changed":
+                pass
+            self.gateway.kill_runs()
+            self.require_no_push(viewer, "sea", 2 * turn + 1)
 
     def test_a_killed_run_is_started_again_and_viewers_go_on(self):
         viewers, words = self.viewers(20), f"sea_v 200 60 {T} {T + 2 * SLOTS} auto"
@@ -233,6 +280,12 @@ class Stores(Viewed):
             self.require_exact(viewers, views_of)
             self.require_written(lines_of("sea", 100, 50, self.chance) + "\n" + lines_of("wind", 100, 50, self.chance))
         self.require_exact(viewers, lambda at: views_of(at + 1))
+        # What is followed in one store isn't any more behind a view of another one.
+        for turn, name in enumerate(("tide_v", "wind_v")):
+            viewers[0].pictures(f"sea_v 200 60 {T} {T + 2 * SLOTS} auto")
+            self.assertTrue(viewers[0].follow().on)
+            viewers[0].pictures(f"{name} 200 60 {T} {T + 2 * SLOTS} auto")
+            self.require_no_push(viewers[0], "sea", turn)
         # A sum is of series that one store has.
         window = f"9 9 {T} {T + 9} auto"
         pairs = [f"{one} {other} 1 1 {window}" for one in ("sea_v", "tide_v", "wind_v") for other in ("sea_v", "tide_v", "wind_v")]

@@ -13,6 +13,7 @@ import struct
 import time
 
 from .. import client, frames
+from ..page_rules import EDITS
 from ..run import IN_FLIGHT, Ended, Refused, end_of
 from ..store import Series
 from .log import tell
@@ -24,6 +25,8 @@ SESSION = 1  # the one session of a run; its views have a filter, so its client 
 OPEN = b"open %d 1" % SESSION
 LIST = b"list"
 COMMAND = "host"
+CHANGING = (*EDITS, b"sweep")  # the words of lines behind which sessions are pushed what they follow
+NO_LINE = b"?"  # it is refused, behind all frames that the lines before it push
 MOST_SECONDS = 120  # of a turn
 FIRST_DELAY, MOST_DELAY = 0.1, 10.0  # seconds until a run that ended is started again
 PAUSE = 0.05  # seconds between two looks whether a store is released
@@ -51,6 +54,7 @@ class Run:
     def __init__(self, child, path):
         self.child, self.path, self.said = child, path, None
         self.answered, self.came = 0, b""  # lines; and what came and isn't a whole frame yet
+        self.may_push, self.on_push = False, None  # whether a session was ever followed, and who is handed what one is pushed
         self.listening = asyncio.create_task(self._listen())
 
     @classmethod
@@ -88,12 +92,28 @@ class Run:
             raise Lost(str(why) or f"no answer within {MOST_SECONDS} s") from None
 
     async def _answers(self, lines):
-        self.child.stdin.write(b"\n".join(lines) + b"\n")
+        words = {line.partition(b" ")[0] for line in lines}
+        self.may_push = self.may_push or b"follow" in words
+        pushes = self.may_push and not words.isdisjoint(CHANGING)
+        self.child.stdin.write(b"\n".join([*lines, NO_LINE] if pushes else lines) + b"\n")
         await self.child.stdin.drain()
+        if not pushes:
+            return await self._frames(len(lines))
+        answers = []
+        while len(answers) <= len(lines):
+            for frame in await self._frames(len(lines) + 1 - len(answers)):
+                if frame[4] in (frames.VIEW, frames.ROWS):
+                    self.on_push(frame)
+                else:
+                    answers.append(frame)
+        return answers[:-1]
+
+    async def _frames(self, count):
+        """The next frames, so many."""
         answers = []
         while True:
             at, came, wanted = 0, self.came, 4
-            while len(answers) < len(lines) and len(came) - at >= 4:
+            while len(answers) < count and len(came) - at >= 4:
                 wanted = 4 + int.from_bytes(came[at : at + 4], "big")
                 if wanted > 4 + MOST_FRAME:
                     raise ConnectionError("the program sends no frames")
@@ -102,7 +122,7 @@ class Run:
                 answers.append(came[at : at + wanted])
                 at, wanted = at + wanted, 4
             self.came = came[at:]
-            if len(answers) == len(lines):
+            if len(answers) == count:
                 return answers
             self.came += await self._more(wanted - len(self.came))
 
@@ -140,6 +160,7 @@ class Keeper:
         self.program, self.path = program, path
         self.run, self.down, self.restarts = None, None, 0
         self.series, self.on_listed = None, None  # what the store had when its last run began, and who is told
+        self.on_push = None  # who is handed each frame that a session is pushed
         self.opened = None  # the frame that opened the session
         self.has_worked = False  # whether the last run answered what it was asked
         self.free, self.is_up, self.is_stopping = asyncio.Lock(), asyncio.Event(), False
@@ -233,6 +254,7 @@ class Keeper:
         except OSError as why:
             return not_started(why, self.path)
         self.run, self.opened, self.series = run, run.opened, run.series
+        run.on_push = self.on_push
         self.on_listed(self)
         self.is_up.set()
         tell("a run stands", path=self.path, process=run.child.pid, series=len(self.series))
