@@ -24,14 +24,13 @@ HEADERS = {
 }
 FRAMES, EVENTS = "application/octet-stream", "text/event-stream"
 TOKEN = "X-Chart-Token"  # the header with the page's token
-OFFERS = "X-Chart-Offers"  # that of the catalog with what else than views the server answers, of "sum" and "follow"
-PUSHED = "X-Chart-Pushed"  # and that of an answer with how many frames its session had been pushed before it
+OFFERS = "X-Chart-Offers"  # and that of the catalog with what else than views the server answers: "sum", or nothing
 
 LONGEST = 8192  # bytes of a line
 MOST_LINES = 64  # of a request: the edits that a run stores together
 MOST_BYTES = 65536  # of a body
 EDITS = (b"create", b"append", b"set", b"clear")
-OF_SESSION = (b"open", b"close", b"view", b"zoom", b"pan", b"sum", b"follow", b"unfollow")
+OF_SESSION = (b"open", b"close", b"view", b"zoom", b"pan", b"sum")
 UNKNOWN_SESSION, SESSION_OPEN, TOO_MANY = 4, 5, 6  # numbers of refusals
 GONE = 30  # seconds from the last request until a session that no page holds is closed
 IDLE = {False: 5, True: 60}  # seconds without a request from which a session gives way, by whether a page holds it

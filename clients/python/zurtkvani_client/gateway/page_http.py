@@ -11,6 +11,7 @@ from . import bodies, child
 from .labels import text_of
 from .viewers import Full
 
+PUSHED = "X-Chart-Pushed"  # the header of an answer with how many frames its session had been pushed before it
 TAKEN = (b"open", b"close", b"view", b"sum", b"follow", b"unfollow")
 MOST_ALARMS = 100  # that a page shows
 MOST_PUSHES = 200  # a second, of all pages; what changes faster is told together
@@ -80,7 +81,7 @@ async def lines(gateway, request):
         for line in wanted:
             frames = b"".join(await gateway.viewers.answer(line))
             if response is None:
-                response = await begun(request, page_rules.FRAMES, **{page_rules.PUSHED: str(gateway.viewers.pushed_to(wanted[0]))})
+                response = await begun(request, page_rules.FRAMES, **{PUSHED: str(gateway.viewers.pushed_to(wanted[0]))})
             await send(gateway, response, frames)
         return response
     except PermissionError:

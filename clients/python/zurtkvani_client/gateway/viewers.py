@@ -10,7 +10,7 @@ import re
 import struct
 import time
 
-from ..page_rules import CLOSED, GONE, OPENED, REFUSED, SESSION_OPEN, SWEEP, UNKNOWN_SESSION, number_in, refusal_in
+from ..page_rules import CLOSED, GONE, OPENED, REFUSED, SESSION_OPEN, SWEEP, UNKNOWN_SESSION, refusal_in
 from .sessions import FIRST_OWN, Sessions
 
 MOST_CACHE = 131_072
@@ -155,7 +155,8 @@ class Viewers:
 
     def pushed_to(self, line):
         """How many frames were pushed to the session of a line."""
-        viewer = self.held.get(int(number_in(line) or 0))
+        number = line.split()[1]
+        viewer = self.held.get(int(number)) if number.isdigit() else None
         return viewer.pushed if viewer else 0
 
     async def sum(self, viewer, words):
