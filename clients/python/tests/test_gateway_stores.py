@@ -46,12 +46,16 @@ class Backups(OverAGateway):
             self.assertEqual(backup.main(self.gateway.path, ""), 0)
         self.assertIn("gateway.store", told.getvalue())
         self.require_written(f"w,n=0 v=1 {T + 5000}")
+        metrics = self.gateway.metrics()
         (name,) = os.listdir(self.backups)
         copy = os.path.join(self.backups, name)
         self.assertEqual(sorted(os.listdir(copy)), ["gateway.store", "names.json"])
         self.assertEqual(Store(os.path.join(copy, "gateway.store"), program=PROGRAM).check().values, 3000)
         self.assertEqual(self.gateway.stop(), 0)
-        self.assertEqual(Store(os.path.join(self.gateway.stores, "gateway.store"), program=PROGRAM).check().values, 3001)
+        checked = Store(os.path.join(self.gateway.stores, "gateway.store"), program=PROGRAM).check()
+        self.assertEqual(checked.values, 3001)
+        told = [metrics[f'zurtkvani_gateway_store_pages_{of}{{store="gateway.store"}}'] for of in ("used", "left")]
+        self.assertEqual(told, [checked.used, checked.pages - checked.used])
 
 
     def test_a_backup_under_load_has_what_was_answered_before(self):
