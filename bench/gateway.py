@@ -55,9 +55,9 @@ def of_a_point_each(client, at):
     return "".join(f"o,host=h{client},part=p{n} v={NUMBERS[(at * 7 + n) % len(NUMBERS)]} {T + at}\n" for n in range(SMALL))
 
 
-QUERIED = 10**6  # slots of the series whose ranges are asked for, a second each
-BLOCKS = 16384  # of a store that has room for it
-STEPS, ASKS, SECONDS = 1000, 100, 20  # of a range; queries of a kind; until no further one is asked
+QUERIED = 10**7  # slots of the series whose ranges are asked for, a second each
+BLOCKS = 131072  # of a store that has room for it
+STEPS, ASKS, SECONDS = 1000, 100, 20  # of a range; queries of a kind; and the seconds from which a server is asked no further one of it
 KINDS = {
     "5,000 points of one series": (of_one_series, BATCH, POINTS), "5,000 points of 100 series": (of_a_hundred, BATCH, POINTS),
     "a point each of 100 series": (of_a_point_each, SMALL, SMALL_POINTS),
@@ -145,7 +145,7 @@ def gateway(folder, stores=1):
     # No limit that a benchmark reaches.
     sections = {"read": 'most_values = 100000000\nseconds = "600s"', "limits": "client_requests_a_second = 1000000"}
     if stores > 1:
-        sections["stores"] = f"files = {json.dumps([f'{at}.store' for at in range(stores)])}"
+        sections["stores"] = f"files = {json.dumps([f'{at}.store' for at in range(stores)])}\nmost = {stores}"
         os.mkdir(folder := os.path.join(folder, f"over{stores}"))
     one = Gateway(folder, sections, SERIES, size="2G").start()
     try:
@@ -192,9 +192,9 @@ def measure_writes(servers):
     print(f"points a second, and processor's microseconds a point: least, middle and greatest of {ROUNDS} rounds; load {os.getloadavg()[0]:.1f}")
     for (name, kind, clients), rows in found.items():
         rates, taken = ([min(column), statistics.median(column), max(column)] for column in zip(*rows))
-        print(f"{name:8} {kind:28} {clients} {' '.join(f'{rate:9,.0f}' for rate in rates)}   {' '.join(f'{one:8.2f}' for one in taken)}")
+        print(f"{name:9} {kind:28} {clients} {' '.join(f'{rate:9,.0f}' for rate in rates)}   {' '.join(f'{one:8.2f}' for one in taken)}")
     for name, (_, pid) in servers.items():
-        print(f"{name:8} {peak(pid):8.0f} MiB at most")
+        print(f"{name:9} {peak(pid):8.0f} MiB at most")
 
 
 def make_blocks(values):
@@ -244,12 +244,12 @@ def measure_queries(servers):
     print(f"milliseconds of the greatest of {STEPS} steps over {QUERIED:,} points: middle, 99th of 100, and how many; load {os.getloadavg()[0]:.1f}")
     for share in (100, 10, 1):
         step = QUERIED // share // STEPS
-        taken, draw, ends = {name: [] for name in servers}, random.Random(share), time.monotonic() + SECONDS
-        while time.monotonic() < ends and min(map(len, taken.values())) < ASKS:
+        taken, draw = {name: [] for name in servers}, random.Random(share)
+        while asked_now := {name: one for name, one in servers.items() if len(taken[name]) < ASKS and sum(taken[name]) < SECONDS}:
             begin = (T // step + 1 + draw.randrange(max(1, (QUERIED - STEPS * step) // step))) * step if share > 1 else T // step * step + step
             count = STEPS if share > 1 else STEPS - 1
             answers = {}
-            for name, (port, _, greatest) in servers.items():
+            for name, (port, _, greatest) in asked_now.items():
                 begun = time.perf_counter()
                 answers[name] = greatest(port, begin, step)[:count]
                 taken[name].append(time.perf_counter() - begun)
@@ -301,7 +301,7 @@ def measure_gateway():
         return
     folder = os.getcwd()
     with contextlib.ExitStack() as stack:
-        servers = {"gateway": stack.enter_context(gateway(folder)), "4 stores": stack.enter_context(gateway(folder, 4))}
+        servers = {"gateway": stack.enter_context(gateway(folder)), **{f"{count} stores": stack.enter_context(gateway(folder, count)) for count in (4, 16)}}
         if shutil.which("influxd"):
             servers["influxd"] = stack.enter_context(influxd(folder, free_port))
         measure_writes(servers)

@@ -125,7 +125,7 @@ class Gateway:
     def is_run(self, number):
         with contextlib.suppress(OSError), open(f"/proc/{number}/stat", "rb") as stat, open(f"/proc/{number}/cmdline", "rb") as words:
             state, parent = stat.read().rsplit(b")", 1)[1].split()[:2]
-            return int(parent) == self.process.pid and state != b"Z" and words.read().endswith(b"\0serve\0")
+            return int(parent) == self.process.pid and state != b"Z" and words.read().endswith(b"\0host\0")
         return False
 
     def kill_runs(self):

@@ -1,4 +1,5 @@
 """A viewer of the page behind a gateway, without a browser: it asks as the page does, and draws by the client in frames.py."""
+import base64
 import contextlib
 import http.client
 import io
@@ -59,7 +60,14 @@ class Viewer:
 
     def pictures(self, *views):
         """The pictures of views, as raw PBMs."""
-        answers = self.request(*(f"view {self.number} {words}" for words in views))
+        return self.drawn("view", views)
+
+    def sums(self, *sums):
+        """The pictures of sums of two series, as raw PBMs; or what they are refused."""
+        return self.drawn("sum", sums)
+
+    def drawn(self, word, lines):
+        answers = self.request(*(f"{word} {self.number} {words}" for words in lines))
         told = [pair for kind, pair in answers if kind not in (frames.OPENED, frames.CLOSED)]
         return [picture.to_pbm() if picture else frame for frame, picture in told]
 
@@ -76,17 +84,34 @@ class Viewer:
         """The series that the next change tells, each with its slots."""
         return {one["name"]: one["slots"] for one in self.told("changed")}
 
-    def told(self, name):
-        """What the next event of a name tells; others are passed over."""
-        event = None
+    def follow(self, word="follow"):
+        """The frame by which its last view is followed, or not any more."""
+        ((_, (frame, _)),) = self.request(f"{word} {self.number}")
+        return frame
+
+    def pushed(self):
+        """The picture of the next frame that is pushed, as a raw PBM."""
+        fields = frames.Fields(io.BytesIO(base64.b64decode(self.told("pushed"))))
+        return frames.accept(fields, self.sessions)[1].to_pbm()
+
+    def event(self):
+        """The next event: its name, and what it tells."""
+        name = None
         while True:
             line = self.answer.readline()
             if not line:
                 raise Denied("the stream has ended")
             if line.startswith(b"event: "):
-                event = line[7:].strip().decode()
-            if line.startswith(b"data: ") and event == name:
-                return json.loads(line[6:])
+                name = line[7:].strip().decode()
+            if line.startswith(b"data: ") and name:
+                return name, json.loads(line[6:])
+
+    def told(self, name):
+        """What the next event of a name tells; others are passed over."""
+        while True:
+            event, value = self.event()
+            if event == name:
+                return value
 
     def hang_up(self):
         if self.stream:
@@ -104,6 +129,11 @@ def names_in(path):
     """The names of the series in a file that no run holds."""
     listed = subprocess.run([PROGRAM, path, "list"], stdout=subprocess.PIPE, check=True).stdout
     return {row.split()[0] for row in listed.decode().splitlines()}
+
+
+def derived(path, sums):
+    """What `derive` draws of each of some sums, of the store in a file that no run holds."""
+    return [subprocess.run([PROGRAM, path, "derive"], input=words.encode(), stdout=subprocess.PIPE, check=True).stdout for words in sums]
 
 
 def drawn(path, views):

@@ -20,6 +20,12 @@ require_all()
 TOKENS = "".join(f'{kind} = ["{hashlib.sha256(kind.encode()).hexdigest()}"]\n' for kind in ("read", "write"))
 
 
+def peak(process):
+    """The most bytes of memory that a process has had."""
+    with open(f"/proc/{process}/status") as file:
+        return next(int(line.split()[1]) for line in file if line.startswith("VmHWM")) * 1024
+
+
 def connected(gateway):
     return socket.create_connection(("127.0.0.1", gateway.port), SECONDS)
 
@@ -155,6 +161,36 @@ class Busy(unittest.TestCase):
                     self.assertTrue(until(lambda: gateway.write(one)[0] == 204))
                 self.assertEqual(gateway.stop(), 0)
                 self.assertEqual((len(gateway.exported("w_v")), gateway.exported("fresh_v")), (3600, {T: "1.00"}))
+            finally:
+                gateway.close()
+
+    def test_memory_is_bounded_where_much_comes_and_the_disk_stands_still(self):
+        sections = {"limits": 'body = "1M"\nunpacked = "1M"', "write": 'waiting_points = 20000\nwaiting_bytes = "6M"\nseconds = "60s"'}
+        with tempfile.TemporaryDirectory() as folder:
+            gateway = Gateway(folder, sections, SECOND).start()
+            try:
+                self.assertEqual(gateway.write(f"w v=0 {T}")[0], 204)
+                (child,) = gateway.children()
+                os.kill(child, signal.SIGSTOP)
+                before, answers = peak(gateway.process.pid), []
+
+                def flood(number):
+                    body = "\n".join(f"w{number} v={at} {T + at}" for at in range(45_000))
+                    for _ in range(5):
+                        status, _, headers = gateway.ask("/write?precision=s", body)
+                        answers.append((status, headers.get("Retry-After")))
+
+                flooding = [threading.Thread(target=flood, args=(number,)) for number in range(16)]
+                for one in flooding:
+                    one.start()
+                self.assertTrue(until(lambda: answers.count((503, "1")) >= 40))
+                # The text of all that is taken in at once is 6 MB, and what is made of it some times as much.
+                self.assertLess(peak(gateway.process.pid) - before, 150 * 2**20)
+                os.kill(child, signal.SIGCONT)
+                for one in flooding:
+                    one.join()
+                self.assertEqual({status for status, _ in answers} - {204, 503}, set())
+                self.assertTrue(until(lambda: gateway.write(f"w v=1 {T}")[0] == 204))
             finally:
                 gateway.close()
 

@@ -10,7 +10,7 @@ import threading
 import unittest
 
 from gateway_server import OverAGateway, T, require_all
-from page_viewer import Denied, Viewer, drawn, names_in, slots_of
+from page_viewer import Denied, Viewer, derived, drawn, names_in, slots_of
 
 require_all()
 
@@ -84,6 +84,15 @@ class Viewed(OverAGateway):
             for words, picture in zip(some, pictures[at], strict=True):
                 self.assertEqual(picture, wanted[words], f"viewer {at}: {words}")
 
+    def require_no_push(self, viewer, series, turn):
+        """A change of a series is told, and nothing is pushed."""
+        self.require_written(f"{series} v={turn} {T + SLOTS + turn}")
+        told, name, slots = [], f"{series}_v", slots_of(viewer, f"{series}_v")
+        while (name, slots) not in told:
+            event, value = viewer.event()
+            self.assertNotEqual(event, "pushed", value)
+            told += [(one["name"], one["slots"]) for one in value] if event == "changed" else []
+
     def ways(self):
         """How many views were answered by each way."""
         text = 'zurtkvani_gateway_page_views_total{way="'
@@ -137,6 +146,38 @@ class Crowd(Viewed):
         self.assertEqual(self.gateway.metrics()["zurtkvani_gateway_page_viewers"], 20)
 
 
+class Sums(Viewed):
+    SUMS = [
+        f"sea_v tide_v 1 -1 150 60 {T} {T + SLOTS} auto", f"tide_v wind_v 3 2 200 40 {T + 500} {T + 900} -9999..9999",
+        f"sea_v sea_v -2 1 90 30 {T} {T + SLOTS} auto",
+    ]
+
+    def require_exact_sums(self, viewers):
+        """Has all viewers draw sums and views by turns, and compares each picture."""
+        with tempfile.NamedTemporaryFile() as copy:
+            shutil.copyfile(os.path.join(self.gateway.stores, "gateway.store"), copy.name)
+            wanted = derived(copy.name, self.SUMS)
+        at_once([lambda viewer=viewer: self.assertEqual(viewer.sums(*self.SUMS), wanted) for viewer in viewers])
+        self.require_exact(viewers, views_of)
+        at_once([lambda viewer=viewer: self.assertEqual(viewer.sums(*self.SUMS), wanted) for viewer in viewers])
+
+    def test_twenty_viewers_draw_sums_as_derive_does(self):
+        self.assertEqual(self.gateway.ask("/catalog", b"")[2][page_rules.OFFERS], "sum follow")
+        viewers = self.viewers(20)
+        self.require_exact_sums(viewers)
+        # An edit of the second series alone changes a sum, too.
+        self.require_written(lines_of("tide", 500, 300, self.chance))
+        self.require_exact_sums(viewers)
+
+    def test_a_sum_that_there_isnt_is_refused(self):
+        (viewer,) = self.viewers(1)
+        window = f"9 9 {T} {T + 9} auto"
+        self.assertEqual(viewer.sums(f"sea_v none 1 1 {window}", f"sea_v tide_v 1 1 9 9 {T} {T} auto"), [frames.Refused(8, 0, 0), frames.Refused(17, 0, 0)])
+        for words in (f"sea_v tide_v 1 1 {window} where v > 1", f"sea_v 1 1 {window}", f"../x sea_v 1 1 {window}"):
+            with self.assertRaises(Denied):
+                viewer.sums(words)
+
+
 class Pushes(Viewed):
     def require_told(self, viewers, words, turn):
         """One value more is told to all viewers, and they draw it."""
@@ -152,6 +193,47 @@ class Pushes(Viewed):
         self.require_exact(viewers, lambda _: [words])
         for turn in range(4):
             self.require_told(viewers, words, turn)
+        metrics = self.gateway.metrics()
+        self.assertGreaterEqual(metrics["zurtkvani_gateway_pushes_total"], 4 * 40)
+        self.assertGreater(metrics["zurtkvani_gateway_push_seconds_total"], 0)
+
+    def test_what_is_followed_is_pushed(self):
+        viewers, words = self.viewers(16), f"sea_v 200 60 {T} {T + 2 * SLOTS} auto"
+        self.assertEqual(viewers[0].follow(), frames.Refused(16, 0, 0))
+        self.require_exact(viewers, lambda _: [words])
+        # Those who have a session of their own may follow their views.
+        told = [viewer.follow() for viewer in viewers]
+        followers = [viewer for viewer, frame in zip(viewers, told) if isinstance(frame, frames.Live) and frame.on]
+        self.assertEqual((len(followers), told.count(frames.Refused(16, 0, 0))), (14, 2))
+        for turn in range(3):
+            self.require_written("\n".join(f"sea v={turn * 300 + at} {T + SLOTS + 90 * turn + at}" for at in range(70)))
+            wanted = self.drawn([words])[words]
+            for viewer in followers:
+                while viewer.pushed() != wanted:
+                    pass
+        self.require_exact(viewers, lambda _: [words])
+        # Another view ends it, and so does a line.
+        one, other = followers[:2]
+        for viewer in (one, other):
+            while viewer.event()[0] != "changed":
+                pass
+        self.assertEqual(one.follow().on, True)
+        self.assertEqual(one.follow("unfollow").on, False)
+        self.require_no_push(one, "sea", 1000)
+        self.require_no_push(other, "sea", 1001)
+        self.assertEqual(self.gateway.metrics()['zurtkvani_gateway_store_up{store="gateway.store"}'], 1)
+
+    def test_a_killed_run_pushes_no_more_until_it_is_followed_anew(self):
+        (viewer,), words = self.viewers(1), f"sea_v 200 60 {T} {T + 2 * SLOTS} auto"
+        for turn in range(2):
+            self.require_exact([viewer], lambda _: [words])
+            self.assertTrue(viewer.follow().on)
+            self.require_written(f"sea v={turn} {T + SLOTS + 2 * turn}")
+            self.assertEqual(viewer.pushed(), self.drawn([words])[words])
+            while viewer.event()[0] != "changed":
+                pass
+            self.gateway.kill_runs()
+            self.require_no_push(viewer, "sea", 2 * turn + 1)
 
     def test_a_killed_run_is_started_again_and_viewers_go_on(self):
         viewers, words = self.viewers(20), f"sea_v 200 60 {T} {T + 2 * SLOTS} auto"
@@ -198,6 +280,17 @@ class Stores(Viewed):
             self.require_exact(viewers, views_of)
             self.require_written(lines_of("sea", 100, 50, self.chance) + "\n" + lines_of("wind", 100, 50, self.chance))
         self.require_exact(viewers, lambda at: views_of(at + 1))
+        # What is followed in one store isn't any more behind a view of another one.
+        for turn, name in enumerate(("tide_v", "wind_v")):
+            viewers[0].pictures(f"sea_v 200 60 {T} {T + 2 * SLOTS} auto")
+            self.assertTrue(viewers[0].follow().on)
+            viewers[0].pictures(f"{name} 200 60 {T} {T + 2 * SLOTS} auto")
+            self.require_no_push(viewers[0], "sea", turn)
+        # A sum is of series that one store has.
+        window = f"9 9 {T} {T + 9} auto"
+        pairs = [f"{one} {other} 1 1 {window}" for one in ("sea_v", "tide_v", "wind_v") for other in ("sea_v", "tide_v", "wind_v")]
+        refused = sum(answer == frames.Refused(8, 0, 0) for answer in viewers[0].sums(*pairs))
+        self.assertEqual(refused, 4)
 
 
 class Let(Viewed):

@@ -72,7 +72,9 @@ class LineProtocol(unittest.TestCase):
                 return draw.choice(listed if draw.random() < odd else listed[:count])
 
             few, some = draw.randrange(1, 5), draw.randrange(1, 8)
-            lines = [" ".join((one_of(heads, few), one_of(texts, some), one_of(times, 4))) for _ in range(draw.randrange(1, 12))]
+            in_rounds = draw.random() < 0.4  # the heads one after the other, again and again, but for a slip
+            heads_of = [heads[at % few] if in_rounds and draw.random() > odd else one_of(heads, few) for at in range(draw.randrange(1, 12))]
+            lines = [" ".join((head, one_of(texts, some), one_of(times, 4))) for head in heads_of]
             body = (one_of(["\n", "\r\n", "\n\n", " \n"], 1).join(lines) + draw.choice(["", "\n"])).encode()
             reader, found, outcomes = line_protocol.Reader("db", "_"), [{}, {}], [intake.Outcome(), intake.Outcome()]
             parts = (reader.parts(body, "", "s", 5, outcomes[0]), intake.parts_of(reader.points(body, "", "s", 5, outcomes[1])))

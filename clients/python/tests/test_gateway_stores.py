@@ -46,12 +46,16 @@ class Backups(OverAGateway):
             self.assertEqual(backup.main(self.gateway.path, ""), 0)
         self.assertIn("gateway.store", told.getvalue())
         self.require_written(f"w,n=0 v=1 {T + 5000}")
+        metrics = self.gateway.metrics()
         (name,) = os.listdir(self.backups)
         copy = os.path.join(self.backups, name)
         self.assertEqual(sorted(os.listdir(copy)), ["gateway.store", "names.json"])
         self.assertEqual(Store(os.path.join(copy, "gateway.store"), program=PROGRAM).check().values, 3000)
         self.assertEqual(self.gateway.stop(), 0)
-        self.assertEqual(Store(os.path.join(self.gateway.stores, "gateway.store"), program=PROGRAM).check().values, 3001)
+        checked = Store(os.path.join(self.gateway.stores, "gateway.store"), program=PROGRAM).check()
+        self.assertEqual(checked.values, 3001)
+        told = [metrics[f'zurtkvani_gateway_store_pages_{of}{{store="gateway.store"}}'] for of in ("used", "left")]
+        self.assertEqual(told, [checked.used, checked.pages - checked.used])
 
 
     def test_a_backup_under_load_has_what_was_answered_before(self):
@@ -187,6 +191,21 @@ class Broken(unittest.TestCase):
             finally:
                 gateway.close()
 
+    def test_a_file_that_is_too_small_is_told_and_not_tried_again(self):
+        with tempfile.TemporaryDirectory() as folder:
+            gateway = Gateway(folder, {}, SECOND)
+            os.mkdir(gateway.stores)
+            with open(os.path.join(gateway.stores, "gateway.store"), "wb") as file:
+                file.truncate(100 * 4096)
+            try:
+                gateway.start()
+                self.assertIn(b"status 12", gateway.ask("/healthz")[1])
+                self.assertEqual(gateway.write(f"w v=1 {T}")[0], 503)
+                self.assertEqual(len(gateway.events("a run ended")), 1)
+                self.assertEqual(gateway.stop(), 0)
+            finally:
+                gateway.close()
+
     def test_a_write_that_the_system_refuses_loses_nothing_that_was_answered(self):
         with tempfile.TemporaryDirectory() as folder:
             # as ./chart does, so that it is a write that fails, and no signal
@@ -237,7 +256,7 @@ class Broken(unittest.TestCase):
 
     def test_a_run_that_ends_at_once_isnt_started_for_ever(self):
         with tempfile.TemporaryDirectory() as folder:
-            gateway = Gateway(folder, {}, SECOND, program=script(folder, '[ "$2" != serve ] || exit 3\nexec PROGRAM "$@"')).start()
+            gateway = Gateway(folder, {}, SECOND, program=script(folder, '[ "$2" != host ] || exit 3\nexec PROGRAM "$@"')).start()
             try:
                 self.assertIn(b"ended at once", gateway.ask("/healthz")[1])
                 self.assertEqual(gateway.write(f"w v=1 {T}")[0], 503)

@@ -130,6 +130,23 @@ class OverAKeeper(unittest.IsolatedAsyncioTestCase):
         self.assertNotEqual(await self.view(15), two)
         self.assertNotEqual((await self.view(15, WORDS + b" where v > 5"))[1], (await self.view(15))[1])
 
+    async def test_a_shared_sum_is_as_of_now(self):
+        await self.come(2)
+        self.viewers.stores.inner["b"] = types.SimpleNamespace(name="b", keeper=self.keeper)
+
+        def sum_of(number):
+            return self.viewers.answer(b"sum %d a b 1 -1 9 9 0 9 auto" % number)
+
+        one = await sum_of(1)
+        self.assertEqual((kinds(one), await sum_of(2)), ([OPENED, VIEW, CLOSED], one))
+        for name in ("b", "a"):
+            self.news.tell([Series(name, 0, 1, 0, 9)])
+            two = await sum_of(1)
+            self.assertNotEqual(two, one)
+            self.assertEqual(await sum_of(2), two)
+            one = two
+        self.assertEqual(self.keeper.open, {1})
+
     async def test_no_more_is_kept_to_be_shared_than_there_is_room_for(self):
         await self.come(15)
         await self.kinds_of(*range(1, 15))

@@ -221,6 +221,7 @@ class Alarms:
         if not changes:
             return
         self.changes += len(changes)
+        self.stores.news.wake()
         for watch, state, slot, number in changes:
             at = date_text(watch.time_of(slot))
             event = {**watch.told(), "state": state, "time": at, "value": None if number is None else decimal_text(number, watch.known.record.scale)}

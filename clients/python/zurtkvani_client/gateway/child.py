@@ -1,4 +1,4 @@
-"""All that the gateway knows of the program: one run of `serve` over a store, its lines and frames, and when it is started again.
+"""All that the gateway knows of the program: one run of `host` over a store, its lines and frames, and when it is started again.
 
 A run takes lines by turns. A turn is up to 64 lines that stand ready at once, so edits among them share commits, and it ends when each
 line is answered by its frame. Frames come in the order of the lines.
@@ -7,19 +7,26 @@ import asyncio
 import contextlib
 import fcntl
 import io
+import itertools
 import os
 import struct
 import time
 
 from .. import client, frames
+from ..page_rules import EDITS
 from ..run import IN_FLIGHT, Ended, Refused, end_of
-from ..store import Store
+from ..store import Series
 from .log import tell
 
 MOST_FRAME = 4_194_304  # bytes behind a frame's length
+READ = 2**18  # bytes that are read at once
 DONE_BYTES = 4 + frames.LENGTHS[frames.DONE][0]
 SESSION = 1  # the one session of a run; its views have a filter, so its client keeps nothing
 OPEN = b"open %d 1" % SESSION
+LIST = b"list"
+COMMAND = "host"
+CHANGING = (*EDITS, b"sweep")  # the words of lines behind which sessions are pushed what they follow
+NO_LINE = b"?"  # it is refused, behind all frames that the lines before it push
 MOST_SECONDS = 120  # of a turn
 FIRST_DELAY, MOST_DELAY = 0.1, 10.0  # seconds until a run that ended is started again
 PAUSE = 0.05  # seconds between two looks whether a store is released
@@ -42,11 +49,12 @@ class Held(Ended):
 
 
 class Run:
-    """One `PROGRAM PATH serve`."""
+    """One `PROGRAM PATH host`."""
 
     def __init__(self, child, path):
         self.child, self.path, self.said = child, path, None
-        self.answered = 0  # lines
+        self.answered, self.came = 0, b""  # lines; and what came and isn't a whole frame yet
+        self.may_push, self.on_push = False, None  # whether a session was ever followed, and who is handed what one is pushed
         self.listening = asyncio.create_task(self._listen())
 
     @classmethod
@@ -54,18 +62,19 @@ class Run:
         pipe = asyncio.subprocess.PIPE
         # A session of its own, so that Control-C reaches the gateway alone.
         child = await asyncio.create_subprocess_exec(
-            program, path, "serve", stdin=pipe, stdout=pipe, stderr=pipe, start_new_session=True, limit=2**20
+            program, path, COMMAND, stdin=pipe, stdout=pipe, stderr=pipe, start_new_session=True, limit=2**20
         )
         run = cls(child, path)
         try:
-            (run.opened,) = await run.turn([OPEN])
+            run.opened, listed = await run.turn([OPEN, LIST])
+            run.series = series_of(listed)
         except Lost:
             raise await run.stop() from None
         return run
 
     async def _listen(self):
         async for line in self.child.stderr:
-            said = end_of(line, "serve", self.path)
+            said = end_of(line, COMMAND, self.path)
             if said:
                 self.said = said
             else:
@@ -77,28 +86,62 @@ class Run:
             answers = await asyncio.wait_for(self._answers(lines), MOST_SECONDS)
             self.answered += len(lines)
             return answers
-        except (asyncio.IncompleteReadError, asyncio.TimeoutError, ConnectionError) as why:
+        except (asyncio.TimeoutError, ConnectionError) as why:
             with contextlib.suppress(ProcessLookupError):
                 self.child.kill()
             raise Lost(str(why) or f"no answer within {MOST_SECONDS} s") from None
 
     async def _answers(self, lines):
-        self.child.stdin.write(b"\n".join(lines) + b"\n")
+        words = {line.partition(b" ")[0] for line in lines}
+        self.may_push = self.may_push or b"follow" in words
+        pushes = self.may_push and not words.isdisjoint(CHANGING)
+        self.child.stdin.write(b"\n".join([*lines, NO_LINE] if pushes else lines) + b"\n")
         await self.child.stdin.drain()
-        return [await self._frame() for _ in lines]
+        if not pushes:
+            return await self._frames(len(lines))
+        answers = []
+        while len(answers) <= len(lines):
+            for frame in await self._frames(len(lines) + 1 - len(answers)):
+                if frame[4] in (frames.VIEW, frames.ROWS):
+                    self.on_push(frame)
+                else:
+                    answers.append(frame)
+        return answers[:-1]
 
-    async def _frame(self):
-        head = await self.child.stdout.readexactly(4)
-        (length,) = struct.unpack(">I", head)
-        if length > MOST_FRAME:
-            raise ConnectionError("the program sends no frames")
-        return head + await self.child.stdout.readexactly(length)
+    async def _frames(self, count):
+        """The next frames, so many."""
+        answers = []
+        while True:
+            at, came, wanted = 0, self.came, 4
+            while len(answers) < count and len(came) - at >= 4:
+                wanted = 4 + int.from_bytes(came[at : at + 4], "big")
+                if wanted > 4 + MOST_FRAME:
+                    raise ConnectionError("the program sends no frames")
+                if len(came) - at < wanted:
+                    break
+                answers.append(came[at : at + wanted])
+                at, wanted = at + wanted, 4
+            self.came = came[at:]
+            if len(answers) == count:
+                return answers
+            self.came += await self._more(wanted - len(self.came))
+
+    async def _more(self, least):
+        """What comes next, so many bytes at least."""
+        parts = []
+        while least > 0:
+            part = await self.child.stdout.read(READ)
+            if not part:
+                raise ConnectionError("the run has ended")
+            parts.append(part)
+            least -= len(part)
+        return b"".join(parts)
 
     async def end(self):
         """How it ended, once it has."""
         status = await self.child.wait()
         await self.listening
-        return self.said or Ended(status, None, "serve", self.path)
+        return self.said or Ended(status, None, COMMAND, self.path)
 
     async def stop(self, seconds=30):
         """Ends it as the end of its input does, and where that takes too long by a kill. Gives how it ended."""
@@ -117,6 +160,7 @@ class Keeper:
         self.program, self.path = program, path
         self.run, self.down, self.restarts = None, None, 0
         self.series, self.on_listed = None, None  # what the store had when its last run began, and who is told
+        self.on_push = None  # who is handed each frame that a session is pushed
         self.opened = None  # the frame that opened the session
         self.has_worked = False  # whether the last run answered what it was asked
         self.free, self.is_up, self.is_stopping = asyncio.Lock(), asyncio.Event(), False
@@ -179,27 +223,13 @@ class Keeper:
         if self.task:
             await asyncio.wait({self.task}, timeout=40)
 
-    async def between_runs(self, work):
-        """Ends the run between two turns, awaits `work()`, and starts another run."""
-        async with self.free:
-            if self.down or self.run is None:
-                raise Lost("the run has ended")
-            run, self.run = self.run, None
-            self.is_up.clear()
-            end = await run.stop()
-            try:
-                if end.status == 0:
-                    await work()
-            finally:
-                self.task = asyncio.create_task(self._keep())
-
     async def _keep(self):
         """Starts runs, one after the other, until one isn't to be started again."""
         soon, delay = 0, FIRST_DELAY
         while not self.is_stopping:
             begun, self.has_worked = time.monotonic(), False
             end = await self._live()
-            if self.is_stopping or end is None:
+            if self.is_stopping:
                 return
             soon = 0 if self.has_worked or time.monotonic() - begun > SOON else soon + 1
             delay = min(2 * delay, MOST_DELAY) if soon else FIRST_DELAY
@@ -214,23 +244,21 @@ class Keeper:
             await asyncio.sleep(delay)
 
     async def _live(self):
-        """One run from its start to its end; gives how it ended, None where another hand ended it."""
+        """One run from its start to its end; gives how it ended."""
         try:
             if not await until_released(self.path):
-                return Held(6, 0, "serve", self.path)
-            self.series = await asyncio.to_thread(Store(self.path, self.program).series)
+                return Held(6, 0, COMMAND, self.path)
             run = await Run.start(self.program, self.path)
         except Ended as end:
             return end
         except OSError as why:
             return not_started(why, self.path)
-        self.run, self.opened = run, run.opened
+        self.run, self.opened, self.series = run, run.opened, run.series
+        run.on_push = self.on_push
         self.on_listed(self)
         self.is_up.set()
         tell("a run stands", path=self.path, process=run.child.pid, series=len(self.series))
         end = await run.end()
-        if self.run is not run:
-            return None
         self.is_up.clear()
         self.run, self.has_worked = None, run.answered > 1
         return end
@@ -246,7 +274,7 @@ class Keeper:
 
 def not_started(why, path):
     """What stands for the end of a run that the system didn't start."""
-    end = Ended(127, None, "serve", path)
+    end = Ended(127, None, COMMAND, path)
     end.args = (f"the program can't be started: {why}",)
     return end
 
@@ -285,6 +313,34 @@ def slots_of(frame):
 def refusal_of(frame):
     """The refusal that a frame is, or None."""
     return done_or_refused(frame) if frame[4] == frames.REFUSED else None
+
+
+def report_of(kind, frame):
+    """A report of a kind, as told.py names its fields. Raises Refused."""
+    if frame[4] != kind:
+        raise Refused(*done_or_refused(frame))
+    return frames.accept(frames.Fields(io.BytesIO(frame)), {})[0]
+
+
+def series_of(frame):
+    """The series that a catalog lists."""
+    return [Series(one.name, one.start, one.step, one.scale, one.slots) for one in report_of(frames.CATALOG, frame).series]
+
+
+def pages_of(frame):
+    """The pages in use of a store, and all of them, as a catalog tells them."""
+    total, used = struct.unpack_from(">II", frame, 5)
+    return used, total
+
+
+def values_of(frame):
+    """The stored values that a report of them tells: pairs of a slot and its number. Raises Refused."""
+    if frame[4] != frames.VALUES:
+        raise Refused(*done_or_refused(frame))
+    runs, count = struct.unpack_from(">HH", frame, 16)
+    spans = struct.unpack_from(f">{2 * runs}Q", frame, 20)
+    slots = itertools.chain.from_iterable(range(first, first + many) for first, many in zip(spans[::2], spans[1::2]))
+    return zip(slots, struct.unpack_from(f">{count}q", frame, 20 + 16 * runs))
 
 
 def view_line(name, columns, height, t0, t1, bounds="auto"):

@@ -33,6 +33,7 @@ class Gateway:
         self.broker = Broker(self)
         self.alarms = Alarms(given, self.stores, self.counts, self.broker.publish)
         self.retention, self.backing_up, self.viewers = Retention(self), asyncio.Lock(), Viewers(self)
+        self.stores.on_push = self.viewers.pushed
         self.reading = asyncio.Semaphore(given.read.at_once)
         self.sweeping = None
         self.line_reader = Reader(given.write.database_label, given.write.separator)

@@ -152,8 +152,11 @@ def are_digits(times):
 
 def by_head(heads, fields, times):
     """For each head the fields and the times of its lines."""
-    if heads.count(heads[0]) == len(heads):
-        return {heads[0]: (fields, times)}
+    round_of, count = heads[: heads.index(heads[0], 1) if heads.count(heads[0]) > 1 else None], len(heads)
+    size = len(round_of)
+    # Collectors send a round of their series, time by time.
+    if len(set(round_of)) == size and (round_of * (count // size + 1))[:count] == heads:
+        return {head: (fields[at::size], times[at::size]) for at, head in enumerate(round_of)}
     found = {}
     for head, field, time in zip(heads, fields, times):
         if head in found:
@@ -170,7 +173,8 @@ def columns_of(fields):
     for cells in zip(*[field.split(",") for field in fields], strict=True) if "," in fields[0] else [fields]:
         name, sign, _ = cells[0].partition("=")
         start = name + sign
-        values = [cell[len(start) :] for cell in cells]
+        size = len(start)
+        values = [cell[size:] for cell in cells]
         if not name or not sign or "" in values or "\n".join(cells) != start + ("\n" + start).join(values):
             raise ValueError
         joined = " ".join(values) + " "

@@ -1,12 +1,12 @@
 """What the gateway counts, and how it tells that at /metrics in Prometheus' form."""
-import struct
+import asyncio
 import time
 
-from ..store_file import BLOCK
+from . import child
 from .labels import quoted
 
 PREFIX = "zurtkvani_gateway_"
-FIRST_PAGE = 66  # the block of page 0, the superblock: docs/FORMATS.md
+MOST_SECONDS = 5  # until a store tells its pages
 HELP = {
     "points_total": "Points that were acknowledged as stored",
     "dropped_points_total": "Points that can't be stored",
@@ -19,6 +19,8 @@ HELP = {
     "request_seconds_total": "Time of these requests",
     "views_total": "Views that were asked of stores",
     "page_views_total": "Views that pages were answered: by a session of their own, whole, or as another page",
+    "pushes_total": "Changes that pages were told, together where they came together",
+    "push_seconds_total": "Time from a change to when a page was sent it, of these",
     "made_series_total": "Series that the gateway made",
     "alarms_total": "Alarms that began and that ended",
     "untold_alarms_total": "Alarms that were given up, and not told",
@@ -58,23 +60,21 @@ def gauge(name, means, samples):
         yield sample(name, labels, value)
 
 
-def pages_of(path):
-    """The pages in use of a store and all of them, as its page 0 tells them now; None where it can't be read. A run may be writing it: what it
-    tells then was so, or is about to be."""
+async def pages_of(keeper):
+    """The pages in use of a store and all of them, as its run tells them; None where it has none, or tells nothing in time."""
     try:
-        with open(path, "rb", buffering=0) as file:
-            file.seek(FIRST_PAGE * BLOCK)
-            magic, total, fresh, _, chain, _ = struct.unpack(">8s5I", file.read(28))
-    except (OSError, struct.error):
+        (frame,) = await asyncio.wait_for(keeper.ask([child.LIST], MOST_SECONDS), MOST_SECONDS)
+        return child.pages_of(frame)
+    except (child.Down, child.Lost, TimeoutError):
         return None
-    return (fresh - chain, total) if magic[:7] == b"CHARTST" else None
 
 
-def text(gateway):
+async def text(gateway):
     """All of /metrics."""
-    keepers = gateway.stores.keepers
+    keepers = list(gateway.stores.keepers)
     stores = [((("store", gateway.store_name(keeper)),), keeper) for keeper in keepers]
-    pages = [(labels, pages_of(keeper.path) or (0, 0)) for labels, keeper in stores]
+    told = await asyncio.gather(*map(pages_of, keepers))
+    pages = [(labels, found) for (labels, _), found in zip(stores, told) if found]
     lines = [
         *gateway.counts.lines(),
         *gauge("waiting_points", "Points that aren't answered", [((), gateway.waiting())]),

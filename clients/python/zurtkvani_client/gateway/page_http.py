@@ -1,5 +1,6 @@
 """The page of clients/web behind the gateway: its files, the lines that it sends, the series, and the stream of what changes."""
 import asyncio
+import base64
 import os
 import time
 
@@ -10,7 +11,8 @@ from . import bodies, child
 from .labels import text_of
 from .viewers import Full
 
-TAKEN = (b"open", b"close", b"view")
+PUSHED = "X-Chart-Pushed"  # the header of an answer with how many frames its session had been pushed before it
+TAKEN = (b"open", b"close", b"view", b"sum", b"follow", b"unfollow")
 MOST_ALARMS = 100  # that a page shows
 MOST_PUSHES = 200  # a second, of all pages; what changes faster is told together
 
@@ -79,11 +81,11 @@ async def lines(gateway, request):
         for line in wanted:
             frames = b"".join(await gateway.viewers.answer(line))
             if response is None:
-                response = await begun(request, page_rules.FRAMES)
+                response = await begun(request, page_rules.FRAMES, **{PUSHED: str(gateway.viewers.pushed_to(wanted[0]))})
             await send(gateway, response, frames)
         return response
     except PermissionError:
-        raise Refusal(403, "only open, close and view are taken") from None
+        raise Refusal(403, "only open, close, view, sum, follow and unfollow are taken") from None
     except ValueError as why:
         raise Refusal(400, str(why)) from None
     except (Full, child.Down, TimeoutError) as why:
@@ -109,7 +111,7 @@ async def send(gateway, response, data):
 
 @refusing
 async def catalog(gateway, _request):
-    return web.json_response([told(known) for known in gateway.stores.inner.values()])
+    return web.json_response([told(known) for known in gateway.stores.inner.values()], headers={page_rules.OFFERS: "sum follow"})
 
 
 def told(known):
@@ -146,7 +148,11 @@ async def send_changes(gateway, request, response, viewer):
         if alarms.changes != shown:
             shown, listed = alarms.changes, alarms.listed()
             await send(gateway, response, page_rules.event("alarms", {"alarms": listed[:MOST_ALARMS], "count": len(listed)}))
-        viewer.seen, series = await news.since(viewer.seen, 1)
+        viewer.seen, series = await news.since(viewer.seen, page_rules.BEAT)
+        while viewer.pushes:
+            await send(gateway, response, page_rules.event("pushed", base64.b64encode(viewer.pushes.popleft()).decode()))
         if series:
             await send(gateway, response, page_rules.event("changed", [told(known) for known in series]))
+            gateway.counts.add("pushes_total")
+            gateway.counts.add("push_seconds_total", news.age(series))
             await asyncio.sleep(max(page_rules.REST, len(gateway.viewers.held) / MOST_PUSHES))

@@ -10,7 +10,7 @@ from itertools import accumulate
 
 from . import child
 
-COLUMNS = 4096  # of a view
+COLUMNS = 4096  # of a view, and slots of which one line tells the values: those from one multiple of that to the next
 MOST_PARTS = 64 * COLUMNS
 MOST_LOST = 3
 TURN = 16  # views that are asked for at once
@@ -36,11 +36,11 @@ class Reads:
             raise TooMuch("the query reads too much: ask for fewer series, a shorter time, or larger steps")
 
     async def ask(self, keeper, lines):
-        """The rows of views."""
+        """The frames of views, or of values."""
         self.counts.add("views_total", len(lines))
         for at in range(MOST_LOST):
             try:
-                return [child.rows_of(frame) for frame in await keeper.ask(lines, self.seconds)]
+                return await keeper.ask(lines, self.seconds)
             except child.Lost:
                 await asyncio.sleep(0.1 * at)
         raise child.Down("the store's run ends before it answers")
@@ -56,13 +56,13 @@ class Reads:
         found = await self.lines(known.keeper, lines)
         return [(at + column, Row(*row)) for (at, _), rows in zip(parts, found) for column, *row in rows]
 
-    async def lines(self, keeper, lines):
-        """The rows of each of some views, a few of them at a time, so that others have their turn."""
+    async def lines(self, keeper, lines, told=child.rows_of):
+        """What each of some lines tells, its rows or its values, a few of them at a time, so that others have their turn."""
         found = []
         for at in range(0, len(lines), TURN):
             self.spend(LEAST_COST * len(lines[at : at + TURN]))
-            for rows in await self.ask(keeper, lines[at : at + TURN]):
-                found.append(list(rows))
+            for frame in await self.ask(keeper, lines[at : at + TURN]):
+                found.append(list(told(frame)))
                 self.spend(len(found[-1]))
         return found
 
@@ -103,21 +103,17 @@ class Reads:
         if first >= behind:
             return []
         self.ways.add("values")
-        width, spans = 1, [(first, behind)]
-        while width * COLUMNS < behind - first:
+        width, begin = COLUMNS, first - first % COLUMNS
+        while width * TURN < behind - begin:
             width *= COLUMNS
-        while width > 1:
+        spans = [(at, min(at + width, behind)) for at in range(begin, behind, width)]
+        while width > COLUMNS:
+            width //= COLUMNS
             found = [(at, end, await self.columns(known, start + at * step, width * step, -((at - end) // width))) for at, end in spans]
             spans = [(at + column * width, min(at + (column + 1) * width, end)) for at, end, rows in found for column, _ in rows]
-            width //= COLUMNS
-        found = await self._slots(known, spans)
-        return [(slot, start + slot * step, number) for slot, number in found]
-
-    async def _slots(self, known, spans):
-        """The slots of some ranges of at most 4,096 that have a value: pairs of a slot and its number."""
-        start, step = known.record.start, known.record.step
-        lines = [child.view_line(known.name, end - at, 1, start + at * step, start + end * step) for at, end in spans]
-        return [(at + row[0], row[4]) for (at, _), rows in zip(spans, await self.lines(known.keeper, lines)) for row in rows]
+        lines = [f"values {known.name} {start + max(at, first) * step} {start + end * step}".encode() for at, end in spans if end > first]
+        found = await self.lines(known.keeper, lines, child.values_of)
+        return [(slot, start + slot * step, number) for values in found for slot, number in values]
 
     async def sums(self, known, windows):
         """The sum and the count of the values of each window."""

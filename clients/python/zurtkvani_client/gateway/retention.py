@@ -1,25 +1,16 @@
-"""What rules keep for a time only is dropped when that has passed: by runs of `retain` between two runs of `serve`, at quiet moments.
+"""What rules keep for a time only is dropped when that has passed: by `sweep` lines to a store's run, at quiet moments.
 
-A sweep makes at most so many clears, so no stop takes long; what is left is for the next one.
+A line makes at most 64 clears, so that no request waits for long behind one; it is sent again as long as it leaves some.
 """
 import asyncio
 import time
 
-from ..commands import Output
-from ..run import Ended
+from .. import frames
 from . import child
 from .log import tell
-from .reading import COLUMNS
 from .rules import rule_for
 
-CLEARED = 4096  # slots of a clear of `retain`
-MOST_CLEARS = 64  # of a sweep
-PAUSE = 1.0  # seconds between two looks whether it is quiet, and between two sweeps of one store
-
-
-def retained(keeper, rules):
-    """What a run of `retain` over a keeper's store sends for some rules. Raises Ended."""
-    return Output(keeper.program, keeper.path, "retain", given=rules).read()
+PAUSE = 1.0  # seconds between two looks whether it is quiet
 
 
 class Retention:
@@ -32,60 +23,43 @@ class Retention:
     async def work(self):
         """Sweeps again and again."""
         while self.is_needed:
+            ends = time.monotonic() + self.given.every / 10**9
             for keeper in list(self.gateway.stores.keepers):
                 try:
-                    await self.sweep(keeper)
-                except (child.Lost, child.Down, Ended, TimeoutError, OSError) as why:
+                    await self.sweep(keeper, ends)
+                except (child.Lost, child.Down, child.Refused, TimeoutError) as why:
                     tell("a sweep failed", "warning", path=keeper.path, why=str(why))
-            await asyncio.sleep(self.given.every / 10**9)
+            await asyncio.sleep(max(PAUSE, ends - time.monotonic()))
 
-    async def sweep(self, keeper):
-        """Drops from a store all that its rules don't keep, by one sweep after the other."""
-        for _ in range(10_000):
-            lines, is_all = await self.lines(keeper, time.time_ns())
-            if not lines:
-                return
-            await self.quiet(keeper)
-            begun = time.monotonic()
-            await keeper.between_runs(lambda: asyncio.to_thread(retained, keeper, "".join(lines).encode()))
-            self.gateway.stores.full.discard(keeper)
-            tell("old values are dropped", path=keeper.path, series=len(lines), seconds=round(time.monotonic() - begun, 3))
-            if is_all:
-                return
-            await asyncio.sleep(PAUSE)
+    async def sweep(self, keeper, ends):
+        """Drops from a store all that its rules don't keep. No quiet moment is waited for when a time has passed."""
+        clears, seconds, changed = 0, 0.0, []
+        for known, limit in self.limits(keeper, time.time_ns()):
+            swept = None
+            while swept is None or swept.more:
+                await self.quiet(keeper, ends)
+                begun = time.monotonic()
+                (frame,) = await keeper.ask([f"sweep before {known.name} {limit}".encode()])
+                seconds += time.monotonic() - begun
+                swept = child.report_of(frames.SWEPT, frame)
+                clears += swept.clears
+                if swept.clears:
+                    changed.append(known)
+                    self.gateway.stores.full.discard(keeper)
+                    self.gateway.stores.tell([known])
+        if changed:
+            tell("old values are dropped", path=keeper.path, series=len(set(changed)), clears=clears, seconds=round(seconds, 3))
 
-    async def lines(self, keeper, now):
-        """The rules of one sweep, and whether they drop all that is to be dropped."""
-        lines, left = [], MOST_CLEARS
+    def limits(self, keeper, now):
+        """The series of a store that are kept for a time, each with the time before which nothing is kept, in its own unit."""
         for known in [known for known in self.gateway.stores.by_key.values() if known.keeper is keeper]:
             keep = rule_for(self.gateway.given.series, known.key).keep
             limit = None if keep is None else (now - keep) // known.unit
-            if limit is None or limit <= known.record.start or not known.slots:
-                continue
-            clears, limit = await self.part(known, limit, left)
-            if clears:
-                lines.append(f"before {known.name} {limit}\n")
-                left -= clears
-            if left <= 0:
-                return lines, False
-        return lines, True
+            if limit is not None and limit > known.record.start and known.slots:
+                yield known, limit
 
-    async def part(self, known, limit, most):
-        """How many clears drop what lies before a limit, at most so many, and the limit that these reach."""
-        start, step = known.record.start, known.record.step
-        (frame,) = await known.keeper.ask([child.view_line(known.name, COLUMNS, 1, start, limit)])
-        column = next((row[0] for row in child.rows_of(frame)), None)
-        if column is None:
-            return 0, limit
-        # No slot before the column's begin has a value; the first range of clears is that of this slot.
-        first = (column * (limit - start) // COLUMNS) // step // CLEARED
-        last = (limit - start - 1) // step // CLEARED
-        if last - first < most:
-            return last - first + 1, limit
-        return most, start + (first + most) * CLEARED * step
-
-    async def quiet(self, keeper):
-        """Waits for a quiet moment of a store; where none comes in the time from one round to the next, no longer."""
-        writer, ends = self.gateway.writer_of(keeper), time.monotonic() + self.given.every / 10**9
+    async def quiet(self, keeper, ends):
+        """Waits for a quiet moment of a store, up to a time."""
+        writer = self.gateway.writer_of(keeper)
         while time.monotonic() < ends and (writer.waiting or time.monotonic() - writer.progress < self.given.quiet / 10**9):
             await asyncio.sleep(min(PAUSE, self.given.quiet / 10**9))

@@ -19,7 +19,7 @@ STOP_SECONDS = 60  # for requests that are under way when the gateway ends
 
 
 async def metrics_of(gateway, _request):
-    return web.Response(text=metrics.text(gateway), headers={"Content-Type": "text/plain; version=0.0.4; charset=utf-8"})
+    return web.Response(text=await metrics.text(gateway), headers={"Content-Type": "text/plain; version=0.0.4; charset=utf-8"})
 
 
 async def health(gateway, _request):
@@ -193,6 +193,7 @@ async def serve(given):
         await ended.wait()
         tell("the gateway ends")
         gateway.is_ending.set()
+        gateway.news.wake()
     finally:
         await runner.cleanup()
         await gateway.stop()

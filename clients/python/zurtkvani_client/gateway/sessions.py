@@ -67,11 +67,28 @@ class Sessions:
             return frames[-1:] if is_open else frames[-2:]
         raise child.Down("the store's runs end before they answer")
 
-    async def whole(self, cache, words):
-        """The frames of a view for whoever has a client that keeps so many coefficients: those of a session that is opened for it and closed behind
+    async def follow(self, viewer, word):
+        """Has the viewer's own session follow its last view, or not any more, and gives the frame that tells it; None where it has none now."""
+        own, run = self.own.get(viewer), self.keeper.run
+        if own is None or run is None or own.run is not run:
+            return None
+        own.asked = time.monotonic()
+        frames = await self.asked([b"%b %d" % (word, own.number)], 0)
+        return None if frames is None or refusal_in(frames[0]) == UNKNOWN_SESSION else frames[0]
+
+    def pushed(self, frame):
+        """Hands a frame that a session is pushed to its viewer."""
+        number = int.from_bytes(frame[5:9], "big")
+        own = next((own for own in self.own.values() if own.number == number), None)
+        if own:
+            own.asked = time.monotonic()
+            own.viewer.push(frame)
+
+    async def whole(self, cache, word, words):
+        """The frames of a view or a sum for whoever has a client that keeps so many coefficients: those of a session that is opened for it and closed behind
         it. A refusal stands alone."""
         for at in range(MOST_LOST):
-            frames = await self.asked([b"open %d %d" % (WHOLE, cache), b"view %d %b" % (WHOLE, words), b"close %d" % WHOLE], at)
+            frames = await self.asked([b"open %d %d" % (WHOLE, cache), b"%b %d %b" % (word, WHOLE, words), b"close %d" % WHOLE], at)
             if frames is not None:
                 return [frames[1]] if refusal_in(frames[1]) else frames
         raise child.Down("the store's runs end before they answer")

@@ -62,6 +62,7 @@ class Stores:
         self.keepers, self.full = [], set()
         self.by_key, self.by_name, self.inner, self.places = {}, {}, {}, itertools.count()
         self.making, self.lock = asyncio.Lock(), None
+        self.on_push = None  # is handed a keeper, and a frame that a session of its run is pushed
 
     async def start(self):
         """Makes the folder and the first store where they aren't there, and starts the runs. Raises names.Damaged and OSError."""
@@ -94,7 +95,7 @@ class Stores:
 
     async def _open(self, name):
         keeper = child.Keeper(self.given.program, self._path(name))
-        keeper.on_listed = self._listed
+        keeper.on_listed, keeper.on_push = self._listed, lambda frame: self.on_push(keeper, frame)
         await keeper.start()
         self.keepers.append(keeper)
 

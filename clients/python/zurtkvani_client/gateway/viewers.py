@@ -10,7 +10,7 @@ import re
 import struct
 import time
 
-from ..page_rules import CLOSED, GONE, OPENED, REFUSED, SESSION_OPEN, SWEEP, UNKNOWN_SESSION
+from ..page_rules import CLOSED, GONE, OPENED, REFUSED, SESSION_OPEN, SWEEP, UNKNOWN_SESSION, refusal_in
 from .sessions import FIRST_OWN, Sessions
 
 MOST_CACHE = 131_072
@@ -18,8 +18,13 @@ MOST_SHARED = 2**25  # bytes of frames that are kept to be shared
 # What a page sends: the number of its session, and what stands behind it.
 LINE = re.compile(
     rb"(?:open ([1-9][0-9]{0,9}) ([1-9][0-9]{0,5})|close ([1-9][0-9]{0,9})"
-    rb"|view ([1-9][0-9]{0,9}) ([A-Za-z0-9_.-]{1,31}( [0-9]{1,4}){2}( -?[0-9]{1,19}){2} (auto|-?[0-9]{1,19}[.]{2}-?[0-9]{1,19})( where [^\n]*)?))\r?"
+    rb"|(?P<follow>follow|unfollow) (?P<follower>[1-9][0-9]{0,9})"
+    rb"|view (?P<viewer>[1-9][0-9]{0,9}) (?P<view>NAME WINDOW( where [^\n]*)?)"
+    rb"|sum (?P<summer>[1-9][0-9]{0,9}) (?P<sum>NAME NAME( -?[0-9]{1,19}){2} WINDOW))\r?".replace(b"NAME", b"[A-Za-z0-9_.-]{1,31}")
+    .replace(b"WINDOW", b"[0-9]{1,4} [0-9]{1,4}( -?[0-9]{1,19}){2} (?:auto|-?[0-9]{1,19}[.]{2}-?[0-9]{1,19})")
 )
+UNKNOWN_SERIES, NO_VIEW = 8, 16  # numbers of refusals
+MOST_PUSHES = 64  # frames that wait for a page
 
 
 class Full(Exception):
@@ -31,6 +36,8 @@ class Viewer:
         self.cache, self.numbers, self.own_numbers = cache, numbers, {}
         self.seen = seen  # how many changes were told, or had been before it came
         self.streams, self.asked, self.turn, self.is_over = 0, time.monotonic(), asyncio.Lock(), False
+        self.last = self.follows = None  # the sessions of which one answered its last view alone, and those of which one is followed
+        self.pushes, self.pushed = collections.deque(), 0  # frames that wait for its stream, and how many there were in all
 
     def number_in(self, sessions):
         """The number of this viewer's session in the runs over a store: always the same, and nobody else's in any."""
@@ -38,12 +45,18 @@ class Viewer:
             self.own_numbers[sessions] = next(self.numbers)
         return self.own_numbers[sessions]
 
+    def push(self, frame):
+        """Keeps a frame until the page's stream sends it. A page that doesn't keep up has to begin anew."""
+        self.pushes.append(frame)
+        self.pushed += 1
+        self.is_over = self.is_over or len(self.pushes) > MOST_PUSHES
+
     def is_gone(self):
         return self.streams == 0 and time.monotonic() - self.asked > GONE
 
 
 class Shared:
-    """What is sent of a view to several viewers: as of so many changes of its series, and of a run."""
+    """What is sent of a view to several viewers: as of so many changes of each of its series, and of a run."""
 
     def __init__(self, count, run, work):
         self.count, self.run, self.task = count, run, asyncio.ensure_future(work)
@@ -80,19 +93,21 @@ class Viewers:
         such a line, Full, child.Down and TimeoutError."""
         found = LINE.fullmatch(line)
         if not found:
-            raise ValueError("a line opens or closes a session, or is a view, as the page sends them")
-        opened, cache, closed, number, words, *_ = found.groups()
+            raise ValueError("a line opens or closes a session, is a view or a sum, or follows a view, as the page sends them")
+        opened, cache, closed = found.groups()[:3]
         if opened:
             return [self.opened(int(opened), int(cache))]
         if closed:
             return [self.closed(int(closed))]
+        ways = (("viewer", "view", self.view), ("summer", "sum", self.sum), ("follower", "follow", self.follow))
+        number, words, answer = next((found[number], found[words], answer) for number, words, answer in ways if found[words])
         viewer = self.held.get(int(number))
         if viewer is None:
             return [refusal(UNKNOWN_SESSION)]
         viewer.asked = time.monotonic()
         async with viewer.turn:
             try:
-                return await self.view(viewer, words)
+                return await answer(viewer, words)
             finally:
                 if viewer.is_over:
                     self.close(viewer)
@@ -115,9 +130,42 @@ class Viewers:
     async def view(self, viewer, words):
         known = self.stores.inner.get(words.partition(b" ")[0].decode())
         sessions = self.sessions_of(known.keeper if known else self.stores.keepers[0])
+        if viewer.follows and viewer.follows is not sessions:
+            await viewer.follows.follow(viewer, b"unfollow")
+        viewer.follows, viewer.last = None, sessions
         frames, way = await sessions.view(viewer, words), "own"
         if frames is None:
-            frames, way = await self.whole(sessions, known, viewer.cache, words)
+            viewer.last = None
+            frames, way = await self.whole(sessions, [known], viewer.cache, b"view", words)
+        self.counts.add("page_views_total", way=way)
+        return frames
+
+    async def follow(self, viewer, word):
+        """The frame by which a viewer with a session of its own follows its last view. All others are told what changes, and ask again."""
+        frame = await viewer.last.follow(viewer, word) if viewer.last else None
+        if frame is None:
+            return [refusal(NO_VIEW)]
+        viewer.follows = None if refusal_in(frame) or word == b"unfollow" else viewer.last
+        return [frame]
+
+    def pushed(self, keeper, frame):
+        """Takes in a frame that a session of a run over a store is pushed."""
+        if keeper in self.sessions:
+            self.sessions[keeper].pushed(frame)
+
+    def pushed_to(self, line):
+        """How many frames were pushed to the session of a line."""
+        number = line.split()[1]
+        viewer = self.held.get(int(number)) if number.isdigit() else None
+        return viewer.pushed if viewer else 0
+
+    async def sum(self, viewer, words):
+        """The frames of a sum of two series, which is sent whole: it leaves what a client keeps as it is. Both are of one store."""
+        pair = [self.stores.inner.get(name.decode()) for name in words.split(b" ", 2)[:2]]
+        keepers = {known.keeper for known in pair if known}
+        if None in pair or len(keepers) > 1:
+            return [refusal(UNKNOWN_SERIES)]
+        frames, way = await self.whole(self.sessions_of(keepers.pop()), pair, viewer.cache, b"sum", words)
         self.counts.add("page_views_total", way=way)
         return frames
 
@@ -126,13 +174,13 @@ class Viewers:
             self.sessions[keeper] = Sessions(keeper, self.read.seconds / 10**9)
         return self.sessions[keeper]
 
-    async def whole(self, sessions, known, cache, words):
-        """The frames of a view for whoever has no session of its own, and whether they were asked for or are another viewer's, too."""
-        key, way = (sessions, cache, words), "shared"
-        run, count = await sessions.standing(), self.news.of(known.name) if known else 0
+    async def whole(self, sessions, series, cache, word, words):
+        """The frames of a view or a sum for whoever has no session of its own, and whether they were asked for or are another viewer's, too."""
+        key, way = (sessions, cache, word, words), "shared"
+        run, count = await sessions.standing(), [self.news.of(known.name) for known in series if known]
         shared = self.shared.pop(key, None)
         if shared is None or (shared.run, shared.count) != (run, count):
-            shared, way = Shared(count, run, sessions.whole(cache, words)), "whole"
+            shared, way = Shared(count, run, sessions.whole(cache, word, words)), "whole"
         self.shared[key] = shared
         try:
             return await asyncio.shield(shared.task), way
@@ -160,6 +208,7 @@ class Viewers:
         viewer = self.held.pop(number, None)
         if viewer:
             viewer.is_over = True
+            self.news.wake()
             self.close(viewer)
         return viewer is not None
 
@@ -174,5 +223,5 @@ class Viewers:
             self.let_go_of_gone()
 
     def let_go_of_gone(self):
-        for number in [number for number, viewer in self.held.items() if viewer.is_gone()]:
+        for number in [number for number, viewer in self.held.items() if viewer.is_over or viewer.is_gone()]:
             self.let_go(number)
