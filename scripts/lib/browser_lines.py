@@ -131,6 +131,15 @@ def draw_pushes(page):
     page.request(f"set sea {START + 51 * STEP} 0")
 
 
+# What has come isn't read until it is let go.
+HOLD_READING = """
+const { read } = ReadableStreamDefaultReader.prototype;
+const held = new Promise((done) => (window.letGo = done));
+ReadableStreamDefaultReader.prototype.read = async function () {
+  await held;
+  return read.call(this);
+};
+"""
 # The first words of the requests that the page sends from now on.
 COUNT = """
 window.requests = [];
@@ -170,10 +179,11 @@ def draw_followed(page):
         page.request(f"set sea {START + 24 * STEP} 12")
         follows(lambda: page.press("-"))
         page.compare_in_the_end()
-    # Many pushes wait while the page is busy. (A line between edits has each of them stored and pushed alone.)
-    browser.run("setTimeout(() => { for (const end = performance.now() + 1500; performance.now() < end; ); })")
-    for value in range(3):
+    # Many pushes wait while the page reads none. (A line between edits has each of them stored and pushed alone.)
+    browser.run(HOLD_READING)
+    for value in (1, 2):
         page.request("\nlist\n".join(f"set sea {START + slot * STEP} {slot * value}" for slot in range(20, 50)))
+    browser.run("window.letGo()")
     wait_for(lambda: "view" in requests(), "what changes too fast to be drawn one by one isn't asked for")
     page.compare_in_the_end()
     page.open("panel=sea&last=3600")

@@ -9,7 +9,10 @@ function eventOf(block) {
   return fields.event ? { name: fields.event, value: JSON.parse(fields.data) } : null;
 }
 
-/** The events of a session, as they come, until the stream ends or `cut` is aborted. Its holder is told of each sign of life. */
+/**
+ * The events of a session, as they come, until the stream ends or `cut` is aborted, each with how many have come behind it already. Its
+ * holder is told of each sign of life.
+ */
 export async function* readEvents(session, alive, cut) {
   let timer = setTimeout(() => cut.abort(), SILENCE);
   try {
@@ -22,7 +25,8 @@ export async function* readEvents(session, alive, cut) {
       alive();
       const blocks = (text + piece.value).split("\n\n");
       text = blocks.pop();
-      yield* blocks.map(eventOf).filter((event) => event !== null);
+      const events = blocks.map(eventOf).filter((event) => event !== null);
+      yield* events.map((event, at) => ({ ...event, behind: events.length - 1 - at }));
     }
   } finally {
     clearTimeout(timer);

@@ -5,11 +5,11 @@
 import { Panel } from "./panel.js";
 
 const STILL = 200; // milliseconds without a drawing
-const [PAUSE, MOST] = [5, 20]; // milliseconds between two pushes, and so many without one: what changes faster is told together, and asked for
+const MOST = 20; // events that may have come behind a push
 
 export class Followed {
   constructor(page) {
-    Object.assign(this, { page, timer: null, isPushed: false, ended: 0, inARow: 0 });
+    Object.assign(this, { page, timer: null, isPushed: false });
   }
 
   /** The panel whose view can be followed, or null. */
@@ -28,34 +28,30 @@ export class Followed {
     this.timer = this.panel() ? setTimeout(begin, STILL) : null;
   }
 
-  /** Draws a frame that was pushed. */
-  show(text) {
+  /**
+   * Draws a frame that was pushed, unless another view is being asked for. Where too much has come behind it the view is asked for anew, by
+   * which it isn't followed any more: so what changes faster than it is drawn is told together.
+   */
+  show(text, behind) {
     const began = performance.now();
     const { page } = this;
     performance.clearMeasures();
     try {
       const answer = page.connection.push(text);
-      if (answer && page.connection.follows) {
-        const panel = this.panel();
+      const panel = page.connection.follows && !page.isDrawing ? this.panel() : null;
+      if (answer && panel) {
         const { scales, spec, window } = panel;
         const range = spec.range ? panel.range : Panel.rangeOf([answer], scales);
         panel.show({ answers: [answer], window, range, scales }, page.look);
         this.isPushed = true;
         page.tellShown(began);
-        this.keepUp(began - this.ended);
+        if (behind >= MOST) {
+          page.draw();
+        }
       }
     } catch (error) {
       page.tellFault(error);
     }
-  }
-
-  /** Asks for the view anew, by which it isn't followed any more, where pushes come faster than they are drawn. */
-  keepUp(pause) {
-    this.inARow = pause < PAUSE ? this.inARow + 1 : 0;
-    if (this.inARow === MOST) {
-      this.page.draw();
-    }
-    this.ended = performance.now();
   }
 
   /** Whether a change is drawn, since a push came before it was told, and the window stands where it stood. */

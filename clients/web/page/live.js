@@ -103,11 +103,11 @@ export class Line {
   async listen() {
     const alive = () => this.status.is(this.late === null ? "live" : this.status.state);
     this.cut = new AbortController();
-    for await (const { name, value } of readEvents(this.page.connection.number, alive, this.cut)) {
+    for await (const { name, value, behind } of readEvents(this.page.connection.number, alive, this.cut)) {
       if (name === "changed") {
         this.change(value);
       } else if (name === "pushed") {
-        this.page.followed.show(value);
+        this.page.followed.show(value, behind);
       } else if (name === "alarms") {
         this.page.alarms.show(value);
       } else if (name === "ended") {
