@@ -15,6 +15,8 @@ mod loads;
 #[cfg(test)]
 mod plans;
 #[cfg(test)]
+mod reports;
+#[cfg(test)]
 mod served;
 #[cfg(test)]
 mod walks;

@@ -1,4 +1,4 @@
-//! Worlds in memory over a disk of 128 blocks, and what is done to them.
+//! Worlds in memory, and what is done to them.
 
 use block_disk::MemDisk;
 use chart_service::Service;
@@ -9,12 +9,17 @@ use served_lines::serve;
 use std::alloc::Global;
 use std::test::Fail;
 
-/// The disk of an empty store.
-pub(crate) fn empty(alloc: Global) -> Result<MemDisk, Fail> {
-    match make_store(alloc, MemDisk::new(alloc, 128, Vec::new(alloc))?) {
+/// The disk of an empty store, of so many blocks.
+pub(crate) fn empty_of(alloc: Global, blocks: u32) -> Result<MemDisk, Fail> {
+    match make_store(alloc, MemDisk::new(alloc, blocks, Vec::new(alloc))?) {
         Ok(disk) => Ok(disk),
         Err(_) => Err(Fail::new("no store was made")),
     }
+}
+
+/// The disk of an empty store, of 128 blocks.
+pub(crate) fn empty(alloc: Global) -> Result<MemDisk, Fail> {
+    empty_of(alloc, 128)
 }
 
 /// A world of this disk and this input, of which the takes of these numbers fail.
@@ -31,7 +36,12 @@ pub(crate) fn world_of(
 
 /// The disk behind `serve` on these lines over an empty store.
 pub(crate) fn behind(alloc: Global, lines: &[u8]) -> Result<MemDisk, Fail> {
-    let world = world_of(alloc, empty(alloc)?, lines, &[])?;
+    behind_on(alloc, empty(alloc)?, lines)
+}
+
+/// The disk behind `serve` on these lines over the store of a disk.
+pub(crate) fn behind_on(alloc: Global, disk: MemDisk, lines: &[u8]) -> Result<MemDisk, Fail> {
+    let world = world_of(alloc, disk, lines, &[])?;
     let Ok(store) = open_store(alloc, world) else {
         return Err(Fail::new("no store"));
     };
