@@ -4,13 +4,12 @@ import signal
 import subprocess
 import sys
 import time
-import urllib.request
 
 import browser_lines
 import browser_page
-from browser_driver import OPENER, require, wait_for
+from browser_driver import require, wait_for
 from browser_page import PROGRAM, ROOT, Page
-from built_program import SECONDS, Failed
+from built_program import Failed
 
 sys.path[:0] = [os.path.join(ROOT, "clients/python"), os.path.join(ROOT, "clients/python/tests")]
 
@@ -47,11 +46,6 @@ class Behind(Page):
         status, text = self.gateway.write(lines)
         require(status == 204, f"the gateway answers {status}: {text}")
 
-    def offers(self):
-        """What the gateway answers beside views."""
-        with OPENER.open(urllib.request.Request(f"{self.address}catalog", b""), timeout=SECONDS) as answer:
-            return (answer.headers["X-Chart-Offers"] or "").split()
-
     def alarms(self):
         return self.browser.run(READ_ALARMS)
 
@@ -86,7 +80,7 @@ def behind_gateway(browser, folder, screenshots):
         status, text = gateway.write(lines_of(0, browser_page.values_of(6000)))
         require(status == 204, text)
         page = Behind(browser, gateway, screenshots)
-        for step in (draw_alone, follow_alone, add_series, draw_in_a_crowd, show_alarms, call_by_labels, outlive_a_run, lose_gateway):
+        for step in (draw_alone, add_series, draw_in_a_crowd, show_alarms, call_by_labels, outlive_a_run, lose_gateway):
             step(page)
     except AssertionError as why:
         raise Failed(str(why)) from None
@@ -106,31 +100,12 @@ def draw_alone(page):
     require(page.alarms()["hidden"], f"alarms are shown where none stand: {page.alarms()}")
 
 
-def follow_alone(page):
-    """A view that is alone is followed, where the gateway has that: what is written is pushed, and nothing is asked for."""
-    from gateway_server import T
-
-    requests = lambda: page.browser.run("return window.requests")
-    page.open(f"panel=sea_v&from={T}&to={T + 7000}&zone=utc")
-    page.browser.run(browser_lines.COUNT)
-    page.do(lambda: page.browser.click("#in"))
-    if "follow" in page.offers():
-        wait_for(lambda: requests()[-2:] == ["view", "follow"], lambda: f"the page asks for {requests()}")
-        page.browser.run(browser_lines.COUNT)
-    for value in (111, -222, 333):
-        page.do(lambda: page.write(lines_of(3000, [value])))
-        page.compare()
-    require(requests() == [] or "follow" not in page.offers(), f"what is pushed is asked for, too: {requests()}")
-
-
 def add_series(page):
     """A sum is drawn as `derive` does, also behind writes, where the gateway answers sums; else it isn't offered, and told where it is asked for."""
     page.open("sum=1+sea_v+-3+sea_v&panel=tide_v&sum=1+sea_v+1+tide_v&zone=utc")
     told = page.read()["panels"]
     page.browser.click("#open_picker")
-    is_offered = not page.browser.run("return document.getElementById('add_sum').hidden")
-    require(is_offered == ("sum" in page.offers()), "the page doesn't offer what the gateway does")
-    if not is_offered:
+    if page.browser.run("return document.getElementById('add_sum').hidden"):
         require([panel["fault"] for panel in told] == ["this server answers no sums", "", "this server answers no sums"], f"the page says {told}")
         return
     apart = page.stores["sea_v"] != page.stores["tide_v"]
