@@ -1,5 +1,5 @@
 //! To whom a frame is pushed behind the clears of a rule.
-ghost use Rattle.std.specs.Prelude.{◌≡◌, IfErr, OnOk};
+ghost use Rattle.std.specs.Prelude.{IfErr, OnOk};
 ghost use Rattle.host_sweeps.specs.Steps.{PushesBehind};
 ghost use Rattle.live_view.specs.Live as follows;
 

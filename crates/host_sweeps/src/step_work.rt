@@ -1,5 +1,5 @@
 //! A step of a sweep, as a work on a store and on what answers the lines.
-ghost use Rattle.std.specs.Prelude.{◌≡◌, length};
+ghost use Rattle.std.specs.Prelude.{length};
 ghost use Rattle.chart_service.specs.Shown as shown;
 ghost use Rattle.host_sweeps.specs.Steps.{StepsService, StepsStore};
 ghost use Rattle.series_store.specs.Shown as stored;

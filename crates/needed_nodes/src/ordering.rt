@@ -1,4 +1,4 @@
-ghost use Rattle.std.specs.Prelude.{◌≡◌, ◌<◌, ◌+◌, ◌-◌, ◌*◌, ◌++◌, [], ◌∷◌, length, IfOk, OnOk, IsPermutation};
+ghost use Rattle.std.specs.Prelude.{◌≡◌, ◌<◌, ◌+◌, ◌-◌, ◌*◌, [], length, IfOk, OnOk, IsPermutation};
 ghost use Rattle.view_keys.specs.Listed.{AreInOrder};
 ghost use Rattle.needed_nodes.specs.Gathering.{AreApart};
 ghost use Rattle.needed_nodes.specs.Ordering.{order_number, AreSmallKeys};

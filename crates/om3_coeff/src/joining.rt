@@ -1,4 +1,4 @@
-ghost use Rattle.std.specs.Prelude.{◌≡◌, ◌↔◌, ◌&&◌, ◌+ℤ◌, ◌-ℤ◌, if◌then◌else◌, is_some, Option, Some, None, Ok, IfOk, IsErr, OnErr};
+ghost use Rattle.std.specs.Prelude.{◌≡◌, ◌↔◌, ◌&&◌, ◌-ℤ◌, if◌then◌else◌, is_some, Option, Some, None, Ok, IfOk, IsErr, OnErr};
 ghost use Rattle.om3_coeff.specs.declared.span.Span.{Span};
 ghost use Rattle.om3_coeff.specs.Spans.{hull, IsProperIfAny, is_proper};
 ghost use Rattle.whole_number.specs.Range.{IsValue};

@@ -1,5 +1,5 @@
 //! Tree pages among the pages of a space.
-ghost use Rattle.std.specs.Prelude.{◌≡◌, IsTrue, IsFalse};
+ghost use Rattle.std.specs.Prelude.{IsTrue, IsFalse};
 ghost use Rattle.block_disk.specs.Blocks.{IsBlock};
 ghost use Rattle.page_space.specs.Marks.{IsTreePage, IsNoTreePage};
 

@@ -1,5 +1,5 @@
 //! The sets of runs are done, by groups.
-ghost use Rattle.std.specs.Prelude.{◌≡◌, ◌≢◌, ◌<◌, ◌≤◌, length, IfOk, IfErr, OnOk};
+ghost use Rattle.std.specs.Prelude.{◌≡◌, ◌<◌, ◌≤◌, length, IfOk, IfErr, OnOk};
 ghost use Rattle.chart_world.specs.Faults.{CountsFault, fault_in};
 ghost use Rattle.run_ends.specs.Faults.{end_fault};
 ghost use Rattle.series_load.specs.Sets.{AreEdits};

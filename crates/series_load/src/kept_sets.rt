@@ -1,5 +1,5 @@
 //! The sets of runs that have ended and aren't done yet.
-ghost use Rattle.std.specs.Prelude.{◌≡◌, ◌↔◌, ◌≤◌, ◌++◌, ◌∷◌, [], IfOk, IfErr, OnOk};
+ghost use Rattle.std.specs.Prelude.{◌≡◌, ◌++◌, ◌∷◌, [], IfOk, IfErr, OnOk};
 ghost use Rattle.series_book.specs.Edits.{IsEdit};
 ghost use Rattle.series_load.specs.Sets.{AreEdits};
 ghost use Rattle.run_ends.specs.declared.ending.End.TheVariants.{NoMemory};
