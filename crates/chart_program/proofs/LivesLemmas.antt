@@ -12,7 +12,7 @@ use Rattle.program_words.specs.declared.words.Command.TheVariants.{Plot, Load, D
 use Rattle.store_commands.specs.Books.{begun}
 use Rattle.store_commands.proofs.HoldsAgain.{series_there}
 use Rattle.store_commands.specs.Loaded.{IsAheadLoad}
-use Rattle.store_commands.specs.Demonstrated.{IsAheadDemo}
+use Rattle.demo_workload.specs.Demonstrated.{IsAheadDemo}
 use Rattle.demo_workload.specs.Workload.{workload}
 use Rattle.chart_program.specs.HostLines.{LeavesHostLines}
 use Rattle.chart_program.proofs.HostRuns.{host_left, host_left_amid}

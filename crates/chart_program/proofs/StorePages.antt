@@ -9,7 +9,7 @@ use Rattle.run_ends.specs.declared.ending.End.TheVariants.{Missing, BadCoefficie
 use Rattle.series_export.specs.declared.window.Window.{Window}
 use Rattle.store_commands.specs.Away.{IsTurnedAway}
 use Rattle.store_commands.specs.Checked.{CheckEnds, IsCheckEnd}
-use Rattle.store_commands.specs.Demonstrated.{DemoEnds, IsDemoEnd}
+use Rattle.demo_workload.specs.Demonstrated.{DemoEnds, IsDemoEnd}
 use Rattle.store_commands.specs.Exported.{ExportEnds, ExportsPart, IsExportEnd}
 use Rattle.store_commands.specs.Listed.{IsListEnd, ListEnds}
 use Rattle.store_commands.specs.Unopened.{IsUnopenedEnd}

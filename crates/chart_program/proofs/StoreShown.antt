@@ -11,7 +11,7 @@ use Rattle.run_ends.specs.declared.ending.End.TheVariants.{Missing, BadCoefficie
 use Rattle.store_commands.specs.Away.{IsTurnedAway}
 use Rattle.store_commands.specs.Books.{HoldsAgain}
 use Rattle.store_commands.specs.Checked.{CheckEnds, IsCheckEnd}
-use Rattle.store_commands.specs.Demonstrated.{DemoEnds, IsDemoEnd}
+use Rattle.demo_workload.specs.Demonstrated.{DemoEnds, IsDemoEnd}
 use Rattle.store_commands.specs.Exported.{ExportEnds, ExportsPart, IsExportEnd}
 use Rattle.store_commands.specs.Listed.{IsListEnd, ListEnds}
 use Rattle.program_words.specs.declared.words.Command.TheVariants.{Check, Demo, Export, ListSeries}

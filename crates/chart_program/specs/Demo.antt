@@ -8,7 +8,7 @@ use Rattle.run_ends.specs.declared.ending.End.TheVariants.{Done, NoMemory, SendF
 use Rattle.run_ends.specs.declared.ending.End.TheVariants.{BadCoefficient, TooSmall}
 use Rattle.stored_book.specs.Damage.{IsBadForRequest}
 use Rattle.store_commands.specs.Books.{FromBook}
-use Rattle.store_commands.specs.Demonstrated.{AnswersFirst, LeavesDemo, SendsSummary, SendsSummaryPart}
+use Rattle.demo_workload.specs.Demonstrated.{AnswersFirst, LeavesDemo, SendsSummary, SendsSummaryPart}
 use Rattle.chart_program.specs.Course.{Course, FoundDamaged, FoundPage, HasFewBlocks, HeldNoBook, IsDoneOrCut, OverStore, SentNothing}
 use Rattle.chart_program.specs.Course.{StandsOn, TookNothing, count}
 

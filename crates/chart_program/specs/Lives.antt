@@ -19,7 +19,7 @@ use Rattle.program_words.specs.declared.words.Command.{Command}
 use Rattle.program_words.specs.declared.words.Command.TheVariants.{Plot, Load, Demo, Run, Serve, Draw, Init, Check, ListSeries, Export, Retain, Cover, Live, Host, Derive}
 use Rattle.store_commands.specs.Books.{begun}
 use Rattle.store_commands.specs.Loaded.{IsAheadLoad}
-use Rattle.store_commands.specs.Demonstrated.{AnswersFirst, IsAheadDemo}
+use Rattle.demo_workload.specs.Demonstrated.{AnswersFirst, IsAheadDemo}
 use Rattle.chart_program.specs.HostLines.{LeavesHostLines}
 use Rattle.chart_program.specs.Served.{Spelled, AreTexts, IsAheadOn}
 use Rattle.retain_command.specs.Sweeping.{IsAhead as IsAheadBy}

@@ -28,6 +28,7 @@ use block_disk::{Back, World};
 use chart_frames::laws::{
     length_is_told, more_bytes_mend_nothing, one_frame_a_spelling, spellings_are_good,
 };
+use demo_workload::run_demo;
 use derive_command::derive;
 use draw_command::laws::covers_narrow_to_the_picture;
 use draw_command::{DrawEnd, cover, draw};
@@ -42,7 +43,7 @@ use program_words::Command;
 use retain_command::retain;
 use run_ends::{End, Status, status_of};
 use std::alloc::Global;
-use store_commands::{check_store, export_values, list_series, load_series, run_demo};
+use store_commands::{check_store, export_values, list_series, load_series};
 
 /// Does a command with the world's input, output and disk, and says how that ended.
 pub(crate) fn status_of_command<W: World>(

@@ -6,3 +6,6 @@ pub mod Knowing
 pub mod Moved
 pub mod Stepped
 pub mod Faulting
+pub mod DemoRequests
+pub mod DemoSent
+pub mod DemoEnds

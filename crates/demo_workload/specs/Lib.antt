@@ -5,3 +5,5 @@ pub mod Summaries
 pub mod Replying
 pub mod Ending
 pub mod Answering
+pub mod Demonstrated
+pub mod Answered

@@ -10,10 +10,12 @@
 //!     view 1 demo 640 240 0 L auto        rounds 7, 15, 23 ..
 //!
 //! The requests are made one by one, and never held together. `run_workload` gives them to a service,
-//! and the replies to a client of it. Where the summary's line goes is left to the layer above.
+//! and the replies to a client of it. `run_demo` is the command `demo`: it does that over the store of a
+//! disk, and sends the summary's line. `specs/Demonstrated.antt` says what the disk holds and what was sent.
 #![tactic(auto)]
 
 mod answering;
+mod demo;
 mod draws;
 mod plans;
 mod requests;
@@ -21,6 +23,7 @@ pub mod running;
 pub mod summaries;
 pub mod workloads;
 
+pub use demo::run_demo;
 pub use running::run_workload;
 pub use summaries::Summary;
 pub use workloads::Workload;

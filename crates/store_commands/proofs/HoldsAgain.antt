@@ -16,12 +16,7 @@ use Rattle.chart_service.specs.State.{State}
 use Rattle.series_load.specs.Sets.{IsAfterSome}
 use Rattle.run_ends.specs.declared.ending.End.{End}
 use Rattle.run_ends.specs.declared.ending.End.TheVariants as ends
-use Rattle.demo_workload.specs.declared.summaries.Summary.{Summary}
-use Rattle.request_lines.specs.declared.requests.Request.{Request}
-use Rattle.demo_workload.specs.Replying.{Summarizes}
 use Rattle.chart_world.specs.LineLaws.{told_so}
-use Rattle.store_commands.specs.Demonstrated.{AnswersFirst}
-use Rattle.store_commands.specs.Answering.{Answered}
 use Rattle.store_commands.specs.Books.{FromBook, HoldsAgain, HoldsPages, OfBook}
 use Rattle.store_commands.specs.Storing.{Stores}
 use Rattle.store_commands.specs.Traffic.{Traffic}
@@ -71,12 +66,6 @@ again_loaded name count old new t answer other s = λ total book holds.
           let there = series_there book name id is in
           after_held count total name book there.0 t.left new (s.some other total book holds there.0 (record { id = id; id_is = is; there = there.1 }))
     ]) refl
-
--- ---- a workload
-
-pub again_answered : (requests : List Request) (count : ℕ) (old new : View) (answer : Result Summary End) → answer ≢ Err ends.DiskFault → Answered requests count old new answer → HoldsAgain count old new
-again_answered requests count old new (Ok summary) other a = again_from count old new (λ start state. Summarizes requests start state summary) a.done
-again_answered requests count old new (Err end) other a = again_from count old new (AnswersFirst requests) (a.stopped (λ is. other (ap Err is)))
 
 -- where a part of an input was done
 pub again_told : (count : ℕ) (old new : View) (left : Option (List ℕ)) (S : ℕ → List Series → List ℕ → Type 0)

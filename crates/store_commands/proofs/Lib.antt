@@ -9,9 +9,6 @@ pub mod Unopened
 pub mod ListEnds
 pub mod ExportEnds
 pub mod CopyLemmas
-pub mod DemoRequests
-pub mod DemoSent
-pub mod DemoEnds
 pub mod TurnedAway
 pub mod WorldLemmas
 pub mod Damages

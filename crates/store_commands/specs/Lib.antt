@@ -18,7 +18,5 @@ pub mod Listed
 pub mod Exported
 pub mod Exporting
 pub mod Copied
-pub mod Demonstrated
-pub mod Answering
 pub mod Faulting
 pub mod Laws

@@ -14,7 +14,7 @@ use Rattle.run_ends.specs.declared.ending.End.TheVariants.{NoMemory, DiskFault, 
 use Rattle.stored_book.specs.Damage.{IsBadForRequest}
 use Rattle.store_commands.specs.Damaged.{IsDamagedLater}
 use Rattle.store_commands.specs.Books.{OfBook, FromBook}
-use Rattle.store_commands.specs.Demonstrated.{AnswersFirst, LeavesDemo}
+use Rattle.demo_workload.specs.Demonstrated.{AnswersFirst, LeavesDemo}
 
 -- why a workload wasn't answered to its end; want of memory is free
 abbrev pub IsEndCause : End → ℕ → View → View → Type 0

@@ -1,25 +1,28 @@
 -- How a demo ends.
-use Rattle.std.proofs.Common.{◌≡◌, ◌≢◌, ℕ, List, Option, Err, sym, subst, inl, inr}
+use Rattle.std.proofs.Common.{◌≡◌, ◌≢◌, ℕ, List, Option, Result, Ok, Err, sym, subst, ap, inl, inr}
 use Rattle.block_disk.specs.View.{View, sent_now}
 use Rattle.gate_pages.specs.Journal.{page_count}
 use Rattle.request_lines.specs.declared.requests.Request.{Request}
 use Rattle.disk_store.specs.Openings.{Opens}
 use Rattle.disk_store.specs.declared.causes.OpeningCause.{OpeningCause}
 use Rattle.disk_store.specs.declared.causes.OpeningCause.TheVariants as opening
+use Rattle.demo_workload.specs.declared.summaries.Summary.{Summary}
 use Rattle.demo_workload.specs.Ending.{IsOutside}
+use Rattle.demo_workload.specs.Replying.{Summarizes}
 use Rattle.demo_workload.specs.Workload.{workload}
 use Rattle.run_ends.specs.declared.ending.End.{End}
 use Rattle.run_ends.specs.declared.ending.End.TheVariants.{NoMemory, DiskFault, DamagedPage, Missing, BadCoefficient}
-use Rattle.store_commands.specs.Books.{begun}
+use Rattle.store_commands.specs.Books.{HoldsAgain, begun}
 use Rattle.store_commands.specs.Status.{opening_end}
 use Rattle.store_commands.specs.Unopened.{IsUnopenedEnd}
 use Rattle.store_commands.proofs.Held.{held}
+use Rattle.store_commands.proofs.HoldsAgain.{again_from}
 use Rattle.store_commands.proofs.Moments.{since_opened, opened_goes}
 use Rattle.store_commands.proofs.Unopened.{unopened_end}
 use Rattle.store_commands.proofs.WorldLemmas.{IsUnopened}
-use Rattle.store_commands.specs.Demonstrated.{DemoEnds, IsAheadDemo, IsDemoEnd, LeavesDemo}
-use Rattle.store_commands.specs.Answering.{Answered}
-use Rattle.store_commands.proofs.DemoRequests.{first_none, ahead_none}
+use Rattle.demo_workload.specs.Demonstrated.{AnswersFirst, DemoEnds, IsAheadDemo, IsDemoEnd, LeavesDemo}
+use Rattle.demo_workload.specs.Answered.{Answered}
+use Rattle.demo_workload.proofs.DemoRequests.{first_none, ahead_none}
 
 -- ---- no store was opened
 
@@ -65,3 +68,9 @@ stopped seed rounds old new before now sends sends_now end a same = absurd a.cau
 pub stopped_ends : (seed rounds : ℕ) (old new : View) (before now : Option (List ℕ)) (sends sends_now : ℕ) (end : End) → Answered (workload seed rounds) (page_count old.size) old new (Err end) → now ≡ before
     → DemoEnds seed rounds old new before now sends sends_now end
 stopped_ends seed rounds old new before now sends sends_now end a same = record { is = stopped seed rounds old new before now sends sends_now end a same; crash = a.crash; honest = a.honest; goes_on = a.goes_on }
+
+-- ---- a disk that held a book holds one again
+
+pub again_answered : (requests : List Request) (count : ℕ) (old new : View) (answer : Result Summary End) → answer ≢ Err DiskFault → Answered requests count old new answer → HoldsAgain count old new
+again_answered requests count old new (Ok summary) other a = again_from count old new (λ start state. Summarizes requests start state summary) a.done
+again_answered requests count old new (Err end) other a = again_from count old new (AnswersFirst requests) (a.stopped (λ is. other (ap Err is)))

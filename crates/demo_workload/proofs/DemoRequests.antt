@@ -29,8 +29,8 @@ use Rattle.demo_workload.specs.Replying.{Summarizes, IsPartWay}
 use Rattle.store_commands.specs.Books.{OfBook, FromBook, begun}
 use Rattle.store_commands.proofs.Held.{RestsNew, held, stands_held, within_held, from_book}
 use Rattle.store_commands.proofs.Moments.{since_opened, since_worked, on_book, opened_quiet, opened_goes}
-use Rattle.store_commands.specs.Demonstrated.{AnswersFirst, IsAheadDemo, LeavesDemo}
-use Rattle.store_commands.specs.Answering.{Answered, IsEndCause}
+use Rattle.demo_workload.specs.Demonstrated.{AnswersFirst, IsAheadDemo, LeavesDemo}
+use Rattle.demo_workload.specs.Answered.{Answered, IsEndCause}
 
 -- ---- before the first request
 

@@ -7,10 +7,10 @@ use Rattle.run_ends.specs.declared.ending.End.TheVariants.{DiskFault}
 use Rattle.run_ends.specs.Faults.{end_fault}
 use Rattle.demo_workload.specs.Workload.{workload}
 use Rattle.store_commands.proofs.Stores.{store_disk, store_sound}
-use Rattle.store_commands.specs.Answering.{Answered}
+use Rattle.demo_workload.specs.Answered.{Answered}
 use Rattle.store_commands.proofs.Held.{rests_new}
-use Rattle.store_commands.proofs.DemoRequests.{answered_by}
-use Rattle.store_commands.proofs.demo.answer_all.Goals as goal
+use Rattle.demo_workload.proofs.DemoRequests.{answered_by}
+use Rattle.demo_workload.proofs.demo.answer_all.Goals as goal
 
 pub returns-clause-answered : goal.returns-clause-answered
 returns-clause-answered g c =

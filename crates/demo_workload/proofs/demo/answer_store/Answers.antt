@@ -5,9 +5,9 @@ use Rattle.series_store.specs.Shown as shown
 use Rattle.run_ends.specs.declared.ending.End.TheVariants.{NoMemory}
 use Rattle.demo_workload.specs.Workload.{workload}
 use Rattle.store_commands.proofs.Stores.{store_disk}
-use Rattle.store_commands.specs.Answering.{Answered}
-use Rattle.store_commands.proofs.DemoRequests.{answered_none}
-use Rattle.store_commands.proofs.demo.answer_store.Goals as goal
+use Rattle.demo_workload.specs.Answered.{Answered}
+use Rattle.demo_workload.proofs.DemoRequests.{answered_none}
+use Rattle.demo_workload.proofs.demo.answer_store.Goals as goal
 
 pub returns-in-Err-clause-answered : goal.returns-in-Err-clause-answered
 returns-in-Err-clause-answered g c =

@@ -9,18 +9,18 @@ use Rattle.run_ends.specs.declared.ending.End.{End}
 use Rattle.store_commands.specs.Faulting.{counts_unopened_end}
 use Rattle.demo_workload.specs.Summaries.{summary_line}
 use Rattle.demo_workload.specs.Workload.{workload}
-use Rattle.store_commands.proofs.DemoRequests.{answered_opened}
-use Rattle.store_commands.proofs.DemoSent.{sent_ends}
-use Rattle.store_commands.proofs.DemoEnds.{undemonstrated, stopped_ends}
+use Rattle.demo_workload.proofs.DemoRequests.{answered_opened}
+use Rattle.demo_workload.proofs.DemoSent.{sent_ends}
+use Rattle.demo_workload.proofs.DemoEnds.{again_answered, undemonstrated, stopped_ends}
 use Rattle.std.specs.Prelude.{◌≤◌}
 use Rattle.block_disk.specs.View.{sent_now}
 use Rattle.gate_pages.specs.Journal.{page_count}
 use Rattle.demo_workload.specs.declared.summaries.Summary.{Summary}
 use Rattle.run_ends.specs.declared.ending.End.TheVariants.{DiskFault}
-use Rattle.store_commands.proofs.HoldsAgain.{again_opened, again_sent, again_answered}
+use Rattle.store_commands.proofs.HoldsAgain.{again_opened, again_sent}
 use Rattle.store_commands.proofs.TurnedAway.{away_never}
 use Rattle.store_commands.proofs.WorldLemmas.{away_over, unopened_over}
-use Rattle.store_commands.proofs.demo.run_demo.Goals as goal
+use Rattle.demo_workload.proofs.demo.run_demo.Goals as goal
 
 pub returns-in-Ok-answer-clause-ends : goal.returns-in-Ok-answer-clause-ends
 returns-in-Ok-answer-clause-ends g c =

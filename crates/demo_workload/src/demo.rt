@@ -6,24 +6,24 @@ ghost use Rattle.gate_pages.specs.Journal.{page_count};
 ghost use Rattle.series_store.specs.Shown as shown;
 ghost use Rattle.chart_service.specs.Shown as service_shown;
 ghost use Rattle.demo_workload.specs.Workload.{workload};
-ghost use Rattle.store_commands.specs.Answering.{Answered};
+ghost use Rattle.demo_workload.specs.Answered.{Answered};
 ghost use Rattle.run_ends.specs.Faults.{end_fault};
 ghost use Rattle.run_ends.specs.Statuses.{status_of};
 ghost use Rattle.store_commands.specs.Away.{TurnsAway};
 ghost use Rattle.store_commands.specs.Books.{HoldsAgain};
-ghost use Rattle.store_commands.specs.Demonstrated.{DemoEnds};
+ghost use Rattle.demo_workload.specs.Demonstrated.{DemoEnds};
 ghost use Rattle.store_commands.specs.Traffic.{traffic};
 
-use crate::opening::opening_end;
-use crate::sending::send_text;
+use crate::running::run_workload;
+use crate::summaries::Summary;
 use block_disk::{Back, World};
 use chart_service::Service;
-use demo_workload::{Summary, run_workload};
 use disk_store::{disk_of, open_store};
 use gate_pages::GatePages;
 use run_ends::End;
 use series_store::Store;
 use std::alloc::Global;
+use store_commands::{opening_end, send_text};
 
 /// Answers the workload of a seed with so many rounds over the store of the world's disk, draws what is sent
 /// for it, and sends one line: `requests R done D refused F views V sent S black P`.

@@ -13,8 +13,8 @@ use Rattle.demo_workload.specs.Workload.{workload}
 use Rattle.demo_workload.proofs.Replies.{pictures_answers}
 use Rattle.store_commands.specs.Books.{begun, FromBook}
 use Rattle.store_commands.proofs.Moments.{since_sent}
-use Rattle.store_commands.specs.Demonstrated.{AnswersFirst, DemoEnds, IsAheadDemo, IsDemoEnd, LeavesDemo, SendsSummary, SendsSummaryPart}
-use Rattle.store_commands.specs.Answering.{Answered}
+use Rattle.demo_workload.specs.Demonstrated.{AnswersFirst, DemoEnds, IsAheadDemo, IsDemoEnd, LeavesDemo, SendsSummary, SendsSummaryPart}
+use Rattle.demo_workload.specs.Answered.{Answered}
 use Rattle.run_ends.specs.declared.ending.End.{End}
 use Rattle.run_ends.specs.declared.ending.End.TheVariants as ends
 use Rattle.store_commands.specs.Sending.{IsSent, SendsText}
