@@ -34,7 +34,8 @@ use Rattle.chart_program.specs.HostLines.{asks_sweep}
 use Rattle.chart_program.specs.Lives.{BeginsOn, IsLeftAt}
 use Rattle.chart_program.specs.Ran.{CommandEnds, Leaves}
 use Rattle.chart_program.specs.Served.{Faults, AreTexts}
-use Rattle.live_command.specs.Ended.{LeavesLived, begun_live}
+use Rattle.live_command.specs.Ended.{LeavesLived}
+use Rattle.hosted_lines.specs.Begun.{begun_live}
 use Rattle.chart_program.proofs.CommandsEnd.{small_never}
 use Rattle.chart_program.proofs.HostRuns.{quiet_left}
 use Rattle.chart_program.proofs.LiveRuns.{live_follows}

@@ -5,7 +5,7 @@ use Rattle.chart_world.specs.LineLaws.{told_so}
 use Rattle.gate_pages.specs.Journal.{page_count}
 use Rattle.host_command.specs.Ended.{CostsHosting, HostEnds, IsHostCause}
 use Rattle.hosted_lines.specs.Running.{EndsSo}
-use Rattle.live_command.specs.Ended.{begun_live}
+use Rattle.hosted_lines.specs.Begun.{begun_live}
 use Rattle.run_ends.specs.Statuses.{status_of}
 use Rattle.run_ends.specs.declared.ending.End.{End}
 use Rattle.run_ends.specs.declared.ending.End.TheVariants.{Done, NoMemory, ReadFault, SendFault, DiskFault}

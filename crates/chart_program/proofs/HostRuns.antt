@@ -19,7 +19,7 @@ use Rattle.host_sweeps.specs.Sweeping.{SweepReplied, most_clears, step_clears}
 use Rattle.hosted_lines.specs.Hosts.{AnswersLine, DoesGroup, Event, Happens, InRow, IsPassed, MakesPush, Reports, Sweeps, answer, clears_asked, group, lines_in, push, report, sweep}
 use Rattle.hosted_lines.specs.Running.{FirstLines}
 use Rattle.live_service.specs.LiveReplies.{LiveState}
-use Rattle.live_command.specs.Ended.{begun_live}
+use Rattle.hosted_lines.specs.Begun.{begun_live}
 use Rattle.request_lines.specs.Grammar.{kind_of, fault_of}
 use Rattle.request_lines.specs.Requests.{read_line}
 use Rattle.request_lines.specs.Tokens.{tokens}

@@ -3,7 +3,8 @@ use Rattle.std.proofs.Common.{ℕ, List, IfSome, arith}
 use Rattle.block_disk.specs.View.{View}
 use Rattle.chart_world.specs.LineLaws.{told_so}
 use Rattle.gate_pages.specs.Journal.{page_count}
-use Rattle.live_command.specs.Ended.{IsLiveCause, LiveEnds, ReadsLiving, SyncsLiving, begun_live}
+use Rattle.live_command.specs.Ended.{IsLiveCause, LiveEnds, ReadsLiving, SyncsLiving}
+use Rattle.hosted_lines.specs.Begun.{begun_live}
 use Rattle.live_command.specs.Running.{EndsSo}
 use Rattle.run_ends.specs.Statuses.{status_of}
 use Rattle.run_ends.specs.declared.ending.End.{End}

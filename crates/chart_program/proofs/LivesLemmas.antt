@@ -21,7 +21,7 @@ use Rattle.chart_program.specs.Ran.{Leaves, LeavesTold}
 use Rattle.chart_program.specs.Served.{Says, Spelled, AreTexts, IsAheadOn}
 use Rattle.retain_command.specs.Sweeping.{IsAhead as IsAheadBy}
 use Rattle.hosted_lines.specs.Running.{IsAhead as IsAheadHosted}
-use Rattle.live_command.specs.Ended.{begun_live}
+use Rattle.hosted_lines.specs.Begun.{begun_live}
 use Rattle.live_command.specs.Running.{IsAhead as IsAheadLive}
 
 -- ---- a run is a life

@@ -5,7 +5,7 @@ use Rattle.block_disk.specs.View.{View}
 use Rattle.host_command.specs.Ended.{CostsHosting, LeavesHosted}
 use Rattle.hosted_lines.specs.HostCauses.{IsBadForHost}
 use Rattle.hosted_lines.specs.Running.{SendsAll, SendsLines, SendsPart, SendsSome, SendsTaken, SendsWithin}
-use Rattle.live_command.specs.Ended.{begun_live}
+use Rattle.hosted_lines.specs.Begun.{begun_live}
 use Rattle.run_ends.specs.declared.ending.End.{End}
 use Rattle.run_ends.specs.declared.ending.End.TheVariants.{Done, NoMemory, ReadFault, SendFault, DiskFault}
 use Rattle.run_ends.specs.declared.ending.End.TheVariants.{DamagedBlock, DamagedPage, InputTooLong, TooSmall}

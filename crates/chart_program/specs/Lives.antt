@@ -24,7 +24,7 @@ use Rattle.chart_program.specs.HostLines.{LeavesHostLines}
 use Rattle.chart_program.specs.Served.{Spelled, AreTexts, IsAheadOn}
 use Rattle.retain_command.specs.Sweeping.{IsAhead as IsAheadBy}
 use Rattle.hosted_lines.specs.Running.{IsAhead as IsAheadHosted}
-use Rattle.live_command.specs.Ended.{begun_live}
+use Rattle.hosted_lines.specs.Begun.{begun_live}
 use Rattle.live_command.specs.Running.{IsAhead as IsAheadLive}
 
 -- ---- one life

@@ -41,8 +41,8 @@ use Rattle.hosted_lines.specs.HostCauses.{IsBadForHost, IsHostCause as IsRunCaus
 use Rattle.hosted_lines.specs.Hosts.{Counted}
 use Rattle.hosted_lines.specs.Running.{CostsLines, EndsSo, FirstLines, IsAhead, SendsAll}
 use Rattle.hosted_lines.proofs.AmidLemmas.{amid_book, amid_same}
-use Rattle.live_command.specs.Ended.{begun_live}
-use Rattle.live_command.proofs.DiskLemmas.{disk_side}
+use Rattle.hosted_lines.specs.Begun.{begun_live}
+use Rattle.hosted_lines.proofs.DiskSides.{disk_side}
 use Rattle.host_command.specs.Ended.{CostsFrom, CostsHosting, HostEnds, IsHostCause, LeavesHosted}
 use Rattle.host_command.specs.Ending.{IsServeCause, Served}
 

@@ -15,8 +15,8 @@ use Rattle.drawn_replies.specs.Pictures.{AcceptsAll, NoneRejected}
 use Rattle.hosted_lines.specs.Hosts.{Event, Happens, InRow, answer, group, lines_in, push, report, sweep}
 use Rattle.hosted_lines.specs.Running.{HostedBy}
 use Rattle.hosted_lines.proofs.SpelledLemmas.{sound_edits}
-use Rattle.live_command.specs.Drawn.{IsFirst}
-use Rattle.live_command.proofs.Drawing.{AreShort, Following, Laws, answered_well, are_short, first_mirrors, first_well}
+use Rattle.live_service.specs.Showing.{IsFirst}
+use Rattle.live_service.proofs.FollowLemmas.{AreShort, Following, Laws, answered_well, are_short, first_mirrors, first_well}
 use Rattle.live_service.specs.Following.{FollowsWell}
 use Rattle.live_service.specs.LiveReplies.{GroupReplied, LiveState}
 use Rattle.request_lines.specs.declared.requests.Request.{Request}

@@ -12,7 +12,7 @@ use Rattle.host_lines.specs.declared.asked.HostLine.{HostLine}
 use Rattle.host_lines.specs.declared.asked.HostLine.TheVariants.{List as ListLine, Values, Sum, Sweep, Bad, Other}
 use Rattle.host_replies.specs.Replies.{Reported}
 use Rattle.hosted_lines.specs.Hosts.{DoesGroup, Event, Sweeps, answer, group, lines_in, push, report, sweep}
-use Rattle.live_command.specs.Drawn.{ShowsPush}
+use Rattle.live_service.specs.Showing.{ShowsPush}
 use Rattle.live_service.specs.LiveReplies.{LiveReplied, LiveState}
 use Rattle.series_book.specs.declared.one_series.Series.{Series}
 use Rattle.series_pair.specs.Derived.{IsDerivedChart}

@@ -1,26 +1,35 @@
 -- How `host` ends over the store of a disk.
-use Rattle.std.specs.Prelude.{◌≢◌, ℕ, ◌+◌, ◌≤◌, List, IfSome}
+use Rattle.std.specs.Prelude.{◌≡◌, ◌≢◌, ℕ, ◌+◌, ◌<◌, ◌≤◌, List, IfSome, ⊤}
+use Rattle.block_disk.specs.Counts.{HasRisen}
 use Rattle.block_disk.specs.View.{Honest, View, sent_now}
 use Rattle.chart_service.specs.Moments.{Since}
 use Rattle.gate_pages.specs.Journal.{page_count}
 use Rattle.gate_pages.specs.Pages.{GoesOn}
 use Rattle.run_ends.specs.declared.ending.End.{End}
-use Rattle.run_ends.specs.declared.ending.End.TheVariants.{DamagedPage, DiskFault}
+use Rattle.run_ends.specs.declared.ending.End.TheVariants.{Done, NoMemory, ReadFault, SendFault, DiskFault, DamagedBlock, DamagedPage, InputTooLong, TooSmall}
 use Rattle.run_ends.specs.Statuses.{block_of}
 use Rattle.stored_book.specs.Standing.{RecoversTo}
 use Rattle.store_commands.specs.Books.{HoldsAgain, OfBook, Holds}
-use Rattle.store_commands.specs.Damaged.{IsDamagedLater}
-use Rattle.store_commands.specs.Traffic.{Traffic}
+use Rattle.store_commands.specs.Damaged.{IsDamagedAtFirst, IsDamagedLater}
+use Rattle.store_commands.specs.Traffic.{IsLong, Traffic, WasRead}
 use Rattle.hosted_lines.specs.HostCauses.{IsBadForHost}
 use Rattle.hosted_lines.specs.Running.{CostsLines, EndsSo, IsAhead}
-use Rattle.live_command.specs.Ended.{IsLiveCause, begun_live}
+use Rattle.hosted_lines.specs.Begun.{begun_live}
 use Rattle.disk_store.specs.Openings.{SyncsOpening}
 
--- Why `host` ended, whatever the disk holds: as `live`, but a page that is called damaged may also be one of the tree of some
--- series that is bad for its place.
+-- Why `host` ended, whatever the disk holds. Where its store wasn't opened no input was taken and nothing was sent. A page that is
+-- called damaged is so for a request, or is one of the tree of some series that is bad for its place.
 abbrev pub IsHostCause : End → View → View → Traffic → Type 0
+IsHostCause Done old new t = WasRead t.left t.left_now
+IsHostCause NoMemory old new t = ⊤
+IsHostCause ReadFault old new t = HasRisen t.reads t.reads_now
+IsHostCause SendFault old new t = HasRisen t.sends t.sends_now
+IsHostCause DiskFault old new t = HasRisen old.faults new.faults
+IsHostCause (DamagedBlock block) old new t = IsDamagedAtFirst old block × ((t.left_now ≡ t.left) × (t.sent_now ≡ t.sent))
 IsHostCause (DamagedPage page) old new t = IsDamagedLater IsBadForHost (page_count old.size) new (block_of page)
-IsHostCause end old new t = IsLiveCause end old new t
+IsHostCause InputTooLong old new t = IsLong t.left
+IsHostCause (TooSmall blocks) old new t = (blocks ≡ old.size) × (old.size < 128)
+IsHostCause end old new t = ⊥
 
 -- At each moment a crash leaves an image that recovers to a book with each edit whose Done was sent whole by then, and with
 -- at most 64 edits more.

@@ -8,7 +8,7 @@ use Rattle.chart_service.specs.State.{IsSound}
 use Rattle.drawn_replies.specs.Mirrors.{Mirrors}
 use Rattle.drawn_replies.specs.Pictures.{AcceptsAll}
 use Rattle.hosted_lines.specs.Running.{HostedBy}
-use Rattle.live_command.specs.Drawn.{IsFirst}
+use Rattle.live_service.specs.Showing.{IsFirst}
 use Rattle.live_service.specs.LiveReplies.{LiveState}
 use Rattle.host_command.specs.Drawn.{PicturesLines}
 

@@ -4,7 +4,7 @@ ghost use Rattle.chart_frames.specs.declared.frame.Frame.{Frame};
 ghost use Rattle.chart_service.specs.State.{IsSound};
 ghost use Rattle.drawn_replies.specs.Pictures.{NoneRejected};
 ghost use Rattle.hosted_lines.specs.Running.{HostedBy};
-ghost use Rattle.live_command.specs.Drawn.{IsFirst};
+ghost use Rattle.live_service.specs.Showing.{IsFirst};
 ghost use Rattle.live_service.specs.LiveReplies.{LiveState};
 ghost use Rattle.host_command.specs.Laws.{HostsDrawTheBook};
 

@@ -15,3 +15,4 @@ pub mod TurnLemmas
 pub mod FrontLemmas
 pub mod EndLemmas
 pub mod SendLemmas
+pub mod DiskSides

@@ -12,3 +12,4 @@ pub mod Working
 pub mod WorkLaws
 pub mod Running
 pub mod Served
+pub mod Begun

@@ -33,7 +33,9 @@ use Rattle.store_commands.specs.Status.{opening_end}
 use Rattle.store_commands.specs.Traffic.{IsLong, Traffic, WasRead}
 use Rattle.zoom_session.specs.declared.session.Session.{Session}
 use Rattle.hosted_lines.specs.Doing.{Goes, IsCause, Side}
-use Rattle.live_command.specs.Ended.{IsLiveCause, LeavesLived, LiveEnds, ReadsFrom, ReadsLiving, SyncsLiving, begun_live}
+use Rattle.hosted_lines.specs.Begun.{begun_live}
+use Rattle.hosted_lines.proofs.DiskSides.{disk_side}
+use Rattle.live_command.specs.Ended.{IsLiveCause, LeavesLived, LiveEnds, ReadsFrom, ReadsLiving, SyncsLiving}
 use Rattle.live_command.specs.Ending.{IsServeCause, Served}
 use Rattle.hosted_lines.specs.Reads.{ReadsLines}
 use Rattle.live_command.specs.Running.{EndsSo, IsAhead, SendsAll}
@@ -82,9 +84,6 @@ ahead_on total input old from sent count crash within all image left =
     (lowered_is count crash Q total_of book_of stand all image left)
 
 -- ---- the lines of an input over the pages of a disk, which is at rest afterwards unless a call of it failed
-
-abbrev pub disk_side : ℕ → Bool → View → ℕ → ℕ → Side
-disk_side count sound disk reads sends = record { told = Honest disk; view = pages_view count sound disk; under = disk; read_faults = reads; send_faults = sends }
 
 -- from the state on that a service without sessions begins with
 module _ (count count' : ℕ) (sound sound' : Bool) (old new : View) (t : Traffic) (goes : Goes (disk_side count sound old t.reads t.sends) (disk_side count' sound' new t.reads_now t.sends_now)) (rests : RestsNew count old) (state : ℕ → List Series → LiveState) (begins : (total : ℕ) (book : List Series) → state total book ≡ begun_live total book) where
@@ -140,11 +139,6 @@ module _ (count count' : ℕ) (sound sound' : Bool) (old new : View) (t : Traffi
     honest = goes.is_told;
     goes_on = goes.goes_on;
   }
-
--- a service without sessions, by which no one is followed
-pub begins_so : (total : ℕ) (book : List Series) (sessions : List Session) (followed pending : List ℕ) → sessions ≡ [] → followed ≡ [] → pending ≡ [] → live_of (state_of book total sessions) followed pending ≡ begun_live total book
-begins_so total book sessions followed pending none none_followed none_pending =
-    ap (λ s. live_of (state_of book total s) followed pending) none ∙ ap (λ f. live_of (state_of book total []) f pending) none_followed ∙ ap (λ p. live_of (state_of book total []) [] p) none_pending
 
 -- ---- the store is opened first
 

@@ -2,6 +2,5 @@ pub mod RunLemmas
 pub mod ReadLemmas
 pub mod SyncLemmas
 pub mod FaultLemmas
-pub mod LiveShown
 pub mod DiskLemmas
 pub mod Drawing

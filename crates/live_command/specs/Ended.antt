@@ -1,30 +1,24 @@
 -- How `live` ends over the store of a disk.
-use Rattle.std.specs.Prelude.{◌≡◌, ◌≢◌, ℕ, ◌+◌, ◌<◌, ◌≤◌, List, [], Option, IfSome, ⊤}
+use Rattle.std.specs.Prelude.{◌≡◌, ◌≢◌, ℕ, ◌+◌, ◌<◌, ◌≤◌, List, Option, IfSome, ⊤}
 use Rattle.block_disk.specs.Counts.{HasRisen}
 use Rattle.block_disk.specs.View.{Honest, View, sent_now}
 use Rattle.chart_service.specs.Moments.{Since}
 use Rattle.disk_store.specs.Openings.{SyncsOpening}
 use Rattle.gate_pages.specs.Journal.{page_count}
 use Rattle.gate_pages.specs.Pages.{GoesOn}
-use Rattle.live_service.specs.LiveReplies.{LiveState}
-use Rattle.live_service.specs.Shown.{live_of}
-use Rattle.series_book.specs.declared.one_series.Series.{Series}
 use Rattle.stored_book.specs.Damage.{IsBadForRequest}
 use Rattle.stored_book.specs.Standing.{RecoversTo}
-use Rattle.store_commands.specs.Books.{HoldsAgain, OfBook, begun, Holds}
+use Rattle.store_commands.specs.Books.{HoldsAgain, OfBook, Holds}
 use Rattle.store_commands.specs.Damaged.{IsDamagedAtFirst, IsDamagedLater}
 use Rattle.store_commands.specs.Traffic.{IsLong, Traffic, WasRead}
 use Rattle.run_ends.specs.Statuses.{block_of}
 use Rattle.run_ends.specs.declared.ending.End.{End}
 use Rattle.run_ends.specs.declared.ending.End.TheVariants.{Done, NoMemory, ReadFault, SendFault, DiskFault, DamagedBlock, DamagedPage}
 use Rattle.run_ends.specs.declared.ending.End.TheVariants.{InputTooLong, TooSmall}
+use Rattle.hosted_lines.specs.Begun.{begun_live}
 use Rattle.hosted_lines.specs.Reads.{ReadsLines}
 use Rattle.live_command.specs.Syncs.{SyncsLines}
 use Rattle.live_command.specs.Running.{EndsSo, IsAhead, SendsAll, SendsLines, SendsPart, SendsSome, SendsTaken, SendsWithin}
-
--- how the command begins: with the book that the disk holds, no session, and so no one that follows
-abbrev pub begun_live : ℕ → List Series → LiveState
-begun_live total book = live_of (begun total book) [] []
 
 -- all lines of the input are answered, all pushes are made, and all these frames were sent
 abbrev pub LivesAll : ℕ → View → View → List ℕ → Option (List ℕ) → Option (List ℕ) → Type 0

@@ -7,7 +7,8 @@ use Rattle.chart_service.specs.Serving.{told}
 use Rattle.chart_service.specs.State.{IsSound}
 use Rattle.drawn_replies.specs.Mirrors.{Mirrors}
 use Rattle.drawn_replies.specs.Pictures.{AcceptsAll}
-use Rattle.live_command.specs.Drawn.{IsFirst, PicturesLines}
+use Rattle.live_command.specs.Drawn.{PicturesLines}
+use Rattle.live_service.specs.Showing.{IsFirst}
 use Rattle.hosted_lines.specs.Lives.{LivesBy}
 use Rattle.live_service.specs.LiveReplies.{LiveState}
 

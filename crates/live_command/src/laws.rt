@@ -3,7 +3,7 @@ ghost use Rattle.std.specs.Prelude.{ℕ, List, Option};
 ghost use Rattle.chart_frames.specs.declared.frame.Frame.{Frame};
 ghost use Rattle.chart_service.specs.State.{IsSound};
 ghost use Rattle.drawn_replies.specs.Pictures.{NoneRejected};
-ghost use Rattle.live_command.specs.Drawn.{IsFirst};
+ghost use Rattle.live_service.specs.Showing.{IsFirst};
 ghost use Rattle.hosted_lines.specs.Lives.{LivesBy};
 ghost use Rattle.live_service.specs.LiveReplies.{LiveState};
 ghost use Rattle.live_command.specs.Laws.{RunsDrawTheBook};

@@ -5,3 +5,5 @@ pub mod Followed
 pub mod Drawn
 pub mod OneAnswer
 pub mod OneEdit
+pub mod FollowLemmas
+pub mod LiveShown

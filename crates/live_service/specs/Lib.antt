@@ -3,3 +3,4 @@ pub mod LiveReplies
 pub mod Following
 pub mod Shown
 pub mod Laws
+pub mod Showing

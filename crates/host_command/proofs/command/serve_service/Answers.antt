@@ -13,11 +13,11 @@ use Rattle.store_commands.specs.Traffic.{traffic}
 use Rattle.store_commands.specs.TrafficLaws.{was_read}
 use Rattle.store_commands.proofs.Stores.{store_disk, store_sound}
 use Rattle.host_command.specs.Ended.{CostsFrom}
-use Rattle.live_command.specs.Ended.{begun_live}
+use Rattle.hosted_lines.specs.Begun.{begun_live}
 use Rattle.host_command.specs.Ending.{Served}
-use Rattle.live_command.proofs.DiskLemmas.{begins_so}
+use Rattle.hosted_lines.proofs.DiskSides.{begins_so}
 use Rattle.host_command.proofs.DiskLemmas.{costs_from, served_by}
-use Rattle.live_command.proofs.LiveShown.{begun_service, ended_store}
+use Rattle.live_service.proofs.LiveShown.{begun_service, ended_store}
 use Rattle.chart_world.specs.Faults.{CountsFault}
 use Rattle.host_command.proofs.command.serve_service.Goals as goal
 

@@ -1,4 +1,4 @@
-use Rattle.live_command.proofs.Drawing.{Laws}
+use Rattle.live_service.proofs.FollowLemmas.{Laws}
 use Rattle.host_command.proofs.Drawing.{Requests, Steps, hosts_accepted}
 use Rattle.host_command.proofs.laws.hosts_are_accepted.Goals as goal
 

@@ -1,4 +1,4 @@
-use Rattle.live_command.proofs.Drawing.{Laws, Following}
+use Rattle.live_service.proofs.FollowLemmas.{Laws, Following}
 use Rattle.host_command.proofs.Drawing.{Groups, Requests, Steps, hosts_drawn}
 use Rattle.host_command.proofs.laws.hosts_draw_the_book.Goals as goal
 

@@ -1,4 +1,5 @@
-use Rattle.live_command.proofs.Drawing.{Laws, runs_accepted}
+use Rattle.live_command.proofs.Drawing.{runs_accepted}
+use Rattle.live_service.proofs.FollowLemmas.{Laws}
 use Rattle.live_command.proofs.laws.runs_are_accepted.Goals as goal
 
 laws : goal.After-clients_draw_pushes → Laws

@@ -1,4 +1,5 @@
-use Rattle.live_command.proofs.Drawing.{Laws, Following, runs_drawn}
+use Rattle.live_command.proofs.Drawing.{runs_drawn}
+use Rattle.live_service.proofs.FollowLemmas.{Laws, Following}
 use Rattle.live_command.proofs.laws.runs_draw_the_book.Goals as goal
 
 laws : goal.After-pushes_show_views → Laws
