@@ -2,7 +2,8 @@
 
 What decides whether an edit is refused are the crate's own src/, specs/ and must-fail/, what these use of the crates below (the files of
 specs/ that they reach by imports, and of the files of src/ the public signatures with their clauses), and the kit's logic. Proofs don't
-count: a contract is as strong whichever way it was proved. Nor do comments, blank lines and the bodies of the crates below.
+count: a contract is as strong whichever way it was proved. Nor do comments, blank lines, the bodies of the crates below, and names that are
+imported and stand nowhere else in their file.
 """
 import functools
 import hashlib
@@ -17,6 +18,7 @@ HEAD = """\
 # The crates whose must-fail edits were all refused: name, digest of what they were tried over, and the day. Only scripts/gate/edits writes it.
 """
 SPECS = re.compile(r"\bRattle\.(\w+)\.specs\.(\w+(?:\.\w+)*)")
+IMPORT = re.compile(r"(\s*(?:ghost )?use [^{;]*\{)([^}]*)(\};?)$")
 ITEM = r"(?m)^\s*pub (?:const |unsafe )*(?:struct|enum|trait|fn|const|type|union) {0}\b"
 FUNCTION = re.compile(r"(\s*)(pub |pub\([^)]*\) )?(?:const |unsafe )*fn ")
 
@@ -44,6 +46,20 @@ def plain(text):
     return "\n".join(line for line in text.splitlines() if line.strip() and not line.lstrip().startswith(("//", "--")))
 
 
+def needed(text):
+    """A plain text without the imported names that stand nowhere else in it."""
+    lines = [(line, IMPORT.match(line)) for line in text.splitlines()]
+    rest = "\n".join(line for line, is_import in lines if not is_import)
+    kept = []
+    for line, found in lines:
+        if found:
+            names = [name.strip() for name in found[2].split(",")]
+            stand = [name for name in names if all(part in rest for part in name.split(" as ")[-1].split("◌"))]
+            line = found[1] + ", ".join(stand) + found[3] if stand else ""
+        kept += [line] if line else []
+    return "\n".join(kept)
+
+
 @functools.cache
 def signatures(path):
     """A file of src/ without the bodies of its functions and without its private functions."""
@@ -66,7 +82,7 @@ def signatures(path):
             while lines[end] != f"{found[1]}}}":
                 end += 1
         at = end + 1
-    return "\n".join(kept)
+    return needed("\n".join(kept))
 
 
 @functools.cache
@@ -92,13 +108,13 @@ def used(crate, text):
 
 @functools.cache
 def reached(path):
-    text = plain(read(path)) if path.endswith(".antt") else signatures(path)
+    text = needed(plain(read(path))) if path.endswith(".antt") else signatures(path)
     return text, sorted(set(used(path.split("/")[1], text)))
 
 
 def digest(crate, logic):
     own = [path for part, ending in (("src", ".rt"), ("specs", ".antt"), ("must-fail", ".edit")) for path in files(crate, part, ending)]
-    texts = {path: plain(read(path)) if not path.endswith(".edit") else read(path) for path in own}
+    texts = {path: needed(plain(read(path))) if not path.endswith(".edit") else read(path) for path in own}
     left = [path for text in list(texts.values()) for path in used(crate, text)]
     while left:
         path = left.pop()
