@@ -15,7 +15,7 @@ use Rattle.served_fronts.specs.Texts.{AreTexted}
 -- ---- runs
 
 -- What a run is for: it serves lines (the command `serve`), it answers them by texts (`run`), it answers them and follows views
--- (`live`), it leaves the book alone, or it changes the book otherwise. Of each command `task_of` says it
+-- (`live`, and `host` where no line asks for a sweep), it leaves the book alone, or it changes the book otherwise. Of each command `task_of` says it
 -- (crates/chart_program/specs/Exact.antt).
 pub data Task : Type 0 where
   serves : Task
