@@ -2,6 +2,7 @@
 use Rattle.std.specs.Prelude.{◌≡◌, ◌<◌, ◌≤◌, ⊤}
 use Rattle.block_disk.specs.Counts.{HasRisen}
 use Rattle.block_disk.specs.View.{Honest, Now, Only, View}
+use Rattle.empty_store.specs.Few.{Costs}
 use Rattle.empty_store.specs.Kept.{LeavesOld}
 use Rattle.empty_store.specs.Stores.{HasStore, IsNewStore, LeavesNew}
 use Rattle.gate_pages.specs.Journal.{page_count}
@@ -28,12 +29,13 @@ InitDoes c IsStore = (128 ≤ c.old.size) × (Honest c.old → HasStore (page_co
 InitDoes c end = ⊥
 
 -- What it leaves at each moment is what stood there before, or an empty store where there was none. Where reads gave what the
--- disk holds, they do so afterwards.
+-- disk holds, they do so afterwards. At most 68 blocks are read and 102 written, and the disk is synced 7 times at most.
 pub record LeavesMade (old new : View) : Type 0 where
   pub beside : new.beside ≡ old.beside
   pub moments : Honest old → LeavesNew (page_count old.size) old new
   pub kept : Honest old → HasStore (page_count old.size) old.image → LeavesOld (page_count old.size) old new
   pub honest : Honest old → Honest new
+  pub few : Costs 68 7 102 old new
 
 -- a store fits on the disk, reads give what it is, and it has none
 abbrev pub IsFree : View → Type 0

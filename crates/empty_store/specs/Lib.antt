@@ -1,3 +1,4 @@
 pub mod Stores
 pub mod Causes
 pub mod Kept
+pub mod Few

@@ -5,6 +5,7 @@ ghost use Rattle.gate_pages.specs.GatePages.{IsBrokenNow, IsClosed};
 ghost use Rattle.gate_pages.specs.Journal.{page_count};
 ghost use Rattle.gate_pages.specs.Shown.{AreSound};
 ghost use Rattle.empty_store.specs.Causes.{Prevents, given, lowered};
+ghost use Rattle.empty_store.specs.Few.{Costs};
 ghost use Rattle.empty_store.specs.Kept.{LeavesOld};
 ghost use Rattle.empty_store.specs.Stores.{HasStore, IsNewStore, KeepsPages, LeavesNew};
 
@@ -36,6 +37,7 @@ pub fn make_store<D: Disk>(alloc: Global, disk: D) -> Result<D, Back<D, InitCaus
     ensures kept { Honest (D.view disk) → HasStore (page_count (D.view disk).size) (D.view disk).image → LeavesOld (page_count (D.view disk).size) (D.view disk) (D.view (given result)) }
     ensures honest { Honest (D.view disk) → Honest (D.view (given result)) }
     ensures beside { (D.view (given result)).beside ≡ (D.view disk).beside }
+    ensures few { Costs 68 7 102 (D.view disk) (D.view (given result)) }
 {
     match GatePages::open(alloc, disk) {
         Ok(pages) => on_disk(make_pages(alloc, pages)),
@@ -71,6 +73,7 @@ fn make_anew<D: Disk>(alloc: Global, disk: D) -> Result<D, Back<D, InitCause>>
     ensures moments { Honest (D.view disk) → LeavesNew (page_count (D.view disk).size) (D.view disk) (D.view (given result)) }
     ensures honest { Honest (D.view disk) → Honest (D.view (given result)) }
     ensures beside { (D.view (given result)).beside ≡ (D.view disk).beside }
+    ensures few { Costs 0 5 38 (D.view disk) (D.view (given result)) }
 {
     match GatePages::format(alloc, disk) {
         Ok(pages) => on_disk(write_pages(alloc, pages)),

@@ -5,6 +5,7 @@ ghost use Rattle.page_space.specs.Layout.{HasMagic};
 ghost use Rattle.store_upgrade.specs.OldStores.{HasOldMagic};
 ghost use Rattle.store_upgrade.specs.Upgraded.{current};
 ghost use Rattle.empty_store.specs.Causes.{PreventsPages, given};
+ghost use Rattle.empty_store.specs.Few.{Costs};
 ghost use Rattle.empty_store.specs.Kept.{Stays};
 ghost use Rattle.empty_store.specs.Stores.{IsEmptyStore, Makes};
 
@@ -32,6 +33,7 @@ pub(crate) fn make_pages<P: Pages>(alloc: Global, pages: P) -> Result<P, Back<P,
     ensures sound { IfOk result (λ made. (P.view made).fit) }
     ensures size { (P.view (given result)).size ≡ (P.view pages).size }
     ensures beside { (P.view (given result)).beside ≡ (P.view pages).beside }
+    ensures few { Costs 2 4 37 (P.view pages) (P.view (given result)) }
     ensures faults { (P.view pages).faults ≤ (P.view (given result)).faults }
 {
     match Space::open(alloc, pages) {
@@ -70,6 +72,7 @@ fn make_new<P: Pages>(alloc: Global, mut pages: P) -> Result<P, Back<P, InitCaus
     ensures sound { IfOk result (λ made. (P.view made).fit) }
     ensures size { (P.view (given result)).size ≡ (P.view pages).size }
     ensures beside { (P.view (given result)).beside ≡ (P.view pages).beside }
+    ensures few { Costs 1 4 37 (P.view pages) (P.view (given result)) }
     ensures faults { (P.view pages).faults ≤ (P.view (given result)).faults }
 {
     match is_old(alloc, &mut pages) {
@@ -106,6 +109,7 @@ pub(crate) fn write_pages<P: Pages>(alloc: Global, pages: P) -> Result<P, Back<P
     ensures sound { IfOk result (λ made. (P.view made).fit) }
     ensures size { (P.view (given result)).size ≡ (P.view pages).size }
     ensures beside { (P.view (given result)).beside ≡ (P.view pages).beside }
+    ensures few { Costs 0 4 37 (P.view pages) (P.view (given result)) }
     ensures faults { (P.view pages).faults ≤ (P.view (given result)).faults }
 {
     match Space::init(alloc, pages) {
