@@ -1,5 +1,5 @@
 //! The work of a host on the lines of its streams.
-ghost use Rattle.std.specs.Prelude.{⊤};
+ghost use Rattle.std.specs.Prelude.{◌^◌, ⊤};
 ghost use Rattle.chart_service.specs.Shown as shown;
 ghost use Rattle.live_service.specs.Shown as its;
 ghost use Rattle.live_view.specs.Live as follows;
@@ -29,6 +29,8 @@ impl<P: PageWorld> LineWork<Live<ServiceStepper<P>>, End> for HostTurns {
 
     ghost view = { λ live. its.view live };
 
+    ghost limit = { 2 ^ 32 };
+
     ghost fit = { λ turns live at. IsFit (its.view live) (follows.pending live) turns.edits.items };
 
     ghost stands = { λ hosted turns live. IsHosted hosted turns.edits.items (shown.IsTold (its.service live)) (its.view live) (held_by live) (P.sent (pages live)) };
@@ -55,7 +57,7 @@ impl<P: PageWorld> LineWork<Live<ServiceStepper<P>>, End> for HostTurns {
     fn line(
         &mut self,
         from: &mut Live<ServiceStepper<P>>,
-        at: u32,
+        at: u64,
         line: &[u8],
     ) -> Result<(), End> {
         if line.is_empty() {
@@ -79,7 +81,7 @@ impl<P: PageWorld> LineWork<Live<ServiceStepper<P>>, End> for HostTurns {
         }
     }
 
-    fn long_line(&mut self, from: &mut Live<ServiceStepper<P>>, at: u32) -> Result<(), End> {
+    fn long_line(&mut self, from: &mut Live<ServiceStepper<P>>, at: u64) -> Result<(), End> {
         refuse_long(self, from)
     }
 
