@@ -63,7 +63,7 @@ export function refusalOf(number, a, b) {
 
 /** A Refused frame, with the name of the refusal and what it means. */
 function readRefusal(fields) {
-  const number = fields.byte(1, 22);
+  const number = fields.byte(1, REFUSALS.length);
   const a = fields.unsigned([2, 3, 20, 21, 22].includes(number) ? 2n ** 64n : 0);
   const b = fields.unsigned([20, 21, 22].includes(number) ? 2n ** 64n : 0);
   return { kind: KINDS[REFUSED], ...refusalOf(number, a, b) };

@@ -179,6 +179,12 @@ test("a refusal to follow has the coefficients that the view may need, and those
   assert.deepStrictEqual([frame.number, frame.name, frame.a, frame.b], [22, "LiveTooLarge", 455, 100]);
 });
 
+test("a sum is refused by numbers of its own", () => {
+  const read = (number) => [...new Client().push(bytesOf(`00000012 02 ${number} 0000000000000000 0000000000000000`))];
+  assert.deepStrictEqual([...read("17"), ...read("18")].map(({ frame }) => frame.name), ["OtherGrid", "SumTooLarge"]);
+  assert.throws(() => read("19"), new Stopped("the frame at byte 0: the field at byte 5 breaks its rule"));
+});
+
 test("a refusal has its number, its name and its numbers", () => {
   const [{ frame }] = new Client().push(bytesOf("00000012 02 14 0000000000000029 0000000000000028"));
   assert.deepStrictEqual([frame.number, frame.name, frame.a, frame.b], [20, "ViewTooLarge", 41, 40]);

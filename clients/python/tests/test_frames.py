@@ -114,6 +114,13 @@ class Frames(unittest.TestCase):
         # A view of 4 columns may need 13 * 35 coefficients, and the cache keeps 100.
         self.assertEqual(read_all("00000012 02 16 00000000000001C7 0000000000000064"), [(Refused(22, 455, 100), None)])
 
+    def test_a_sum_is_refused_by_numbers_of_its_own(self):
+        for number in (23, 24):
+            self.assertEqual(read_all(f"00000012 02 {number:02X} {0:016X} {0:016X}"), [(Refused(number, 0, 0), None)])
+        for changed in (f"19 {0:016X} {0:016X}", f"17 {1:016X} {0:016X}", f"18 {0:016X} {1:016X}"):
+            with self.assertRaisesRegex(Stopped, "breaks its rule"):
+                read_all("00000012 02", changed)
+
     def test_reports_have_no_picture_and_name_no_session(self):
         series = [Listed("a", 0, 0, 1, 4, (2, 7)), Listed("b.c", 2, -5, 60, 0, None)]
         told = [Catalog(10, 5, series), Values(1, 40, [(5, [4, -1]), (9, [7])]), Swept(64, 99, True)]

@@ -10,6 +10,7 @@ from itertools import islice
 from .fields import MOST, MOST_SLOTS, Cut, Fields, Stopped  # noqa: F401
 from .picture import Picture, height
 from .told import read_axis, read_catalog, read_span, read_swept, read_values
+from .words import NAMES
 
 DONE, REFUSED, OPENED, CLOSED, VIEW, ROWS, LIVE, CATALOG, VALUES, SWEPT = range(1, 11)
 # For each kind the length without items, the length of an item, and the most items.
@@ -217,7 +218,7 @@ def accept(fields, sessions, before_view=None):
     if kind == DONE:
         return Done(fields.number(8, 0, MOST_SLOTS)), None
     if kind == REFUSED:
-        number = fields.number(1, 1, 22)
+        number = fields.number(1, 1, len(NAMES))
         a = fields.number(8, 0, 2**64 - 1 if number in (2, 3, 20, 21, 22) else 0)
         return Refused(number, a, fields.number(8, 0, 2**64 - 1 if number in (20, 21, 22) else 0)), None
     if kind in REPORTS:

@@ -12,6 +12,7 @@ use Rattle.om3_coeff.specs.Keys.{height, IsNode}
 use Rattle.m4_groups.specs.declared.row.Row.{Row}
 use Rattle.whole_number.specs.Range.{IsValue, is_time, is_value, IsTime}
 use Rattle.chart_frames.specs.declared.limits.TheConstants.{MOST_SLOTS}
+use Rattle.chart_frames.specs.declared.refusals.TheConstants.{SUM_TOO_LARGE}
 use Rattle.whole_number.specs.SlotTimes.{ends_in_time}
 use Rattle.chart_frames.specs.declared.frame.ViewFrame.{ViewFrame}
 use Rattle.chart_frames.specs.declared.frame.RowsFrame.{RowsFrame}
@@ -459,7 +460,7 @@ refused_meets number a b h = (
         (
           omega (arith, h.high),
           (
-            within_from 1 22 number h.low h.high,
+            within_from 1 SUM_TOO_LARGE number h.low h.high,
             (omega (arith, h.first), (named_test (names_first number) a h.no_first, (omega (arith, h.second), (named_test (names_second number) b h.no_second, tt)))),
           ),
         ),

@@ -7,6 +7,7 @@ use Rattle.whole_number.specs.SlotTimes.{ends_in_time}
 use Rattle.om3_coeff.specs.Keys.{height}
 use Rattle.series_book.specs.Names.{is_name}
 use Rattle.chart_frames.specs.declared.limits.TheConstants.{MOST_SLOTS}
+use Rattle.chart_frames.specs.declared.refusals.TheConstants.{LIVE_TOO_LARGE, SUM_TOO_LARGE}
 use Rattle.chart_frames.specs.Format.{Format, stop, field, number_bytes}
 
 -- eight bytes in two's complement
@@ -204,14 +205,14 @@ done_fields = field 8 (λ slots. nat_le slots MOST_SLOTS) (λ slots. stop)
 
 -- the numbers of refusals that tell a first and a second number more
 abbrev pub names_second : ℕ → Bool
-names_second number = number == 20 || (number == 21 || number == 22)
+names_second number = number == 20 || (number == 21 || number == LIVE_TOO_LARGE)
 
 abbrev pub names_first : ℕ → Bool
 names_first number = number == 2 || (number == 3 || names_second number)
 
 unfoldable pub refused_fields : Format
 refused_fields =
-    field 1 (within 1 22) (λ number.
+    field 1 (within 1 SUM_TOO_LARGE) (λ number.
     field 8 (λ a. names_first number || a == 0) (λ a. field 8 (λ b. names_second number || b == 0) (λ b. stop)))
 
 unfoldable pub opened_fields : Format

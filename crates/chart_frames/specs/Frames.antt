@@ -10,6 +10,7 @@ use Rattle.m4_groups.specs.Rows.{AreRising}
 use Rattle.whole_number.specs.Range.{IsValue, IsTime}
 use Rattle.whole_number.specs.SlotTimes.{EndsInTime}
 use Rattle.chart_frames.specs.declared.limits.TheConstants.{MOST_SLOTS}
+use Rattle.chart_frames.specs.declared.refusals.TheConstants.{SUM_TOO_LARGE}
 use Rattle.chart_frames.specs.declared.frame.Frame.{Frame}
 use Rattle.chart_frames.specs.declared.frame.Frame.TheVariants.{Done, Refused, Opened, Closed, View, Rows, Live}
 use Rattle.chart_frames.specs.declared.frame.Frame.TheVariants as frames
@@ -225,7 +226,7 @@ pub record FitsRows (r : RowsFrame) : Type 0 where
 -- a refusal's number; it tells numbers more only where it names them
 pub record FitsRefused (number a b : ℕ) : Type 0 where
   pub low : 1 ≤ number
-  pub high : number ≤ 22
+  pub high : number ≤ SUM_TOO_LARGE
   pub first : a < 2 ^ 64
   pub second : b < 2 ^ 64
   pub no_first : names_first number ≡ false → a ≡ 0

@@ -7,7 +7,7 @@ use om3_coeff::Coefs;
 pub enum Frame {
     /// A request was done. `slots` is the number of slots of its series, at most 2^35.
     Done { slots: u64 },
-    /// A request was refused, with the refusal's number, 1 to 22. `a` is 0 unless the number is 2, 3,
+    /// A request was refused, with the refusal's number, 1 to 24. `a` is 0 unless the number is 2, 3,
     /// 20, 21 or 22, and `b` unless it is 20, 21 or 22.
     Refused { number: u8, a: u64, b: u64 },
     /// A session was opened; its number isn't 0. Its client keeps so many coefficients, 1 to 131,072.

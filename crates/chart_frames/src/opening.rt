@@ -18,6 +18,7 @@ use crate::heads::{
 };
 use crate::item_stop::ItemStop;
 use crate::limits::{MOST_CLEARS, MOST_COEFS, MOST_SLOTS};
+use crate::refusals::{LIVE_TOO_LARGE, SUM_TOO_LARGE};
 use crate::reports::Report;
 use crate::values_reading::values_at;
 use m4_groups::Rows;
@@ -73,7 +74,7 @@ fn done_at(bytes: &[u8]) -> Result<(Frame, &[u8]), Stop>
 fn names_second(number: u8) -> bool
     ensures { result ≡ names_second number }
 {
-    number == 20 || number == 21 || number == 22
+    number == 20 || number == 21 || number == LIVE_TOO_LARGE
 }
 
 fn names_first(number: u8) -> bool
@@ -89,7 +90,7 @@ fn refused_at(bytes: &[u8]) -> Result<(Frame, &[u8]), Stop>
     ensures takes { IfOk result (λ x. Fits x.0 × (framed 18 2 bytes.now ≡ frame_before x.0 x.1.now)) }
 {
     let (number, rest) = byte_at(bytes)?;
-    if number == 0 || number > 22 {
+    if number == 0 || number > SUM_TOO_LARGE {
         return Err(Stop::Bad(bytes.len()));
     }
     let (a, after) = long_at(rest)?;

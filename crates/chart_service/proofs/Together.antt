@@ -11,6 +11,7 @@ use Rattle.gate_pages.proofs.Moving.{sent_same}
 use Rattle.chart_frames.specs.declared.frame.Frame.{Frame}
 use Rattle.chart_frames.specs.declared.frame.Frame.TheVariants.{Done}
 use Rattle.chart_frames.specs.Frames.{Fits, FitsRefused}
+use Rattle.chart_frames.specs.declared.refusals.TheConstants.{SUM_TOO_LARGE}
 use Rattle.request_lines.specs.declared.requests.Request.TheVariants.{Edit as EditRequest}
 use Rattle.series_book.specs.declared.one_series.Series.{Series}
 use Rattle.series_book.specs.declared.edits.Edit.{Edit}
@@ -38,7 +39,7 @@ use Rattle.chart_service.proofs.Editing.{edit_leaves, edit_fits}
 
 -- ---- one edit
 
-plain : (number : ℕ) → 1 ≤ number → number ≤ 22 → FitsRefused number 0 0
+plain : (number : ℕ) → 1 ≤ number → number ≤ SUM_TOO_LARGE → FitsRefused number 0 0
 plain number low high = record { low = low; high = high; first = omega arith; second = omega arith; no_first = λ none. refl; no_second = λ none. refl }
 
 -- the frame of a refused edit fits
