@@ -183,6 +183,12 @@ touched_parts first end level index touched =
     let inner = and_parts (nat_lt first (end_slot (top_of_page level index))) (nat_lt (first_slot (top_of_page level index)) end) outer.1 in
     (ltb-true first end outer.0, ltb-true first (end_slot (top_of_page level index)) inner.0, ltb-true (first_slot (top_of_page level index)) end inner.1)
 
+le_times : (a b w : ℕ) → a ≤ b → a * w ≤ b * w
+le_times a b w less =
+    let whole : a + (b - a) ≡ b = omega (arith, less) in
+    let sum : (a + (b - a)) * w ≡ a * w + (b - a) * w = omega arith in
+    omega (arith, sum, ap (λ n. n * w) whole)
+
 -- a range so many behind the first touched one begins behind the slots
 run_within : (first end n most from d w : ℕ) → end ≤ first + n → n + w ≤ most * w + 1 → first < (from + 1) * w → (from + d) * w < end → d < most
 run_within first end n most from d w run wide low high = elim (cases_lt d most) [
@@ -193,40 +199,36 @@ run_within first end n most from d w run wide low high = elim (cases_lt d most) 
       let one : (from + 1) * w ≡ from * w + w = omega arith in
       absurd (omega (arith, run, wide, low, high, up, sum, one))
 ]
-  where
-    le_times : (a b w : ℕ) → a ≤ b → a * w ≤ b * w
-    le_times a b w less =
-        let whole : a + (b - a) ≡ b = omega (arith, less) in
-        let sum : (a + (b - a)) * w ≡ a * w + (b - a) * w = omega arith in
-        omega (arith, sum, ap (λ n. n * w) whole)
 
-run_step : (width : ℕ → ℕ) (first end n height level index : ℕ) → end ≤ first + n → n + 2 ^ (7 * suc level) ≤ width (suc level) * 2 ^ (7 * suc level) + 1
-    → is_touched first end (suc level) index ≡ true → run_rank width first height (suc level) index + 1 ≤ run_rank width first height (suc level) (index + 1)
-run_step width first end n height level index run wide touched =
+-- the ranges of each page level from the first touched one on that begin before the end are no more than so many
+abbrev IsWide : (ℕ → ℕ) → ℕ → ℕ → Type 0
+IsWide width first end = (level d : ℕ) → (first / 2 ^ (7 * suc level) + d) * 2 ^ (7 * suc level) < end → d < width (suc level)
+
+above_first : (first k : ℕ) → first < (first / 2 ^ k + 1) * 2 ^ k
+above_first first k =
+    let sum : (first / 2 ^ k + 1) * 2 ^ k ≡ first / 2 ^ k * 2 ^ k + 2 ^ k = omega arith in
+    omega (arith, sum, shr_split first k, mod_small first k)
+  where
+    mod_small : (n k : ℕ) → n % 2 ^ k < 2 ^ k
+    mod_small n k = omega (arith, pow_pos k)
+
+run_step : (width : ℕ → ℕ) (first end height level index : ℕ) → IsWide width first end → is_touched first end (suc level) index ≡ true → run_rank width first height (suc level) index + 1 ≤ run_rank width first height (suc level) (index + 1)
+run_step width first end height level index wide touched =
     let w = 2 ^ (7 * suc level) in
     let from = first / w in
     let parts = touched_parts first end (suc level) index touched in
     let low : from < index + 1 = div_below first w (index + 1) (pow_pos (7 * suc level)) parts.1 in
     let at : from + (index - from) ≡ index = omega (arith, low) in
-    let begins : first < (from + 1) * w = above_first first (7 * suc level) in
     let ends : (from + (index - from)) * w < end = omega (arith, ap (λ i. i * w) at, parts.2) in
-    let few : index - from < width (suc level) = run_within first end n (width (suc level)) from (index - from) w run wide begins ends in
+    let few : index - from < width (suc level) = wide level (index - from) ends in
     let next : index + 1 - from ≡ index - from + 1 = omega (arith, low) in
     omega (arith, cap_step (width (suc level)) (index - from) few, ap (λ d. cap (width (suc level)) d) next, roots_more height (suc level) index (index + 1) (omega arith))
-  where
-    above_first : (first k : ℕ) → first < (first / 2 ^ k + 1) * 2 ^ k
-    above_first first k =
-        let sum : (first / 2 ^ k + 1) * 2 ^ k ≡ first / 2 ^ k * 2 ^ k + 2 ^ k = omega arith in
-        omega (arith, sum, shr_split first k, mod_small first k)
-      where
-        mod_small : (n k : ℕ) → n % 2 ^ k < 2 ^ k
-        mod_small n k = omega (arith, pow_pos k)
 
-run_is : (width : ℕ → ℕ) (first end n height : ℕ) → end ≤ first + n → ((level : ℕ) → n + 2 ^ (7 * suc level) ≤ width (suc level) * 2 ^ (7 * suc level) + 1) → IsRank (run_rank width first height) first end height
-run_is width first end n height run wide = record {
+run_is : (width : ℕ → ℕ) (first end height : ℕ) → IsWide width first end → IsRank (run_rank width first height) first end height
+run_is width first end height wide = record {
   more = λ level a b less. omega (arith, cap_more (width level) (a - first / 2 ^ (7 * level)) (b - first / 2 ^ (7 * level)) (omega (arith, less)), roots_more height level a b less);
   step = λ level index passed. elim (or_cases (is_touched first end (suc level) index) (is_new_root height (suc level) index) passed) [
-    | inl touched ↦ run_step width first end n height level index run (wide level) touched
+    | inl touched ↦ run_step width first end height level index wide touched
     | inr new ↦ omega (arith, roots_one height level index new, cap_more (width (suc level)) (index - first / 2 ^ (7 * suc level)) (index + 1 - first / 2 ^ (7 * suc level)) (omega arith))
   ];
 }
@@ -237,10 +239,16 @@ run_high width first height level index = omega (arith, cap_most (width level) (
 run_top : (width : ℕ → ℕ) (first height level : ℕ) → run_rank width first height level 1 ≤ run_rank width first height level 0 + (1 + root height level)
 run_top width first height level = omega (arith, cap_one (width level) (0 - first / 2 ^ (7 * level)) (1 - first / 2 ^ (7 * level)) (omega arith), roots_high height level 1)
 
+touch_rows : (width : ℕ → ℕ) (first end height level : ℕ) → IsWide width first end → touch first end height (suc level) 0 ≤ 1 + root height (suc level) + total (λ l. width l + root height l) level
+touch_rows width first end height level wide =
+    touch_top (run_rank width first height) (λ l. width l + root height l) first end height level (1 + root height (suc level)) (run_is width first end height wide) (λ l i. run_high width first height l i) (run_top width first height (suc level))
+
+-- so many slots in a row
 touch_run : (width : ℕ → ℕ) (first end n height level : ℕ) → end ≤ first + n → ((level : ℕ) → n + 2 ^ (7 * suc level) ≤ width (suc level) * 2 ^ (7 * suc level) + 1)
     → touch first end height (suc level) 0 ≤ 1 + root height (suc level) + total (λ l. width l + root height l) level
 touch_run width first end n height level run wide =
-    touch_top (run_rank width first height) (λ l. width l + root height l) first end height level (1 + root height (suc level)) (run_is width first end n height run wide) (λ l i. run_high width first height l i) (run_top width first height (suc level))
+    touch_rows width first end height level
+    (λ l d low. run_within first end n (width (suc l)) (first / 2 ^ (7 * suc l)) d (2 ^ (7 * suc l)) run (wide l) (above_first first (7 * suc l)) low)
 
 -- one slot lies in one range of a page level
 total_one : (height level : ℕ) → total (λ l. 1 + root height l) level ≤ level + (level - height)
@@ -281,6 +289,45 @@ touch_wide most first end n height (suc zero) some run few fits =
     omega (arith, touch_run (wide_at most) first end n height 0 run (λ l. wide_is most n l few fits), roots height 0, some)
 touch_wide most first end n height (suc (suc level)) some run few fits =
     omega (arith, touch_run (wide_at most) first end n height (suc level) run (λ l. wide_is most n l few fits), total_wide most height level (omega (arith, some)), roots height (suc level))
+
+-- slots from a first to a last one: how many ranges of a page level they lie in, but one
+abbrev spread : ℕ → ℕ → ℕ → ℕ
+spread first last level = last / 2 ^ (7 * level) - first / 2 ^ (7 * level)
+
+spread_wide : (first last : ℕ) → IsWide (λ l. 1 + spread first last l) first (last + 1)
+spread_wide first last level d low =
+    let w = 2 ^ (7 * suc level) in
+    elim (cases_lt (last / w) (first / w + d)) [
+      | inl past ↦ absurd (omega (arith, low, le_times (last / w + 1) (first / w + d) w (omega (arith, past)), above_first last (7 * suc level)))
+      | inr within ↦ omega (arith, within)
+    ]
+
+total_spread : (first last height level : ℕ) → total (λ l. 1 + spread first last l + root height l) level ≤ level + total (spread first last) level + (level - height)
+total_spread first last height zero = omega arith
+total_spread first last height (suc level) = omega (arith, total_spread first last height level, roots height level)
+
+touch_spread : (first last height level : ℕ) → touch first (last + 1) height level 0 ≤ level + total (spread first last) level + (level - height)
+touch_spread first last height zero = omega (arith, touch_slots first (last + 1) height 0)
+touch_spread first last height (suc level) =
+    omega (arith, touch_rows (λ l. 1 + spread first last l) first (last + 1) height level (spread_wide first last), total_spread first last height level, roots height level)
+
+total_more : (width : ℕ → ℕ) (level n : ℕ) → total width level ≤ total width (n + level)
+total_more width level zero = omega (arith, ap (λ k. total width k) (same level))
+  where
+    same : (k : ℕ) → k ≡ 0 + k
+    same k = omega arith
+total_more width level (suc n) = omega (arith, total_more width level n, ap (λ k. total width k) (next n level))
+  where
+    next : (n k : ℕ) → suc (n + k) ≡ suc n + k
+    next n k = omega arith
+
+-- on each of five page levels, in so many ranges more than one
+pub touch_five : (first last height level : ℕ) → level ≤ 5
+    → touch first (last + 1) height level 0
+    ≤ level + (level - height) + ((last / 2 ^ 7 - first / 2 ^ 7) + (last / 2 ^ 14 - first / 2 ^ 14) + (last / 2 ^ 21 - first / 2 ^ 21) + (last / 2 ^ 28 - first / 2 ^ 28) + (last / 2 ^ 35 - first / 2 ^ 35))
+touch_five first last height level few =
+    let all : (5 - level) + level ≡ 5 = omega (arith, few) in
+    omega (arith, touch_spread first last height level, total_more (spread first last) level (5 - level), ap (λ n. total (spread first last) n) all)
 
 -- a tree that grows is passed in more pages
 
