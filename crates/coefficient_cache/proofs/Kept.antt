@@ -34,7 +34,7 @@ key_in k l v w h = ap (λ (o : Option (SeriesKey × Coef)). option_map_or (λ x.
 pub num_in : (i j : ℕ) → ◌≡◌ {A = Option ℕ} (Some i) (Some j) → i ≡ j
 num_in i j h = ap (λ (o : Option ℕ). option_map_or (λ x. x) o i) h
 
-same_or_other : (a b : ℕ) → (a ≡ b) ⊎ (a ≢ b)
+pub same_or_other : (a b : ℕ) → (a ≡ b) ⊎ (a ≢ b)
 same_or_other a b = elim (cases_lt a b) [
   | inl less ↦ inr (λ same. omega (arith, less, same))
   | inr more ↦ elim (cases_lt b a) [
@@ -43,16 +43,16 @@ same_or_other a b = elim (cases_lt a b) [
   ]
 ]
 
-key_differs : (k l : SeriesKey) → l ≢ k → key_eq k l ≡ false
+pub key_differs : (k l : SeriesKey) → l ≢ k → key_eq k l ≡ false
 key_differs k l other = elim (key_eq k l) as (λ b. key_eq k l ≡ b → key_eq k l ≡ false) [
   | true ↦ λ t. absurd (other (sym (key_exact k l t)))
   | false ↦ λ t. t
 ] refl
 
-key_same : (k l : SeriesKey) → l ≡ k → key_eq k l ≡ true
+pub key_same : (k l : SeriesKey) → l ≡ k → key_eq k l ≡ true
 key_same k l same = ap (key_eq k) same ∙ key_laws.refl k
 
-key_apart : (k l : SeriesKey) → key_eq k l ≡ false → l ≢ k
+pub key_apart : (k l : SeriesKey) → key_eq k l ≡ false → l ≢ k
 key_apart k l other = λ same. let bad : true ≡ false = sym (key_same k l same) ∙ other in cc
 
 -- a pair that is held stands within the puts
