@@ -456,36 +456,12 @@ module _ (old ps : List (Option (SeriesKey × Coef))) (owners places : List ℕ)
     long = length-take j owners ∙ ap (min j) was.found.long ∙ sym (length-take j ps);
   }
 
--- a list whose pairs stand at the first places
-pub stored-closed : (ps qs : List (Option (SeriesKey × Coef))) (owners now places spots : List ℕ) (numbers : List (SeriesKey × ℕ)) (start capacity : ℕ) → AreStored ps owners places numbers start capacity
-    → AreFound qs now spots numbers → shown qs ≡ shown ps → AreStored qs now spots numbers 0 capacity
-stored-closed ps qs owners now places spots numbers start capacity stored found same =
-    let kept = stored.kept in
-    record {
-      found = found;
-      counted = ap length same ∙ stored.counted;
-      kept = record {
-        found = found.found;
-        placed = found.placed;
-        before = λ i less. absurd (omega (arith, less));
-        begun = omega arith;
-        counted = ap length same ∙ kept.counted ∙ located-length places numbers ∙ sym (located-length spots numbers);
-        within = subst (λ (l : List (SeriesKey × Coef)). length l ≤ capacity) (sym same) kept.within;
-        limit = kept.limit;
-      };
-    }
-
 -- what is told of puts and places that are seen by slices
 pub told-seen : (ps seen : List (Option (SeriesKey × Coef))) (owners places spots : List ℕ) (numbers : List (SeriesKey × ℕ)) → AreFound ps owners places numbers → seen ≡ ps → spots ≡ places
     → (key : SeriesKey) → IsTold seen spots numbers key
 told-seen ps seen owners places spots numbers f same alike key =
     subst (λ (l : List (Option (SeriesKey × Coef))). IsTold l spots numbers key) (sym same)
     (subst (λ (l : List ℕ). IsTold ps l numbers key) (sym alike) (told ps owners places numbers f key))
-
--- the key of a number is held
-pub held-told : (puts : List (Option (SeriesKey × Coef))) (places : List ℕ) (numbers : List (SeriesKey × ℕ)) (key : SeriesKey) (n : ℕ) → IsTold puts places numbers key → lookup (key_eq key) numbers ≡ Some n
-    → (v : Coef) × (get_or puts (get_or places n 0) None ≡ Some (key, v))
-held-told puts places numbers key n h there = h.held n there
 
 -- a key that has no number isn't there
 pub none-held : (ps : List (Option (SeriesKey × Coef))) (owners places : List ℕ) (numbers : List (SeriesKey × ℕ)) (start capacity : ℕ) → AreStored ps owners places numbers start capacity
@@ -516,16 +492,6 @@ stored-same ps now owners owners' places places' numbers news start capacity sto
 pub stored-by : (qs now : List (Option (SeriesKey × Coef))) (owners owners' places places' : List ℕ) (numbers : List (SeriesKey × ℕ)) (start capacity : ℕ) → AreStored qs owners places numbers start capacity
     → now ≡ qs → owners' ≡ owners → places' ≡ places → AreStored now owners' places' numbers start capacity
 stored-by qs now owners owners' places places' numbers start capacity stored a b c = stored-same qs now owners owners' places places' numbers numbers start capacity stored a b c (λ q. refl) refl
-
--- before the first place none is closed up
-pub closed-first : (old : List (Option (SeriesKey × Coef))) (owners places : List ℕ) (numbers : List (SeriesKey × ℕ)) → AreFound old owners places numbers → AreClosed old old owners places numbers 0 0
-closed-first old owners places numbers found = record {
-  found = found;
-  same = refl;
-  free = λ m more less. absurd (omega (arith, less));
-  below = omega arith;
-  size = refl;
-}
 
 pub closed-by : (old ps now : List (Option (SeriesKey × Coef))) (owners owners' places places' : List ℕ) (numbers : List (SeriesKey × ℕ)) (j j' i : ℕ) → AreClosed old ps owners places numbers j i
     → now ≡ ps → owners' ≡ owners → places' ≡ places → j' ≡ j → AreClosed old now owners' places' numbers j' i
