@@ -39,7 +39,7 @@ alike-more (None ∷ ps) (Some f ∷ qs) k v w h = absurd h
 alike-more (Some e ∷ ps) (None ∷ qs) k v w h = absurd h
 alike-more (Some e ∷ ps) (Some f ∷ qs) k v w h = (h.0, alike-more ps qs k v w h.1)
 
-alike-length : (ps qs : List (Option (SeriesKey × Coef))) → AreAlike ps qs → length qs ≡ length ps
+pub alike-length : (ps qs : List (Option (SeriesKey × Coef))) → AreAlike ps qs → length qs ≡ length ps
 alike-length [] [] h = refl
 alike-length [] (q ∷ qs) h = absurd h
 alike-length (p ∷ ps) [] h = absurd h
@@ -61,7 +61,7 @@ alike-count : (ps qs : List (Option (SeriesKey × Coef))) → AreAlike ps qs →
 alike-count ps qs h = sym (length-map (shown qs) (λ e. e.0)) ∙ ap length (alike-keys ps qs h) ∙ length-map (shown ps) (λ e. e.0)
 
 -- what is held at a place
-alike-held : (ps qs : List (Option (SeriesKey × Coef))) → AreAlike ps qs → (i : ℕ) (k : SeriesKey) (v : Coef) → get_or ps i None ≡ Some (k, v) → (w : Coef) × (get_or qs i None ≡ Some (k, w))
+pub alike-held : (ps qs : List (Option (SeriesKey × Coef))) → AreAlike ps qs → (i : ℕ) (k : SeriesKey) (v : Coef) → get_or ps i None ≡ Some (k, v) → (w : Coef) × (get_or qs i None ≡ Some (k, w))
 alike-held [] [] h i k v at = absurd (none-some (with_coef k v) at)
 alike-held [] (q ∷ qs) h i k v at = absurd h
 alike-held (p ∷ ps) [] h i k v at = absurd h

@@ -1,11 +1,11 @@
 -- Pairs in the order in which they were put, and what is held of them.
 use Rattle.std.proofs.Common.{◌≡◌, ◌≢◌, ◌⊎◌, ℕ, zero, suc, ◌+◌, ◌-◌, ◌<◌, ◌≤◌, inl, inr, true, false, cond, List, [], ◌∷◌, ◌++◌, length, take, drop, set, get_or, reverse, Option, Some, None, is_some, if◌then◌else◌, refl, sym, ap, ◌∙◌, subst, arith, length-append}
-use Rattle.std.specs.Option.{option_map, option_map_or}
+use Rattle.std.specs.Option.{option_map_or}
 use Rattle.std.specs.List.{IsDistinct, AllByRecursion}
-use Rattle.std.specs.Map.{keys_of, lookup, lookup_entry, remove_entry}
+use Rattle.std.specs.Map.{keys_of, lookup, remove_entry}
 use Rattle.std.proofs.lemmas.Bool.{cases_lt}
 use Rattle.std.proofs.lemmas.Option.{none-some}
-use Rattle.std.proofs.lemmas.List.{reverse-append, length-reverse, map-append, length-set, get_or-drop, get_or-set_same, get_or-set_other, get_or_append_left, get_or_default, set-append_left, take-append-le, take_all}
+use Rattle.std.proofs.lemmas.List.{reverse-append, length-reverse, map-append, length-set, get_or-drop, get_or-set_same, get_or-set_other, get_or_append_left, set-append_left, take-append-le, take_all}
 use Rattle.std.proofs.Math.Seq.{get_or-append_seam}
 use Rattle.std.proofs.lemmas.List.Sorted.{IsPermutation-reverse}
 use Rattle.std.proofs.lemmas.Map.{NonePasses, none_passes_from_lookup}
@@ -16,7 +16,7 @@ use Rattle.coefficient_cache.specs.Pairs.{key_eq, has}
 use Rattle.coefficient_cache.specs.Caches.{IsValid}
 use Rattle.coefficient_cache.specs.Puts.{shown, AreKept, IsFirstHeld}
 use Rattle.coefficient_cache.proofs.Keys.{key_laws, key_exact}
-use Rattle.coefficient_cache.proofs.Finds.{or_else, none_from_is_some, lookup-append, has-reverse, entry-behind, remove-behind}
+use Rattle.coefficient_cache.proofs.Finds.{or_else, none_from_is_some, lookup-append, has-reverse, remove-behind}
 use Rattle.coefficient_cache.proofs.Unmoved.{turn}
 
 abbrev pub with_coef : SeriesKey → Coef → SeriesKey × Coef
@@ -34,7 +34,7 @@ key_in k l v w h = ap (λ (o : Option (SeriesKey × Coef)). option_map_or (λ x.
 pub num_in : (i j : ℕ) → ◌≡◌ {A = Option ℕ} (Some i) (Some j) → i ≡ j
 num_in i j h = ap (λ (o : Option ℕ). option_map_or (λ x. x) o i) h
 
-same_or_other : (a b : ℕ) → (a ≡ b) ⊎ (a ≢ b)
+pub same_or_other : (a b : ℕ) → (a ≡ b) ⊎ (a ≢ b)
 same_or_other a b = elim (cases_lt a b) [
   | inl less ↦ inr (λ same. omega (arith, less, same))
   | inr more ↦ elim (cases_lt b a) [
@@ -43,16 +43,16 @@ same_or_other a b = elim (cases_lt a b) [
   ]
 ]
 
-key_differs : (k l : SeriesKey) → l ≢ k → key_eq k l ≡ false
+pub key_differs : (k l : SeriesKey) → l ≢ k → key_eq k l ≡ false
 key_differs k l other = elim (key_eq k l) as (λ b. key_eq k l ≡ b → key_eq k l ≡ false) [
   | true ↦ λ t. absurd (other (sym (key_exact k l t)))
   | false ↦ λ t. t
 ] refl
 
-key_same : (k l : SeriesKey) → l ≡ k → key_eq k l ≡ true
+pub key_same : (k l : SeriesKey) → l ≡ k → key_eq k l ≡ true
 key_same k l same = ap (key_eq k) same ∙ key_laws.refl k
 
-key_apart : (k l : SeriesKey) → key_eq k l ≡ false → l ≢ k
+pub key_apart : (k l : SeriesKey) → key_eq k l ≡ false → l ≢ k
 key_apart k l other = λ same. let bad : true ≡ false = sym (key_same k l same) ∙ other in cc
 
 -- a pair that is held stands within the puts
@@ -179,12 +179,6 @@ module _ (ps : List (Option (SeriesKey × Coef))) (places : List (SeriesKey × �
         ∙ lookup-append (key_eq k) (reverse rest) (with_coef k v ∷ reverse front)
         ∙ ap (λ o. or_else o (lookup (key_eq k) (with_coef k v ∷ reverse front))) behind
         ∙ ap (λ b. cond b (Some v) (lookup (key_eq k) (reverse front))) (key_laws.refl k)
-
-    pub entry-held : lookup_entry (key_eq k) (reverse (shown ps)) ≡ Some (k, v)
-    entry-held =
-        ap (lookup_entry (key_eq k)) turned
-        ∙ entry-behind (key_eq k) (reverse rest) (with_coef k v ∷ reverse front) behind
-        ∙ ap (λ b. cond b (some_pair (k, v)) (lookup_entry (key_eq k) (reverse front))) (key_laws.refl k)
 
     -- where it is let go it is no longer there
     pub remove-held : remove_entry (key_eq k) (reverse (shown ps)) ≡ reverse (shown (set ps i None))
@@ -342,9 +336,6 @@ module _ (ps now : List (Option (SeriesKey × Coef))) (places news : List (Serie
     again-items : set now i None ≡ set ps i None ++ Some (with_coef key coef) ∷ []
     again-items = ap (λ l. set l i None) now_is ∙ set-append_left ps (Some (with_coef key coef) ∷ []) i None again-within
 
-    pub again-bound : i < length now
-    again-bound = let less = again-within in omega (arith, less, ap length now_is, length-append ps (Some (with_coef key coef) ∷ []))
-
     pub kept-again : AreKept (set now i None) news start capacity
     kept-again =
         let less = set-count ps places start capacity kept i key at-old.0 at-old.1 in
@@ -371,24 +362,6 @@ module _ (ps now : List (Option (SeriesKey × Coef))) (places news : List (Serie
         (kept-pushed ps ps places news start capacity key coef kept (without-none ps places start capacity kept key (sym was_is ∙ there)) told_at
         (omega (arith, same, kept.counted)) (omega (arith, less, length-reverse (shown ps))))
 
-    pub pairs-anew : reverse (shown now) ≡ with_coef key coef ∷ remove_entry (key_eq key) (reverse (shown ps))
-    pairs-anew =
-        ap (λ l. reverse (shown l)) now_is
-        ∙ pushed ps (key, coef)
-        ∙ ap (λ l. with_coef key coef ∷ l) (sym (remove-absent key (reverse (shown ps)) gone))
-
--- what is kept once the first pair that is held is let go
-pub kept-first : (ps seen : List (Option (SeriesKey × Coef))) (places news : List (SeriesKey × ℕ)) (start capacity i : ℕ) (key : SeriesKey) (gone : Option ℕ)
-    → AreKept ps places start capacity → seen ≡ ps → IsFirstHeld seen i key
-    → ((q : SeriesKey) → lookup (key_eq q) news ≡ cond (key_eq key q) None (lookup (key_eq q) places))
-    → gone ≡ lookup (key_eq key) places → length news + (if is_some gone then 1 else 0) ≡ length places
-    → AreKept (set ps i None) news i capacity
-kept-first ps seen places news start capacity i key gone kept same first told gone_is counted =
-    let at : get_or ps i None ≡ Some (key, first.coef) = ap (λ l. get_or l i None) (sym same) ∙ first.is in
-    let there : gone ≡ Some i = gone_is ∙ kept.placed i key first.coef at in
-    kept-dropped ps places news start capacity i key first.coef kept at (λ j less. ap (λ l. get_or l j None) (sym same) ∙ first.before j less) told
-    (sym (ap (λ (o : Option ℕ). length news + (if is_some o then 1 else 0)) there) ∙ counted)
-
 pub pairs-first : (ps seen : List (Option (SeriesKey × Coef))) (i : ℕ) (key : SeriesKey) → seen ≡ ps → IsFirstHeld seen i key
     → reverse (shown (set ps i None)) ≡ take (length (reverse (shown ps)) - 1) (reverse (shown ps))
 pairs-first ps seen i key same first =
@@ -408,12 +381,3 @@ kept-reordered ps now places news start capacity kept same told counted =
       within = kept.within;
       limit = kept.limit;
     })
-
--- what a place tells is found
-pub found-at : (ps : List (Option (SeriesKey × Coef))) (places : List (SeriesKey × ℕ)) (start capacity : ℕ) (key : SeriesKey) (i : ℕ) (put : Option (SeriesKey × Coef))
-    → AreKept ps places start capacity → lookup (key_eq key) places ≡ Some i → put ≡ get_or ps i put
-    → option_map (λ e. e.1) put ≡ lookup (key_eq key) (reverse (shown ps))
-found-at ps places start capacity key i put kept told at =
-    let held = kept.found key i told in
-    let is : put ≡ Some (key, held.0) = at ∙ get_or_default ps i put None (held-within ps i (key, held.0) held.1) ∙ held.1 in
-    ap (λ (o : Option (SeriesKey × Coef)). option_map (λ e. e.1) o) is ∙ sym (found-held ps places start capacity kept i key held.0 held.1)

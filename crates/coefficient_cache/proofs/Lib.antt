@@ -10,3 +10,4 @@ pub mod Kept
 pub mod Putting
 pub mod Apart
 pub mod Fronts
+pub mod Found

@@ -159,6 +159,15 @@ module _ {K V : Type 0} {eq : K → K → Bool} (laws : IsEquivalence eq) (exact
       let less : suc n - 1 ≡ n = omega arith in
       ap (λ m. x ∷ take m (take (suc n) L)) less ∙ ap (λ zs. x ∷ zs) (take-take n (suc n) L (omega arith))
 
+  -- a needed key that the list lacks isn't in front so far
+  pub topped-new : (n : ℕ) (base xs : List (K × V)) (k : K) → has xs k ≡ false → has base k ≡ false → has (topped n base xs) k ≡ false
+  topped-new n base xs k fresh out =
+      let L = reverse (news base xs) ++ base in
+      let none : has L k ≡ false =
+      has-append (eq k) (reverse (news base xs)) base
+      ∙ (λ i. (has-reverse (eq k) (news base xs) ∙ has-filter (λ j. not (has base j)) xs k ∙ ap (λ b. not (has base k) && b) fresh ∙ and-false (not (has base k))) i || out i) in
+      ap is_some (lookup-take-none (eq k) n L (none_from_is_some (lookup (eq k) L) none))
+
   -- a needed key that the list lacks is put in front
   pub put-new : (base xs : List (K × V)) (k : K) (v : V) (n : ℕ) → 0 < n → has xs k ≡ false → has base k ≡ false → put_entries eq (topped n base xs) n k v ≡ topped n base (xs ++ (k, v) ∷ [])
   put-new base xs k v n some fresh out =

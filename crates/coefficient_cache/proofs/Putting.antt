@@ -1,5 +1,5 @@
 -- What a put does to a list, and how a list is packed and compared.
-use Rattle.std.proofs.Common.{◌≡◌, ℕ, suc, ◌+◌, ◌-◌, ◌<◌, ◌≤◌, true, false, cond, List, [], ◌∷◌, ◌++◌, length, take, drop, get_or, reverse, Option, Some, None, refl, sym, ap, ◌∙◌, subst, arith, length-append, length-drop, get_or-drop, take-append-drop, append-nil, take_all}
+use Rattle.std.proofs.Common.{◌≡◌, ℕ, suc, ◌+◌, ◌-◌, ◌<◌, ◌≤◌, true, false, cond, List, [], ◌∷◌, ◌++◌, length, take, drop, get_or, reverse, Option, Some, None, is_some, sym, ap, ◌∙◌, subst, arith, length-append, length-drop, get_or-drop, take-append-drop, append-nil, take_all}
 use Rattle.std.specs.Option.{option_map_or}
 use Rattle.std.specs.List.{IsDistinct}
 use Rattle.std.specs.Map.{keys_of, lookup, remove_entry}
@@ -13,7 +13,7 @@ use Rattle.coefficient_cache.specs.Puts.{shown, put_entries}
 use Rattle.coefficient_cache.proofs.Keys.{key_exact, in_series-more}
 use Rattle.coefficient_cache.proofs.Finds.{none_from_is_some, has-reverse, lookup-take-none, entry_none, entry_there}
 use Rattle.coefficient_cache.proofs.Unmoved.{there, past}
-use Rattle.coefficient_cache.proofs.Kept.{with_coef, held-within, shown-append, shown-split, remove-absent, pushed}
+use Rattle.coefficient_cache.proofs.Kept.{with_coef, held-within, shown-append, shown-split, pushed}
 
 pub put-there : (es : List (SeriesKey × Coef)) (n : ℕ) (k : SeriesKey) (v : Coef) → has es k ≡ true → with_coef k v ∷ remove_entry (key_eq k) es ≡ put_entries key_eq es n k v
 put-there es n k v h =
@@ -25,25 +25,13 @@ put-missing : (es : List (SeriesKey × Coef)) (n : ℕ) (k : SeriesKey) (v : Coe
 put-missing es n k v h =
     sym (ap (λ (o : Option (SeriesKey × Coef)). option_map_or (λ e. with_coef e.0 v ∷ remove_entry (key_eq k) es) o (with_coef k v ∷ take (n - 1) es)) (entry_none (key_eq k) es h))
 
--- a put in a list that isn't full
-pub put-roomy : (es : List (SeriesKey × Coef)) (n : ℕ) (k : SeriesKey) → length es < n → (v : Coef) → with_coef k v ∷ remove_entry (key_eq k) es ≡ put_entries key_eq es n k v
-put-roomy es n k room = λ v.
-    elim (has es k) as (λ b. has es k ≡ b → with_coef k v ∷ remove_entry (key_eq k) es ≡ put_entries key_eq es n k v) [
-      | true ↦ λ h. put-there es n k v h
-      | false ↦ λ h.
-          let none : lookup (key_eq k) es ≡ None = none_from_is_some (lookup (key_eq k) es) h in
-          ap (λ l. with_coef k v ∷ l) (remove-absent k es none ∙ sym (take_all (n - 1) es (omega (arith, room)))) ∙ put-missing es n k v none
-    ] refl
+-- a put of a new key
+pub put-anew : (es : List (SeriesKey × Coef)) (n : ℕ) (k : SeriesKey) (v : Coef) → has es k ≡ false → with_coef k v ∷ take (n - 1) es ≡ put_entries key_eq es n k v
+put-anew es n k v new = put-missing es n k v (none_from_is_some (lookup (key_eq k) es) new)
 
--- a put of a new key in a full list
-pub put-full : (es fs : List (SeriesKey × Coef)) (n : ℕ) (k : SeriesKey) → lookup (key_eq k) es ≡ None → length es ≡ n → fs ≡ take (length es - 1) es
-    → (v : Coef) → with_coef k v ∷ remove_entry (key_eq k) fs ≡ put_entries key_eq es n k v
-put-full es fs n k none full is = λ v.
-    ap (λ l. with_coef k v ∷ l)
-    (ap (remove_entry (key_eq k)) is
-    ∙ remove-absent k (take (length es - 1) es) (lookup-take-none (key_eq k) (length es - 1) es none)
-    ∙ ap (λ m. take (m - 1) es) full)
-    ∙ put-missing es n k v none
+-- a new key is new among the first pairs too
+pub new-taken : (es fs : List (SeriesKey × Coef)) (n : ℕ) (k : SeriesKey) → has es k ≡ false → fs ≡ take n es → has fs k ≡ false
+new-taken es fs n k new is = ap (λ l. has l k) is ∙ ap is_some (lookup-take-none (key_eq k) n es (none_from_is_some (lookup (key_eq k) es) new))
 
 -- what is put again
 pub put-again : (es : List (SeriesKey × Coef)) (n : ℕ) (k : SeriesKey) (v : Coef) → has es k ≡ true
@@ -77,16 +65,16 @@ module _ (ps : List (Option (SeriesKey × Coef))) where
       }
 
   -- one more of the pairs stands in front of a packed list
-  pub packed-more : (i : ℕ) (e : SeriesKey × Coef) → IsDistinct key_eq (keys_of (shown ps)) → get_or ps i None ≡ Some e
-      → e ∷ remove_entry (key_eq e.0) (reverse (shown (take i ps))) ≡ reverse (shown (take (i + 1) ps))
-  packed-more i e apart at =
+  pub packed-more : (i : ℕ) (e : SeriesKey × Coef) → get_or ps i None ≡ Some e → e ∷ reverse (shown (take i ps)) ≡ reverse (shown (take (i + 1) ps))
+  packed-more i e at = sym (ap (λ l. reverse (shown l)) (take_more ps i None (held-within ps i e at) ∙ ap (λ (o : Option (SeriesKey × Coef)). take i ps ++ o ∷ []) at) ∙ pushed (take i ps) e)
+
+  -- its key isn't there yet
+  pub packed-new : (i : ℕ) (e : SeriesKey × Coef) → IsDistinct key_eq (keys_of (shown ps)) → get_or ps i None ≡ Some e → has (reverse (shown (take i ps))) e.0 ≡ false
+  packed-new i e apart at =
       let front = shown (take i ps) in
       let rest = shown (drop (suc i) ps) in
       let split : shown ps ≡ front ++ (e ∷ rest) = shown-split ps i e at in
-      let other : has front e.0 ≡ false = past front (e ∷ rest) e.0 (subst (λ (l : List (SeriesKey × Coef)). IsDistinct key_eq (keys_of l)) split apart) (there [] e rest) in
-      let none : lookup (key_eq e.0) (reverse front) ≡ None = none_from_is_some (lookup (key_eq e.0) (reverse front)) (has-reverse (key_eq e.0) front ∙ other) in
-      ap (λ l. e ∷ l) (remove-absent e.0 (reverse front) none)
-      ∙ sym (ap (λ l. reverse (shown l)) (take_more ps i None (held-within ps i e at) ∙ ap (λ (o : Option (SeriesKey × Coef)). take i ps ++ o ∷ []) at) ∙ pushed (take i ps) e)
+      has-reverse (key_eq e.0) front ∙ past front (e ∷ rest) e.0 (subst (λ (l : List (SeriesKey × Coef)). IsDistinct key_eq (keys_of l)) split apart) (there [] e rest)
 
   -- there is room for it
   pub packed-room : (i capacity : ℕ) (e : SeriesKey × Coef) → get_or ps i None ≡ Some e → length (shown ps) ≤ capacity → length (reverse (shown (take i ps))) < capacity

@@ -11,7 +11,7 @@ use Rattle.coefficient_cache.specs.declared.series_key.SeriesKey.{SeriesKey}
 use Rattle.coefficient_cache.specs.Pairs.{series_key, key_eq, in_series, has}
 use Rattle.coefficient_cache.specs.Views.{AreDistinct, are_new, hits, news, others, renewed}
 use Rattle.coefficient_cache.proofs.Keys.{key_laws, key_exact, in_series-more, is_fresh}
-use Rattle.coefficient_cache.proofs.Moves.{moved, topped, move-hit, move-miss, has-moved, put-new, put-none}
+use Rattle.coefficient_cache.proofs.Moves.{moved, topped, move-hit, move-miss, has-moved, put-new, put-none, topped-new}
 
 not_turned : (a b : Bool) → not a ≡ b → a ≡ not b
 not_turned true b h = ap not h
@@ -82,6 +82,10 @@ module _ (series : ℕ) (needed : List (Key × Coef)) (i : ℕ) (d : Key × Coef
       let told : get_or flags i e ≡ not (has base key) =
       ap (λ l. get_or l i e) are ∙ get_or-map f (map g needed) i (g d) e long ∙ ap f (get_or-map g needed i d (g d) in_range) in
       not_turned (has base key) b (sym told ∙ at)
+
+  -- a new key isn't in front so far
+  pub new-there : (base : List (SeriesKey × Coef)) (old : Cache) (n : ℕ) (k : SeriesKey) → has base key ≡ false → old.pairs ≡ topped_keys n base before → k ≡ key → has old.pairs k ≡ false
+  new-there base old n k out was is = (λ j. has (was j) (is j)) ∙ topped-new key_laws key_exact n base before key fresh out
 
   -- a new key is put in front
   pub new-step : (base : List (SeriesKey × Coef)) (old : Cache) (n : ℕ) (k : SeriesKey) (new : List (SeriesKey × Coef)) → 0 < n → has base key ≡ false → old.pairs ≡ topped_keys n base before → old.capacity ≡ n → k ≡ key → new ≡ put_entries key_eq old.pairs old.capacity k coef → new ≡ topped_keys n base after

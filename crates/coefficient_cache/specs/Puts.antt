@@ -14,6 +14,23 @@ shown [] = []
 shown (None ∷ puts) = shown puts
 shown (Some e ∷ puts) = e ∷ shown puts
 
+-- where the pair of each key stands, by the number of the key and the place of the number
+abbrev pub located : List ℕ → List (SeriesKey × ℕ) → List (SeriesKey × ℕ)
+located places numbers = map (λ e. (e.0, get_or places e.1 0)) numbers
+
+-- each place tells the number of its pair, and the number of each key tells where its pair is
+pub record AreFound (puts : List (Option (SeriesKey × Coef))) (owners places : List ℕ) (numbers : List (SeriesKey × ℕ)) : Type 0 where
+  pub found : (k : SeriesKey) (i : ℕ) → lookup (key_eq k) (located places numbers) ≡ Some i → (v : Coef) × (get_or puts i None ≡ Some (k, v))
+  pub placed : (i : ℕ) (k : SeriesKey) (v : Coef) → get_or puts i None ≡ Some (k, v) → lookup (key_eq k) (located places numbers) ≡ Some i
+  pub owned : (i : ℕ) (k : SeriesKey) (v : Coef) → get_or puts i None ≡ Some (k, v) → lookup (key_eq k) numbers ≡ Some (get_or owners i 0)
+  pub known : (k : SeriesKey) (n : ℕ) → lookup (key_eq k) numbers ≡ Some n → n < length places
+  pub long : length owners ≡ length puts
+
+-- the number of this key tells where its pair is
+pub record IsTold (puts : List (Option (SeriesKey × Coef))) (places : List ℕ) (numbers : List (SeriesKey × ℕ)) (key : SeriesKey) : Type 0 where
+  pub within : (n : ℕ) → lookup (key_eq key) numbers ≡ Some n → n < length places
+  pub held : (n : ℕ) → lookup (key_eq key) numbers ≡ Some n → (v : Coef) × (get_or puts (get_or places n 0) None ≡ Some (key, v))
+
 -- the places tell of each key that is held where its pair is; before the start none is held
 pub record AreKept (puts : List (Option (SeriesKey × Coef))) (places : List (SeriesKey × ℕ)) (start capacity : ℕ) : Type 0 where
   pub found : (k : SeriesKey) (i : ℕ) → lookup (key_eq k) places ≡ Some i → (v : Coef) × (get_or puts i None ≡ Some (k, v))
@@ -23,6 +40,12 @@ pub record AreKept (puts : List (Option (SeriesKey × Coef))) (places : List (Se
   pub counted : length (shown puts) ≡ length places
   pub within : length (shown puts) ≤ capacity
   pub limit : IsCapacity capacity
+
+-- a list as it is stored
+pub record AreStored (puts : List (Option (SeriesKey × Coef))) (owners places : List ℕ) (numbers : List (SeriesKey × ℕ)) (start capacity : ℕ) : Type 0 where
+  pub found : AreFound puts owners places numbers
+  pub kept : AreKept puts (located places numbers) start capacity
+  pub counted : length (shown puts) ≡ length numbers
 
 -- the first pair that is held stands at this place, and is of this key
 pub record IsFirstHeld (puts : List (Option (SeriesKey × Coef))) (i : ℕ) (k : SeriesKey) : Type 0 where

@@ -1,14 +1,14 @@
 //! A list of pairs, the one that was put last before the others.
 
-ghost use Rattle.std.specs.Prelude.{◌≡◌, ◌==◌, ◌<◌, ◌≤◌, ◌-◌, ◌∷◌, ◌++◌, ◌&&◌, ℕ, [], false, length, take, reverse, get_or, if◌then◌else◌, None, Some, IfSome, IfNone, IfOk, OnOk, IsTrue, IsFalse};
+ghost use Rattle.std.specs.Prelude.{◌≡◌, ◌==◌, ◌<◌, ◌≤◌, ◌+◌, ◌-◌, ◌∷◌, ◌++◌, ◌&&◌, ℕ, [], false, length, take, set, reverse, get_or, if◌then◌else◌, None, Some, IfSome, IfNone, IfOk, OnOk, OnErr, IsTrue, IsFalse};
 ghost use Rattle.std.specs.List.{IsDistinct};
 ghost use Rattle.std.specs.Option.{option_map};
-ghost use Rattle.std.specs.Map.{keys_of, remove_entry};
+ghost use Rattle.std.specs.Map.{keys_of, lookup};
 ghost use Rattle.coefficient_cache.specs.Pairs.{key_eq, coefficient_eq, coefficient_at, has};
 ghost use Rattle.coefficient_cache.specs.Views.{IsInFront, RenewsFront};
 ghost use Rattle.coefficient_cache.specs.Caches.{IsCapacity, IsValid};
 ghost use Rattle.om3_coeff.specs.declared.coef.Coef.{Coef};
-ghost use Rattle.coefficient_cache.specs.Puts.{shown, IsFirstHeld, HasKeys, put_entries, put_in};
+ghost use Rattle.coefficient_cache.specs.Puts.{shown, AreFound, IsTold, IsFirstHeld, HasKeys, put_entries, put_in};
 
 use crate::series_key::SeriesKey;
 use om3_coeff::{Coef, Key};
@@ -19,12 +19,17 @@ use std::marker::Model;
 /// Pairs, the one that was put last before the others, at most as many as a capacity.
 ///
 /// They stand in the order in which they were put. A pair whose key is put again, or that falls off,
-/// leaves an empty place, until the list is packed.
+/// leaves an empty place, until the list is packed. A key has a number for as long as it is held, so
+/// nothing is hashed where its pair moves.
 #[derive(Drop)]
 pub struct PairList {
     puts: Vec<Option<(SeriesKey, Coef)>>,
-    // Where the pair of each key stands.
-    places: HashMap<SeriesKey, usize>,
+    // The number of the pair at each place.
+    owners: Vec<usize>,
+    // Where the pair of each number stands.
+    places: Vec<usize>,
+    // The number of each key.
+    numbers: HashMap<SeriesKey, usize>,
     // No pair stands before this place.
     start: usize,
     capacity: u32,
@@ -33,16 +38,17 @@ pub struct PairList {
 impl Model for PairList {
     ghost use Rattle.std.specs.Prelude.{reverse};
     ghost use Rattle.coefficient_cache.specs.Caches.{Cache};
-    ghost use Rattle.coefficient_cache.specs.Puts.{shown, AreKept};
+    ghost use Rattle.coefficient_cache.specs.Puts.{shown, AreStored};
 
     ghost Value = { Cache };
 
     ghost view = { λ l. record { pairs = reverse (shown l.puts.items); capacity = l.capacity } };
 
-    ghost invariant = { λ l. AreKept l.puts.items l.places.entries l.start l.capacity };
+    ghost invariant = { λ l. AreStored l.puts.items l.owners.items l.places.items l.numbers.entries l.start l.capacity };
 }
 
-// So many places may be empty, and three quarters as many as there are pairs.
+// So many places may be empty, and so many numbers let go, and three quarters as many as there are
+// pairs.
 const SPARE: usize = 1_024;
 
 // At so many places the next key is looked for before it is looked up.
@@ -56,7 +62,9 @@ impl PairList {
     {
         PairList {
             puts: Vec::new(alloc),
-            places: HashMap::new(alloc),
+            owners: Vec::new(alloc),
+            places: Vec::new(alloc),
+            numbers: HashMap::new(alloc),
             start: 0,
             capacity,
         }
@@ -68,7 +76,7 @@ impl PairList {
         ensures valid { IsValid self.now }
         ensures limit { IsCapacity self.now.capacity }
     {
-        self.places.len()
+        self.numbers.len()
     }
 
     pub(crate) fn is_empty(&self) -> bool
@@ -88,17 +96,7 @@ impl PairList {
     pub(crate) fn find(&self, key: SeriesKey) -> Option<Coef>
         ensures { result ≡ coefficient_at self.now.pairs key }
     {
-        self.look_up(key).0
-    }
-
-    /// The coefficient of a key, and the place behind its pair, or behind all where it isn't held.
-    fn look_up(&self, key: SeriesKey) -> (Option<Coef>, usize)
-        ensures { result.0 ≡ coefficient_at self.now.pairs key }
-    {
-        let Some(place) = self.places.get(&key) else {
-            return (None, self.puts.len());
-        };
-        (coef_of(self.puts[*place]), place.saturating_add(1))
+        self.find_near(self.puts.len(), key).0
     }
 
     /// The coefficient of a key, and where to look for the next one. The key is looked for at some places
@@ -108,12 +106,10 @@ impl PairList {
         ensures { result.0 ≡ coefficient_at self.now.pairs key }
     {
         let puts = self.puts.as_slice();
-        for place in from..from.saturating_add(NEAR).min(puts.len()) {
-            if is_of(puts[place], key) {
-                return (coef_of(puts[place]), place.saturating_add(1));
-            }
-        }
-        self.look_up(key)
+        let Some(place) = place_of(puts, self.places.as_slice(), &self.numbers, from, key) else {
+            return (None, from);
+        };
+        (coef_of(puts[place]), place.saturating_add(1))
     }
 
     /// Whether the needed pairs are the first ones of the list, the one that is needed last before the
@@ -153,28 +149,28 @@ impl PairList {
         ensures { self.new ≡ self.old }
     {
         self.puts.reserve(count.saturating_mul(2))?;
-        self.places.reserve(count)
+        self.owners.reserve(count.saturating_mul(2))?;
+        self.places.reserve(count)?;
+        self.numbers.reserve(count)
     }
 
-    /// Puts a pair in front. What passes the capacity falls off the end.
+    /// Puts a pair in front, of a key that isn't in the list. What passes the capacity falls off the end.
     pub(crate) fn put(&mut self, key: SeriesKey, coef: Coef) -> Result<(), AllocError>
+        requires { has self.old.pairs key ≡ false }
         ensures pairs { OnOk result (self.new.pairs ≡ put_entries key_eq self.old.pairs self.old.capacity key coef) }
         ensures capacity { self.new.capacity ≡ self.old.capacity }
     {
-        self.make_room(key);
+        self.make_room();
         self.add(key, coef)
     }
 
-    /// Drops the last pair of a full list, unless this key is there.
-    fn make_room(&mut self, key: SeriesKey)
-        ensures room { has self.new.pairs key ≡ false → length self.new.pairs < self.new.capacity }
-        ensures put { (v : Coef) → (key, v) ∷ remove_entry (key_eq key) self.new.pairs ≡ put_entries key_eq self.old.pairs self.old.capacity key v }
+    /// Drops the last pair of a full list.
+    fn make_room(&mut self)
+        ensures room { length self.new.pairs < self.new.capacity }
+        ensures pairs { self.new.pairs ≡ take (self.old.capacity - 1) self.old.pairs }
         ensures capacity { self.new.capacity ≡ self.old.capacity }
     {
         if self.len() < self.capacity() as usize {
-            return;
-        }
-        if self.find(key).is_some() {
             return;
         }
         self.drop_last();
@@ -193,30 +189,36 @@ impl PairList {
             (if has self.old.pairs key then put_entries key_eq self.old.pairs self.old.capacity key coef else self.old.pairs)) }
         ensures capacity { self.new.capacity ≡ self.old.capacity }
     {
-        let (held, next) = self.find_near(from, key);
-        if held.is_none() {
-            return Ok((false, next));
-        }
-        self.add(key, coef)?;
-        Ok((true, next))
+        let puts = self.puts.as_slice();
+        let Some(place) = place_of(puts, self.places.as_slice(), &self.numbers, from, key) else {
+            return Ok((false, from));
+        };
+        move_last(
+            &mut self.puts,
+            &mut self.owners,
+            &mut self.places,
+            place,
+            key,
+            coef,
+        )?;
+        Ok((true, place.saturating_add(1)))
     }
 
-    /// Puts a pair in front, where there is room for it.
+    /// Puts a pair in front, of a key that isn't in the list, where there is room for it.
     fn add(&mut self, key: SeriesKey, coef: Coef) -> Result<(), AllocError>
-        requires { has self.old.pairs key ≡ false → length self.old.pairs < self.old.capacity }
-        ensures pairs { OnOk result (self.new.pairs ≡ (key, coef) ∷ remove_entry (key_eq key) self.old.pairs) }
+        requires new { has self.old.pairs key ≡ false }
+        requires room { length self.old.pairs < self.old.capacity }
+        ensures pairs { OnOk result (self.new.pairs ≡ (key, coef) ∷ self.old.pairs) }
         ensures capacity { self.new.capacity ≡ self.old.capacity }
     {
-        self.puts.reserve(1)?;
-        let end = self.puts.len();
-        let before = self.places.insert(key, end)?;
-        let Ok(()) = self.puts.push(Some((key, coef))) else {
-            unreachable!()
-        };
-        if let Some(place) = before {
-            self.puts[place] = None;
-        }
-        Ok(())
+        add_last(
+            &mut self.puts,
+            &mut self.owners,
+            &mut self.places,
+            &mut self.numbers,
+            key,
+            coef,
+        )
     }
 
     /// Drops the last pair, if there is any.
@@ -227,24 +229,216 @@ impl PairList {
         let Some((place, key)) = first_held(self.puts.as_slice(), self.start) else {
             return;
         };
-        self.places.remove(&key);
+        self.numbers.remove(&key);
         self.puts[place] = None;
         self.start = place;
     }
 
-    /// Packs the list where more than three quarters as many places are empty as there are pairs, and
-    /// `SPARE`.
+    /// Packs the list where more than three quarters as many places are empty, or as many numbers were let
+    /// go, as there are pairs, and `SPARE`.
     pub(crate) fn pack(&mut self, alloc: Global) -> Result<(), AllocError>
         ensures pairs { OnOk result (self.new.pairs ≡ self.old.pairs) }
         ensures capacity { self.new.capacity ≡ self.old.capacity }
     {
-        let count = self.places.len();
-        if self.puts.len() <= count + count / 2 + count / 4 + SPARE {
+        let count = self.numbers.len();
+        let most = count + count / 2 + count / 4 + SPARE;
+        if self.places.len() > most {
+            *self = packed(alloc, self.puts.as_slice(), count, self.capacity)?;
             return Ok(());
         }
-        *self = packed(alloc, self.puts.as_slice(), count, self.capacity)?;
+        if self.puts.len() > most {
+            close_up(
+                &mut self.puts,
+                &mut self.owners,
+                &mut self.places,
+                &self.numbers,
+            );
+            self.start = 0;
+        }
         Ok(())
     }
+}
+
+// The place of a key's pair, where it is held. It is looked for at this one first, where it mostly is.
+fn place_of(
+    puts: &[Option<(SeriesKey, Coef)>],
+    places: &[usize],
+    numbers: &HashMap<SeriesKey, usize>,
+    from: usize,
+    key: SeriesKey,
+) -> Option<usize>
+    requires { IsTold puts.now places.now numbers.now.entries key }
+    ensures held { IfSome result (λ i. (v : Coef) × (get_or puts.now i None ≡ Some (key, v))) }
+    ensures none { IfNone result (lookup (key_eq key) numbers.now.entries ≡ None) }
+{
+    if stands_at(puts, from, key) {
+        return Some(from);
+    }
+    place_beyond(puts, places, numbers, from, key)
+}
+
+// Whether a pair of this key is held at the place.
+fn stands_at(puts: &[Option<(SeriesKey, Coef)>], place: usize, key: SeriesKey) -> bool
+    ensures { IsTrue result → (v : Coef) × (get_or puts.now place None ≡ Some (key, v)) }
+{
+    if puts.len() <= place {
+        return false;
+    }
+    is_of(puts[place], key)
+}
+
+// The same; it is looked for at some places from this one on, and looked up where it isn't there.
+fn place_beyond(
+    puts: &[Option<(SeriesKey, Coef)>],
+    places: &[usize],
+    numbers: &HashMap<SeriesKey, usize>,
+    from: usize,
+    key: SeriesKey,
+) -> Option<usize>
+    requires { IsTold puts.now places.now numbers.now.entries key }
+    ensures held { IfSome result (λ i. (v : Coef) × (get_or puts.now i None ≡ Some (key, v))) }
+    ensures none { IfNone result (lookup (key_eq key) numbers.now.entries ≡ None) }
+{
+    let near = near_place(puts, from, key);
+    if near.is_some() {
+        return near;
+    }
+    match numbers.get(&key) {
+        Some(number) => Some(places[*number]),
+        None => None,
+    }
+}
+
+// The place of a key's pair, where it is held at one of some places from this one on.
+fn near_place(puts: &[Option<(SeriesKey, Coef)>], from: usize, key: SeriesKey) -> Option<usize>
+    ensures { IfSome result (λ i. (v : Coef) × (get_or puts.now i None ≡ Some (key, v))) }
+{
+    for place in from..from.saturating_add(NEAR).min(puts.len()) {
+        if is_of(puts[place], key) {
+            return Some(place);
+        }
+    }
+    None
+}
+
+// Puts a pair of a new key behind all others.
+fn add_last(
+    puts: &mut Vec<Option<(SeriesKey, Coef)>>,
+    owners: &mut Vec<usize>,
+    places: &mut Vec<usize>,
+    numbers: &mut HashMap<SeriesKey, usize>,
+    key: SeriesKey,
+    coef: Coef,
+) -> Result<(), AllocError>
+    requires { lookup (key_eq key) numbers.old.entries ≡ None }
+    ensures puts { OnOk result (puts.new.items ≡ puts.old.items ++ Some (key, coef) ∷ []) }
+    ensures owners { OnOk result (owners.new.items ≡ owners.old.items ++ length places.old.items ∷ []) }
+    ensures places { OnOk result (places.new.items ≡ places.old.items ++ length puts.old.items ∷ []) }
+    ensures numbers { OnOk result ((q : SeriesKey) → lookup (key_eq q) numbers.new.entries ≡
+        (if key_eq key q then Some (length places.old.items) else lookup (key_eq q) numbers.old.entries)) }
+    ensures count { OnOk result (length numbers.new.entries ≡ length numbers.old.entries + 1) }
+    ensures puts_stay { OnErr result (puts.new.items ≡ puts.old.items) }
+    ensures owners_stay { OnErr result (owners.new.items ≡ owners.old.items) }
+    ensures places_stay { OnErr result (places.new.items ≡ places.old.items) }
+    ensures numbers_stay { OnErr result (numbers.new.entries ≡ numbers.old.entries) }
+{
+    puts.reserve(1)?;
+    owners.reserve(1)?;
+    places.reserve(1)?;
+    let number = places.len();
+    let end = puts.len();
+    numbers.insert(key, number)?;
+    let Ok(()) = puts.push(Some((key, coef))) else {
+        unreachable!()
+    };
+    let Ok(()) = owners.push(number) else {
+        unreachable!()
+    };
+    let Ok(()) = places.push(end) else {
+        unreachable!()
+    };
+    Ok(())
+}
+
+// Puts the pair of a place behind all others, with this coefficient. Its old place is empty then.
+fn move_last(
+    puts: &mut Vec<Option<(SeriesKey, Coef)>>,
+    owners: &mut Vec<usize>,
+    places: &mut Vec<usize>,
+    place: usize,
+    key: SeriesKey,
+    coef: Coef,
+) -> Result<(), AllocError>
+    requires place { place < length puts.old.items }
+    requires owners { length owners.old.items ≡ length puts.old.items }
+    requires number { get_or owners.old.items place 0 < length places.old.items }
+    ensures puts { OnOk result (puts.new.items ≡ set (puts.old.items ++ Some (key, coef) ∷ []) place None) }
+    ensures owners { OnOk result (owners.new.items ≡ owners.old.items ++ get_or owners.old.items place 0 ∷ []) }
+    ensures places { OnOk result (places.new.items ≡ set places.old.items (get_or owners.old.items place 0) (length puts.old.items)) }
+    ensures puts_stay { OnErr result (puts.new.items ≡ puts.old.items) }
+    ensures owners_stay { OnErr result (owners.new.items ≡ owners.old.items) }
+    ensures places_stay { OnErr result (places.new.items ≡ places.old.items) }
+{
+    puts.reserve(1)?;
+    owners.reserve(1)?;
+    let end = puts.len();
+    let number = owners[place];
+    let Ok(()) = puts.push(Some((key, coef))) else {
+        unreachable!()
+    };
+    let Ok(()) = owners.push(number) else {
+        unreachable!()
+    };
+    puts[place] = None;
+    places[number] = end;
+    Ok(())
+}
+
+// Moves the pairs that are held to the first places, in their order.
+fn close_up(
+    puts: &mut Vec<Option<(SeriesKey, Coef)>>,
+    owners: &mut Vec<usize>,
+    places: &mut Vec<usize>,
+    numbers: &HashMap<SeriesKey, usize>,
+)
+    requires { AreFound puts.old.items owners.old.items places.old.items numbers.now.entries }
+    ensures found { AreFound puts.new.items owners.new.items places.new.items numbers.now.entries }
+    ensures shown { shown puts.new.items ≡ shown puts.old.items }
+{
+    let mut count = 0;
+    for place in 0..puts.len() {
+        if let Some((key, coef)) = puts[place] {
+            move_down(puts, owners, places, place, count, key, coef);
+            count += 1;
+        }
+    }
+    puts.truncate(count);
+    owners.truncate(count);
+}
+
+// Moves the pair of a place to one that is before it, or is the same.
+fn move_down(
+    puts: &mut Vec<Option<(SeriesKey, Coef)>>,
+    owners: &mut Vec<usize>,
+    places: &mut Vec<usize>,
+    place: usize,
+    to: usize,
+    key: SeriesKey,
+    coef: Coef,
+)
+    requires place { place < length puts.old.items }
+    requires to { to ≤ place }
+    requires owners { length owners.old.items ≡ length puts.old.items }
+    requires number { get_or owners.old.items place 0 < length places.old.items }
+    ensures puts { puts.new.items ≡ set (set puts.old.items place None) to (Some (key, coef)) }
+    ensures owners { owners.new.items ≡ set owners.old.items to (get_or owners.old.items place 0) }
+    ensures places { places.new.items ≡ set places.old.items (get_or owners.old.items place 0) to }
+{
+    let number = owners[place];
+    puts[place] = None;
+    puts[to] = Some((key, coef));
+    owners[to] = number;
+    places[number] = to;
 }
 
 // The coefficient of a pair that is held.

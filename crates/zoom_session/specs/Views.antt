@@ -1,5 +1,5 @@
 -- The view that a session was answered last.
-use Rattle.std.specs.Prelude.{◌≤◌, ◌≤ℤ◌, ⊤}
+use Rattle.std.specs.Prelude.{◌≤ℤ◌, ⊤}
 use Rattle.whole_number.specs.Range.{IsValue}
 use Rattle.zoom_session.specs.declared.view_spec.RangeSpec.{RangeSpec}
 use Rattle.zoom_session.specs.declared.view_spec.RangeSpec.TheVariants.{Auto, Fixed}

@@ -3,8 +3,9 @@ use Rattle.om3_coeff.specs.declared.coef.Coef.{Coef}
 use Rattle.coefficient_cache.specs.declared.series_key.SeriesKey.{SeriesKey}
 use Rattle.coefficient_cache.specs.Caches.{Cache}
 use Rattle.coefficient_cache.specs.Views.{RenewsFront}
-use Rattle.coefficient_cache.specs.Puts.{shown, AreKept, HasKeys, put_in}
-use Rattle.coefficient_cache.proofs.Fronts.{kept-alike, alike-set, renews-front}
+use Rattle.coefficient_cache.specs.Puts.{shown, AreStored, HasKeys, put_in}
+use Rattle.coefficient_cache.proofs.Fronts.{alike-set, renews-front}
+use Rattle.coefficient_cache.proofs.Found.{stored-alike}
 use Rattle.coefficient_cache.proofs.pair_list.PairList.renew_front.Goals as goal
 
 pub set_coefs-requires : goal.set_coefs-requires
@@ -16,8 +17,8 @@ pub invariant_of-self : goal.invariant_of-self
 invariant_of-self c =
     let puts = c.self.inside.puts.items in
     let keys = subst (λ (l : List (Option (SeriesKey × Coef))). HasKeys l c.args.series c.args.needed.now) c.as_slice.ensures.value (c.have_keys.ensures c.if-not-have_keys.false) in
-    subst (λ (l : List (Option (SeriesKey × Coef))). AreKept l c.self.inside.places.entries c.self.inside.start c.self.inside.capacity) (sym c.set_coefs.ensures)
-    (kept-alike puts (take (length puts - length c.args.needed.now) puts ++ put_in c.args.series c.args.needed.now) c.self.inside.places.entries c.self.inside.start c.self.inside.capacity c.self.invariant
+    subst (λ (l : List (Option (SeriesKey × Coef))). AreStored l c.self.inside.owners.items c.self.inside.places.items c.self.inside.numbers.entries c.self.inside.start c.self.inside.capacity) (sym c.set_coefs.ensures)
+    (stored-alike puts (take (length puts - length c.args.needed.now) puts ++ put_in c.args.series c.args.needed.now) c.self.inside.owners.items c.self.inside.places.items c.self.inside.numbers.entries c.self.inside.start c.self.inside.capacity c.self.invariant
     (alike-set puts c.args.series c.args.needed.now keys))
 
 pub returns-clause-front : goal.returns-clause-front
