@@ -1,7 +1,7 @@
 -- What is done over the store of a disk, in the words of the disk.
 use Rattle.std.proofs.Common.{◌≡◌, ◌≢◌, ◌∙◌, ℕ, ◌<◌, ◌≤◌, Bool, List, [], Option, Some, None, IfSome, ap, refl, sym, subst, inl, inr, arith}
 use Rattle.std.specs.List.{filter}
-use Rattle.block_disk.specs.View.{Image, View, Honest, sent_now}
+use Rattle.block_disk.specs.View.{Beside, Image, View, Honest, sent_now}
 use Rattle.block_disk.specs.SentLaws.{sent_none}
 use Rattle.chart_service.specs.MomentLaws.{since_both, since_none}
 use Rattle.chart_service.specs.Moments.{Since}
@@ -41,6 +41,7 @@ use Rattle.hosted_lines.specs.HostCauses.{IsBadForHost, IsHostCause as IsRunCaus
 use Rattle.hosted_lines.specs.Hosts.{Counted}
 use Rattle.hosted_lines.specs.Running.{CostsLines, EndsSo, FirstLines, IsAhead, SendsAll}
 use Rattle.hosted_lines.proofs.AmidLemmas.{amid_book, amid_same}
+use Rattle.hosted_lines.proofs.CountLemmas.{few_none}
 use Rattle.live_command.specs.Ended.{begun_live}
 use Rattle.live_command.proofs.DiskLemmas.{disk_side}
 use Rattle.host_command.specs.Ended.{CostsFrom, CostsHosting, HostEnds, IsHostCause, LeavesHosted}
@@ -73,8 +74,8 @@ none_ahead IsThere input at from there = record {
   high = omega arith;
 }
 
-none_cost : (input : List ℕ) (at : Counted) → CostsLines input at at.reads at.syncs
-none_cost input at = record {
+none_cost : (input : List ℕ) (at : Counted) (pieces pieces' : ℕ) → CostsLines input at pieces pieces' at.reads at.syncs
+none_cost input at pieces pieces' = record {
   front = [];
   rest = input;
   begins = record { split = refl; whole = inl (inl refl) };
@@ -83,6 +84,7 @@ none_cost input at = record {
   frames = [];
   state = at;
   happened = (refl, refl);
+  groups = few_none (told []) pieces pieces' none_told;
   last = inl (refl, refl);
 }
 
@@ -325,15 +327,17 @@ module _ (old new : View) (t : Traffic) where
 -- no line
 pub costs_untaken : (count : ℕ) (disk : View) (left : Option (List ℕ)) → IfSome left (λ input. CostsFrom count disk disk input disk.reads disk.syncs)
 costs_untaken count disk left =
-    told_each left (λ input. CostsFrom count disk disk input disk.reads disk.syncs) (λ input total book holds. none_cost input (record { live = begun_live total book; reads = disk.reads; syncs = disk.syncs }))
+    told_each left (λ input. CostsFrom count disk disk input disk.reads disk.syncs) (λ input total book holds. none_cost input (record { live = begun_live total book; reads = disk.reads; syncs = disk.syncs }) disk.beside.pieces disk.beside.pieces)
 
 -- by a service without sessions
-pub costs_from : (count : ℕ) (old new : View) → RestsNew count old → (left : Option (List ℕ)) (state : ℕ → List Series → LiveState) → ((total : ℕ) (book : List Series) → state total book ≡ begun_live total book)
-    → ((total : ℕ) (book : List Series) → Honest old → StandsForBook (pages_of count old.image) total book → IfSome left (λ input. CostsLines input (record { live = state total book; reads = old.reads; syncs = old.syncs }) new.reads new.syncs)) → IfSome left (λ input. CostsFrom count old new input old.reads old.syncs)
-costs_from count old new rests None state begins costs = tt
-costs_from count old new rests (Some input) state begins costs = λ total book holds.
-    let P : LiveState → Type 0 = λ s. CostsLines input (record { live = s; reads = old.reads; syncs = old.syncs }) new.reads new.syncs in
-    subst P (begins total book) (costs total book holds.honest (stands_held count total book old rests holds))
+pub costs_from : (count : ℕ) (old new : View) (before now : ℕ) → old.beside.pieces ≡ before → new.beside.pieces ≡ now → RestsNew count old → (left : Option (List ℕ)) (state : ℕ → List Series → LiveState) → ((total : ℕ) (book : List Series) → state total book ≡ begun_live total book)
+    → ((total : ℕ) (book : List Series) → Honest old → StandsForBook (pages_of count old.image) total book → IfSome left (λ input. CostsLines input (record { live = state total book; reads = old.reads; syncs = old.syncs }) before now new.reads new.syncs)) → IfSome left (λ input. CostsFrom count old new input old.reads old.syncs)
+costs_from count old new before now begun ended rests None state begins costs = tt
+costs_from count old new before now begun ended rests (Some input) state begins costs = λ total book holds.
+    let B : ℕ → Type 0 = λ n. CostsLines input (record { live = state total book; reads = old.reads; syncs = old.syncs }) n now new.reads new.syncs in
+    let N : ℕ → Type 0 = λ n. CostsLines input (record { live = state total book; reads = old.reads; syncs = old.syncs }) old.beside.pieces n new.reads new.syncs in
+    let P : LiveState → Type 0 = λ s. CostsLines input (record { live = s; reads = old.reads; syncs = old.syncs }) old.beside.pieces new.beside.pieces new.reads new.syncs in
+    subst P (begins total book) (subst N (sym ended) (subst B (sym begun) (costs total book holds.honest (stands_held count total book old rests holds))))
 
 -- over a store that is opened first, or isn't
 pub costs_on : (count : ℕ) (old mid new : View) (left_mid left : Option (List ℕ)) → count ≡ page_count old.size → Opens (page_count old.size) old mid → left_mid ≡ left → IfSome left_mid (λ input. CostsFrom count mid new input mid.reads mid.syncs) → IfSome left (λ input. CostsHosting old new input)
@@ -349,7 +353,9 @@ costs_on count old mid new left_mid left counted opens same costs =
       syncs = mid.syncs;
       few_reads = opens.reads.high;
       few_syncs = syncs_few (page_count old.size) old mid opens.few;
-      costs = λ total book holds. costs total book (held old mid opens total book holds);
+      costs = λ total book holds.
+          let P : Beside → Type 0 = λ b. CostsLines input (record { live = begun_live total book; reads = mid.reads; syncs = mid.syncs }) b.pieces new.beside.pieces new.reads new.syncs in
+          subst P opens.beside_is (costs total book (held old mid opens total book holds));
     }
 
 pub costs_unopened : (old new : View) (left : Option (List ℕ)) → Opens (page_count old.size) old new → IfSome left (λ input. CostsHosting old new input)
@@ -358,5 +364,5 @@ costs_unopened old new left opens = told_each left (λ input. CostsHosting old n
   syncs = new.syncs;
   few_reads = opens.reads.high;
   few_syncs = syncs_few (page_count old.size) old new opens.few;
-  costs = λ total book holds. none_cost input (record { live = begun_live total book; reads = new.reads; syncs = new.syncs });
+  costs = λ total book holds. none_cost input (record { live = begun_live total book; reads = new.reads; syncs = new.syncs }) old.beside.pieces new.beside.pieces;
 })

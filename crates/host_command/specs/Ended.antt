@@ -28,10 +28,11 @@ abbrev pub LeavesHosted : ℕ → List ℕ → View → View → Type 0
 LeavesHosted count input old new =
     OfBook count old (λ total book. Since old new (λ image sent. IsAhead (λ after. RecoversTo count image total after) input (begun_live total book) (sent_now old) sent))
 
--- the lines, the groups and the pushes cost no more than they may from these counts on, and nothing else is read or synced
+-- the lines, the groups and the pushes cost no more than they may from these counts on, nothing else is read or synced, and
+-- there are few groups
 abbrev pub CostsFrom : ℕ → View → View → List ℕ → ℕ → ℕ → Type 0
 CostsFrom count old new input reads syncs =
-    OfBook count old (λ total book. CostsLines input (record { live = begun_live total book; reads = reads; syncs = syncs }) new.reads new.syncs)
+    OfBook count old (λ total book. CostsLines input (record { live = begun_live total book; reads = reads; syncs = syncs }) old.beside.pieces new.beside.pieces new.reads new.syncs)
 
 -- an opening reads 200 blocks at most and syncs as often as it may, and then they cost
 pub record CostsHosting (old new : View) (input : List ℕ) : Type 0 where

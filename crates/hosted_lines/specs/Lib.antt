@@ -5,6 +5,7 @@ pub mod Doing
 pub mod HostCauses
 pub mod GoesLaws
 pub mod Hosts
+pub mod Groups
 pub mod Amid
 pub mod Reporting
 pub mod Hosting

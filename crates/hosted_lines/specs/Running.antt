@@ -13,8 +13,9 @@ use Rattle.run_ends.specs.declared.ending.End.{End}
 use Rattle.run_ends.specs.declared.ending.End.TheVariants.{Done, NoMemory, ReadFault, SendFault, DiskFault, InputTooLong}
 use Rattle.series_book.specs.declared.one_series.Series.{Series}
 use Rattle.hosted_lines.specs.Amid.{IsThereAhead}
+use Rattle.hosted_lines.specs.Groups.{FewGroups}
 use Rattle.hosted_lines.specs.Hosting.{NextCosts}
-use Rattle.hosted_lines.specs.Hosts.{Counted, Event, Happens, HappensFor, InRow, lines_in}
+use Rattle.hosted_lines.specs.Hosts.{Counted, Event, Happens, HappensFor, InRow, groups_in, lines_in}
 use Rattle.hosted_lines.specs.Lives.{spelled}
 
 -- these lines are answered by these frames, alone or together, some first of the last pushes among them
@@ -121,8 +122,9 @@ pub record IsAhead (IsThere : List Series → Type 0) (input : List ℕ) (old : 
   pub high : sent ≤ from + length (spelled (shown ++ more))
 
 -- Some first lines of the input are answered, and perhaps the line, the group, the step or the push behind them failed; by
--- each no more blocks were read than it may, and the disk was synced no more often.
-pub record CostsLines (input : List ℕ) (old : Counted) (reads syncs : ℕ) : Type 0 where
+-- each no more blocks were read than it may, and the disk was synced no more often. There are few groups, by the lines that are
+-- answered and the pieces taken.
+pub record CostsLines (input : List ℕ) (old : Counted) (pieces pieces' reads syncs : ℕ) : Type 0 where
   pub front : List ℕ
   pub rest : List ℕ
   pub begins : BeginsWith input front rest
@@ -131,4 +133,5 @@ pub record CostsLines (input : List ℕ) (old : Counted) (reads syncs : ℕ) : T
   pub frames : List Frame
   pub state : Counted
   pub happened : InRow HappensFor old events frames state
+  pub groups : FewGroups (told front) (groups_in events) pieces pieces'
   pub last : ((reads ≡ state.reads) × (syncs ≡ state.syncs)) ⊎ NextCosts (told rest) state reads syncs

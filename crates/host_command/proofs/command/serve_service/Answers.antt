@@ -78,7 +78,7 @@ returns-clause-costs g c =
     let rests : RestsNew pages.count (view disk) = subst R (sym is_service) (rests_new (shown.pages service).count (view (shown.pages service).disk) (stored.numbers service.store) ((shown.pages service).at_rest c.requires.sound) (service.store.space.spelled c.requires.sound)) in
     let D : g.row.W.Denot → Type 0 = λ d. IfSome (left disk) (λ input. CostsFrom pages.count (view disk) (view d) input (view disk).reads (view disk).syncs) in
     let S : Service _ _ → Type 0 = λ s. IfSome (left (shown.pages s).disk) (λ input. CostsFrom (shown.pages s).count (view (shown.pages s).disk) (view c.disk_of.result) input (view (shown.pages s).disk).reads (view (shown.pages s).disk).syncs) in
-    subst S is_service (subst D (sym same_disk) (costs_from pages.count (view disk) (view new) rests (left disk) (its.state start) begins made.costs))
+    subst S is_service (subst D (sym same_disk) (costs_from pages.count (view disk) (view new) (g.W.Streams.pieces disk) (g.W.Streams.pieces new) (g.met.W.World.beside_pieces disk) (g.met.W.World.beside_pieces new) rests (left disk) (its.state start) begins made.costs))
 
 pub returns-clause-faults : goal.returns-clause-faults
 returns-clause-faults g c =

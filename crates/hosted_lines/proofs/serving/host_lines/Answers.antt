@@ -30,7 +30,7 @@ returns-in_default-clause-crash g c = λ total book told stands.
 pub returns-in_default-clause-costs : goal.returns-in_default-clause-costs
 returns-in_default-clause-costs g c = λ total book told stands.
     let view = its.view c.args.live.now in
-    none_costs total book (held_by c.args.live.now) (g.P.Streams.left (pages c.args.live.now)) view.reads view.syncs
+    none_costs total book (held_by c.args.live.now) (g.P.Streams.left (pages c.args.live.now)) (g.P.Streams.pieces (pages c.args.live.now)) (g.P.Streams.pieces (pages c.args.live.now)) view.reads view.syncs
 
 pub returns-clause-ends : goal.returns-clause-ends
 returns-clause-ends g c = λ total book told stands.
