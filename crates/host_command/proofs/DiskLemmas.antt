@@ -35,10 +35,11 @@ use Rattle.store_commands.proofs.WorldLemmas.{IsUnopened}
 use Rattle.store_commands.specs.Books.{HoldsAgain, OfBook, OfPages, Stands, Holds}
 use Rattle.store_commands.specs.Codes.{too_small, unopened}
 use Rattle.store_commands.specs.Status.{opening_end}
-use Rattle.store_commands.specs.Traffic.{IsLong, Traffic, WasRead}
+use Rattle.store_commands.specs.Traffic.{IsPast, Traffic, WasReadWithin}
 use Rattle.hosted_lines.specs.Doing.{Goes}
 use Rattle.hosted_lines.specs.HostCauses.{IsBadForHost, IsHostCause as IsRunCause}
 use Rattle.hosted_lines.specs.Hosts.{Counted}
+use Rattle.hosted_lines.specs.Input.{most_bytes}
 use Rattle.hosted_lines.specs.Running.{CostsLines, EndsSo, FirstLines, IsAhead, SendsAll}
 use Rattle.hosted_lines.proofs.AmidLemmas.{amid_book, amid_same}
 use Rattle.hosted_lines.proofs.CountLemmas.{few_none}
@@ -152,7 +153,7 @@ later_host count count' new page same within bad =
 
 -- from the state on that a service without sessions begins with
 module _ (count count' : ℕ) (sound sound' : Bool) (old new : View) (t : Traffic) (goes : Goes (disk_side count sound old t.reads t.sends) (disk_side count' sound' new t.reads_now t.sends_now)) (rests : RestsNew count old) (state : ℕ → List Series → LiveState) (begins : (total : ℕ) (book : List Series) → state total book ≡ begun_live total book) where
-  cause_on : (end : End) → (end ≡ Done → WasRead t.left t.left_now) → (end ≡ InputTooLong → IsLong t.left) → (end ≢ Done → IsRunCause end (disk_side count sound old t.reads t.sends) (disk_side count' sound' new t.reads_now t.sends_now)) → IsServeCause end count old new t
+  cause_on : (end : End) → (end ≡ Done → WasReadWithin most_bytes t.left t.left_now) → (end ≡ InputTooLong → IsPast most_bytes t.left) → (end ≢ Done → IsRunCause end (disk_side count sound old t.reads t.sends) (disk_side count' sound' new t.reads_now t.sends_now)) → IsServeCause end count old new t
   cause_on Done whole long cause = whole refl
   cause_on NoMemory whole long cause = tt
   cause_on ReadFault whole long cause = cause (λ is. cc)
@@ -192,7 +193,7 @@ module _ (count count' : ℕ) (sound sound' : Bool) (old new : View) (t : Traffi
             ahead_on total input (begun_live total book) (sent_now old) (new.sent_by at) count (new.crash at) (within_held count total book old holds) (subst P goes.size each) image left;
       }
 
-  pub served_by : (end : End) → (end ≡ Done → WasRead t.left t.left_now) → (end ≡ InputTooLong → IsLong t.left)
+  pub served_by : (end : End) → (end ≡ Done → WasReadWithin most_bytes t.left t.left_now) → (end ≡ InputTooLong → IsPast most_bytes t.left)
       → (end ≢ Done → IsRunCause end (disk_side count sound old t.reads t.sends) (disk_side count' sound' new t.reads_now t.sends_now))
       → OfPages count old (λ total book. IfSome t.left (λ input. ServedOn total (state total book) input end))
       → OfPages count old (λ total book. IfSome t.left (λ input. IfSome t.sent (λ bytes. Since (pages_view count sound old) (pages_view count' sound' new) (λ pages sent. IsAhead (Stands total pages) input (state total book) (sent_now (pages_view count sound old)) sent))))

@@ -5,21 +5,24 @@ use Rattle.chart_service.specs.Moments.{Since}
 use Rattle.gate_pages.specs.Journal.{page_count}
 use Rattle.gate_pages.specs.Pages.{GoesOn}
 use Rattle.run_ends.specs.declared.ending.End.{End}
-use Rattle.run_ends.specs.declared.ending.End.TheVariants.{DamagedPage, DiskFault}
+use Rattle.run_ends.specs.declared.ending.End.TheVariants.{DamagedPage, DiskFault, Done, InputTooLong}
 use Rattle.run_ends.specs.Statuses.{block_of}
 use Rattle.stored_book.specs.Standing.{RecoversTo}
 use Rattle.store_commands.specs.Books.{HoldsAgain, OfBook, Holds}
 use Rattle.store_commands.specs.Damaged.{IsDamagedLater}
-use Rattle.store_commands.specs.Traffic.{Traffic}
+use Rattle.store_commands.specs.Traffic.{IsPast, Traffic, WasReadWithin}
 use Rattle.hosted_lines.specs.HostCauses.{IsBadForHost}
+use Rattle.hosted_lines.specs.Input.{most_bytes}
 use Rattle.hosted_lines.specs.Running.{CostsLines, EndsSo, IsAhead}
 use Rattle.live_command.specs.Ended.{IsLiveCause, begun_live}
 use Rattle.disk_store.specs.Openings.{SyncsOpening}
 
--- Why `host` ended, whatever the disk holds: as `live`, but a page that is called damaged may also be one of the tree of some
--- series that is bad for its place.
+-- Why `host` ended, whatever the disk holds: as `live`, but it takes as much input as it may, and a page that is called damaged
+-- may also be one of the tree of some series that is bad for its place.
 abbrev pub IsHostCause : End → View → View → Traffic → Type 0
+IsHostCause Done old new t = WasReadWithin most_bytes t.left t.left_now
 IsHostCause (DamagedPage page) old new t = IsDamagedLater IsBadForHost (page_count old.size) new (block_of page)
+IsHostCause InputTooLong old new t = IsPast most_bytes t.left
 IsHostCause end old new t = IsLiveCause end old new t
 
 -- At each moment a crash leaves an image that recovers to a book with each edit whose Done was sent whole by then, and with

@@ -15,7 +15,7 @@ use Rattle.chart_world.specs.LineLaws.{lines_none}
 use Rattle.chart_world.specs.declared.line_answer.LineFault.TheVariants as fault
 use Rattle.line_runs.specs.Carried.{Carries}
 use Rattle.line_runs.specs.Ends.{run_end}
-use Rattle.line_runs.specs.Given.{AreBefore, AreFirst, Given, pauses}
+use Rattle.line_runs.specs.Given.{Given, pauses}
 use Rattle.line_runs.specs.GivenLaws.{pauses_joined}
 use Rattle.line_runs.specs.Moments.{Since}
 use Rattle.line_runs.specs.Runs as runs
@@ -35,13 +35,14 @@ use Rattle.hosted_lines.specs.Doing.{Held, held_with}
 use Rattle.hosted_lines.specs.Groups.{FewGroups}
 use Rattle.hosted_lines.specs.Hosting.{Begun, HostCost, HostMoment, HostStop}
 use Rattle.hosted_lines.specs.Hosts.{Event, Happens, HappensFor, InRow, groups_in, lines_in}
+use Rattle.hosted_lines.specs.Input.{most_bytes}
 use Rattle.hosted_lines.specs.Lives.{spelled}
 use Rattle.hosted_lines.specs.Running.{CostsLines, EndsSo, FirstLines, HostedBy, IsAhead, SendsAll, SendsFirst}
 use Rattle.hosted_lines.specs.Working.{AreTold, Does, Hosted, IsHosted, Leaves, Rests, Stops, Turn, counted_of, live_at}
 use Rattle.hosted_lines.proofs.AmidLemmas.{amid_wide}
 use Rattle.hosted_lines.proofs.CountLemmas.{few_all, few_more, few_none}
 use Rattle.hosted_lines.proofs.EventLemmas.{length_more, sent_then}
-use Rattle.hosted_lines.proofs.FrontLemmas.{Place, first_placed, given_front, next_front, placed}
+use Rattle.hosted_lines.proofs.FrontLemmas.{AreBefore, AreFirst, Place, first_placed, given_front, next_front, placed}
 use Rattle.hosted_lines.proofs.RowLemmas.{lines_joined, row_plain, row_then}
 use Rattle.hosted_lines.proofs.TurnLemmas.{ended, paused, split_both, turned}
 use Rattle.hosted_lines.proofs.WorkLemmas.{hosted_at}
@@ -107,7 +108,7 @@ module _ (total : ℕ) (book : List Series) (held : Held) (view : View) (before 
           sent = sent_is done.given done.text done.behind done.carries none all.stands before all.sent;
         }
 
-    read_ends : (o left : Option (List ℕ)) (pieces pieces' : ℕ) → runs.Runs Does start (runs.AreTaken pieces pieces' left) IsNow o before now → IfSome o (λ input. EndsSo There input (live_at start) left before now ends.ReadFault)
+    read_ends : (o left : Option (List ℕ)) (pieces pieces' : ℕ) → runs.Runs Does start (runs.AreTakenWithin most_bytes pieces pieces' left) IsNow o before now → IfSome o (λ input. EndsSo There input (live_at start) left before now ends.ReadFault)
     unfolding first
     read_ends None left pieces pieces' all = tt
     read_ends (Some input) left pieces pieces' all =
@@ -115,7 +116,7 @@ module _ (total : ℕ) (book : List Series) (held : Held) (view : View) (before 
         let none = paused done.given start done.text done.behind all.are.paused done.carries in
         record { sends = first done.given done.text done.behind done.carries none all.stands input all.sent all.are.first; whole = all.are.whole; behind = all.are.behind }
 
-    long_ends : (o left : Option (List ℕ)) (pieces pieces' : ℕ) → runs.Runs Does start (runs.AreWithin pieces pieces') IsNow o before now → IfSome o (λ input. EndsSo There input (live_at start) left before now ends.InputTooLong)
+    long_ends : (o left : Option (List ℕ)) (pieces pieces' : ℕ) → runs.Runs Does start (runs.AreUpTo most_bytes pieces pieces') IsNow o before now → IfSome o (λ input. EndsSo There input (live_at start) left before now ends.InputTooLong)
     unfolding first
     long_ends None left pieces pieces' all = tt
     long_ends (Some input) left pieces pieces' all =
@@ -293,12 +294,12 @@ module _ (total : ℕ) (book : List Series) (held : Held) (view : View) (before 
   abbrev begin : Hosted
   begin = first_at total book held view before
 
-  work_ends : (o : Option (List ℕ)) (end : End) → runs.RunsTo Does (λ s it e b. Stopping s it e b) begin o before pieces pieces' end → IfSome o (λ input. EndsSo (λ after. StandsForBook new.image total after) input (held_with total book held) left' before now end)
+  work_ends : (o : Option (List ℕ)) (end : End) → runs.RunsToWithin most_bytes Does (λ s it e b. Stopping s it e b) begin o before pieces pieces' end → IfSome o (λ input. EndsSo (λ after. StandsForBook new.image total after) input (held_with total book held) left' before now end)
   work_ends None end r = tt
   work_ends (Some input) end r =
       stop_ends total book held view before r.done.given r.done.text r.done.behind r.done.carries r.next input r.are new.image left' now end r.why.why
 
-  pub ends_so : {T : Type 0} (answer : Result T (LinesStop End)) → OnOk answer (runs.Runs Does begin (runs.AreAll pieces pieces') StandsNow left before now) → IfErr answer (runs.StopsSo Does (λ s it e b. Stopping s it e b) StandsNow begin left left' before now pieces pieces') → Ending (run_end answer)
+  pub ends_so : {T : Type 0} (answer : Result T (LinesStop End)) → OnOk answer (runs.Runs Does begin (runs.AreAll pieces pieces') StandsNow left before now) → IfErr answer (runs.StopsSoWithin most_bytes Does (λ s it e b. Stopping s it e b) StandsNow begin left left' before now pieces pieces') → Ending (run_end answer)
   ends_so {T} (Ok v) done stops = done_ends total book held view before new held' edits told_now now left pieces pieces' done
   ends_so {T} (Err (stop.Fault fault.ReadFault)) done stops = read_ends total book held view before new held' edits told_now now left left' pieces pieces' stops
   ends_so {T} (Err (stop.Fault fault.InputTooLong)) done stops = long_ends total book held view before new held' edits told_now now left left' pieces pieces' stops
@@ -306,13 +307,13 @@ module _ (total : ℕ) (book : List Series) (held : Held) (view : View) (before 
 
   -- ---- moments
 
-  crash_one : (input bytes : List ℕ) (from : ℕ) (image : Image) (count : ℕ) → runs.IsAhead Does Rests Leaves begin (Some input) (Some bytes) from image count → IsAhead (λ after. StandsForBook image total after) input (held_with total book held) from count
+  crash_one : (input bytes : List ℕ) (from : ℕ) (image : Image) (count : ℕ) → runs.IsAheadWithin most_bytes Does Rests Leaves begin (Some input) (Some bytes) from image count → IsAhead (λ after. StandsForBook image total after) input (held_with total book held) from count
   crash_one input bytes from image count a = elim a.is [
     | inl between ↦ rest_ahead total book held view before a.done.given a.done.text a.done.behind a.done.carries input between.are from image count between.rests_so between.sent_is
     | inr amid ↦ amid_ahead total book held view before a.done.given a.done.text a.done.behind a.done.carries amid.next input amid.are from amid.begun image count amid.begun_is amid.leaves_so
   ]
 
-  pub lasts_so : (o earlier : Option (List ℕ)) → (AreTold earlier → Since view new (runs.IsAhead Does Rests Leaves begin o earlier (sent_now view))) → IfSome o (λ input. IfSome earlier (λ bytes. moments.Since view new (λ image sent. IsAhead (λ after. StandsForBook image total after) input (held_with total book held) (sent_now view) sent)))
+  pub lasts_so : (o earlier : Option (List ℕ)) → (AreTold earlier → Since view new (runs.IsAheadWithin most_bytes Does Rests Leaves begin o earlier (sent_now view))) → IfSome o (λ input. IfSome earlier (λ bytes. moments.Since view new (λ image sent. IsAhead (λ after. StandsForBook image total after) input (held_with total book held) (sent_now view) sent)))
   lasts_so None earlier lasts = tt
   lasts_so (Some input) None lasts = tt
   lasts_so (Some input) (Some bytes) lasts =
@@ -342,21 +343,21 @@ module _ (total : ℕ) (book : List Series) (held : Held) (view : View) (before 
         last = inl (sym all.stands.reads_are, sym all.stands.syncs_are);
       }
 
-  work_costs : (o : Option (List ℕ)) (end : End) → runs.RunsTo Does (λ s it e b. Stopping s it e b) begin o before pieces pieces' end → IfSome o (λ input. CostsLines input (counted_of begin) pieces pieces' new.reads new.syncs)
+  work_costs : (o : Option (List ℕ)) (end : End) → runs.RunsToWithin most_bytes Does (λ s it e b. Stopping s it e b) begin o before pieces pieces' end → IfSome o (λ input. CostsLines input (counted_of begin) pieces pieces' new.reads new.syncs)
   work_costs None end r = tt
   work_costs (Some input) end r = cost_all total book held view before r.done.given r.done.text r.done.behind r.done.carries r.next input r.are pieces pieces' r.few new.reads new.syncs r.why.cost
 
-  read_costs : (o : Option (List ℕ)) → runs.Runs Does begin (runs.AreTaken pieces pieces' left') StandsNow o before now → IfSome o (λ input. CostsLines input (counted_of begin) pieces pieces' new.reads new.syncs)
+  read_costs : (o : Option (List ℕ)) → runs.Runs Does begin (runs.AreTakenWithin most_bytes pieces pieces' left') StandsNow o before now → IfSome o (λ input. CostsLines input (counted_of begin) pieces pieces' new.reads new.syncs)
   read_costs None all = tt
   read_costs (Some input) all =
       rest_cost total book held view before all.done.given all.done.text all.done.behind all.done.carries input all.are.first pieces pieces' all.are.few new.reads new.syncs (sym all.stands.reads_are) (sym all.stands.syncs_are)
 
-  long_costs : (o : Option (List ℕ)) → runs.Runs Does begin (runs.AreWithin pieces pieces') StandsNow o before now → IfSome o (λ input. CostsLines input (counted_of begin) pieces pieces' new.reads new.syncs)
+  long_costs : (o : Option (List ℕ)) → runs.Runs Does begin (runs.AreUpTo most_bytes pieces pieces') StandsNow o before now → IfSome o (λ input. CostsLines input (counted_of begin) pieces pieces' new.reads new.syncs)
   long_costs None all = tt
   long_costs (Some input) all =
       rest_cost total book held view before all.done.given all.done.text all.done.behind all.done.carries input all.are.first pieces pieces' all.are.few new.reads new.syncs (sym all.stands.reads_are) (sym all.stands.syncs_are)
 
-  pub costs_so : {T : Type 0} (answer : Result T (LinesStop End)) → OnOk answer (runs.Runs Does begin (runs.AreAll pieces pieces') StandsNow left before now) → IfErr answer (runs.StopsSo Does (λ s it e b. Stopping s it e b) StandsNow begin left left' before now pieces pieces') → Costing
+  pub costs_so : {T : Type 0} (answer : Result T (LinesStop End)) → OnOk answer (runs.Runs Does begin (runs.AreAll pieces pieces') StandsNow left before now) → IfErr answer (runs.StopsSoWithin most_bytes Does (λ s it e b. Stopping s it e b) StandsNow begin left left' before now pieces pieces') → Costing
   costs_so {T} (Ok v) done stops = done_costs left done
   costs_so {T} (Err (stop.Fault fault.ReadFault)) done stops = read_costs left stops
   costs_so {T} (Err (stop.Fault fault.InputTooLong)) done stops = long_costs left stops

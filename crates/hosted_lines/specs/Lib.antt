@@ -1,3 +1,4 @@
+pub mod Input
 pub mod Lives
 pub mod Reads
 pub mod Shown

@@ -6,6 +6,7 @@ ghost use Rattle.live_view.specs.Live as follows;
 ghost use Rattle.run_ends.specs.Faults.{end_fault};
 ghost use Rattle.hosted_lines.specs.Doing.{Goes, held_by, side_of};
 ghost use Rattle.hosted_lines.specs.GoesLaws.{goes_further, goes_nowhere, goes_streams};
+ghost use Rattle.hosted_lines.specs.Input.{most_bytes};
 ghost use Rattle.hosted_lines.specs.Shown.{pages};
 ghost use Rattle.hosted_lines.specs.WorkLaws.{besides, causes_later, fit_kept, held_kept, lasts_on, no_less, now_rests, stands_kept};
 ghost use Rattle.hosted_lines.specs.Working.{CausesEnd, Does, Hosted, IsFit, IsHosted, Lasting, Leaves, Rests, Stops};
@@ -28,6 +29,8 @@ impl<P: PageWorld> LineWork<Live<ServiceStepper<P>>, End> for HostTurns {
     ghost State = { Hosted };
 
     ghost view = { λ live. its.view live };
+
+    ghost limit = { most_bytes };
 
     ghost fit = { λ turns live at. IsFit (its.view live) (follows.pending live) turns.edits.items };
 
@@ -55,7 +58,7 @@ impl<P: PageWorld> LineWork<Live<ServiceStepper<P>>, End> for HostTurns {
     fn line(
         &mut self,
         from: &mut Live<ServiceStepper<P>>,
-        at: u32,
+        at: u64,
         line: &[u8],
     ) -> Result<(), End> {
         if line.is_empty() {
@@ -79,7 +82,7 @@ impl<P: PageWorld> LineWork<Live<ServiceStepper<P>>, End> for HostTurns {
         }
     }
 
-    fn long_line(&mut self, from: &mut Live<ServiceStepper<P>>, at: u32) -> Result<(), End> {
+    fn long_line(&mut self, from: &mut Live<ServiceStepper<P>>, at: u64) -> Result<(), End> {
         refuse_long(self, from)
     }
 
