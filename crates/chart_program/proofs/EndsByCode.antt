@@ -9,7 +9,7 @@ use Rattle.program_words.specs.declared.words.Command.TheVariants.{Init, Draw}
 use Rattle.run_ends.specs.Statuses.{block_of, code_of, place_of, refused_at}
 use Rattle.run_ends.specs.declared.ending.End.{End}
 use Rattle.run_ends.specs.declared.ending.End.TheVariants.{Done, WrongWords, NoMemory, ReadFault, SendFault, DiskFault, DamagedBlock, DamagedPage}
-use Rattle.run_ends.specs.declared.ending.End.TheVariants.{BadInput, InputTooLong, TooManySlots, Missing, BadCoefficient, TooSmall, IsStore}
+use Rattle.run_ends.specs.declared.ending.End.TheVariants.{BadInput, InputTooLong, TooMuch, Missing, BadCoefficient, TooSmall, IsStore}
 use Rattle.run_ends.specs.declared.ending.End.TheVariants.{UnknownSeries, Refused, UnknownSession, RefusedLine, NoSeries}
 use Rattle.store_commands.specs.Away.{IsTurnedAway}
 use Rattle.store_commands.specs.Books.{HoldsAgain}
@@ -63,7 +63,7 @@ module _ (command : Command) (old new : View) (left left' before now : Option (L
   Came (DamagedPage page) = Damages (block_of page)
   Came (BadInput at) = IfSome left (λ input. IsBadInput command old new input at before now)
   Came InputTooLong = IfSome left (λ input. IsTooMuch command old new input (2 ^ 32) before now)
-  Came (TooManySlots most) = IfSome left (λ input. IsTooMuch command old new input most before now)
+  Came (TooMuch most) = IfSome left (λ input. IsTooMuch command old new input most before now)
   Came (Missing key) = IfSome left (λ input. Lacks command old input key before now)
   Came (BadCoefficient key) = IfSome left (λ input. Misfits command old input key before now)
   Came (TooSmall blocks) = IsTooSmall command old blocks
@@ -103,9 +103,9 @@ module _ (command : Command) (old new : View) (left left' before now : Option (L
   on_bad (BadInput at) came is = came
   on_bad end came is = absurd (omega (arith, is))
 
-  on_much : (end : End) → Came end → code_of end ≡ 9 → Came (TooManySlots (place_of end))
+  on_much : (end : End) → Came end → code_of end ≡ 9 → Came (TooMuch (place_of end))
   on_much InputTooLong came is = came
-  on_much (TooManySlots most) came is = came
+  on_much (TooMuch most) came is = came
   on_much end came is = absurd (omega (arith, is))
 
   on_missing : (end : End) → Came end → code_of end ≡ 10 → Came (Missing (place_of end))

@@ -3,7 +3,7 @@ use Rattle.std.specs.Prelude.{ℕ, ◌≡◌, ◌≤◌, ◌^◌, List, Option, 
 use Rattle.std.specs.Prelude.{ℤ}
 use Rattle.block_disk.specs.View.{DiskKept}
 use Rattle.run_ends.specs.declared.ending.End.{End}
-use Rattle.run_ends.specs.declared.ending.End.TheVariants.{Done, NoMemory, ReadFault, SendFault, BadInput, InputTooLong, TooManySlots}
+use Rattle.run_ends.specs.declared.ending.End.TheVariants.{Done, NoMemory, ReadFault, SendFault, BadInput, InputTooLong, TooMuch}
 use Rattle.chart_program.specs.Course.{Course, IsDoneOrCut, IsShort, KeptBook, OfInput, OfLeft, SentNothing}
 use Rattle.chart_program.specs.Plotted.{SendsFront, SendsPlot}
 use Rattle.chart_program.specs.Slots.{FirstBad, HasTooMany, IsTooLong, SpellsAll, StoppedBefore, most_slots}
@@ -16,7 +16,7 @@ PlotDoes w h c ReadFault = OfInput c (λ input. OfLeft c (StoppedBefore input)) 
 PlotDoes w h c SendFault = OfInput c (λ input. SendsFront w h input c.sent c.sent_now)
 PlotDoes w h c (BadInput at) = OfInput c (λ input. FirstBad input at) × SentNothing c
 PlotDoes w h c InputTooLong = OfInput c IsTooLong × SentNothing c
-PlotDoes w h c (TooManySlots most) = (most ≡ most_slots) × OfInput c HasTooMany × SentNothing c
+PlotDoes w h c (TooMuch most) = (most ≡ most_slots) × OfInput c HasTooMany × SentNothing c
 PlotDoes w h c end = ⊥
 
 -- the input is slots, and no more than a plot takes

@@ -67,4 +67,4 @@ plotting_end (Err (Input input.NoMemory)) = ends.NoMemory
 plotting_end (Err (Input input.ReadFault)) = ends.ReadFault
 plotting_end (Err (Input input.InputTooLong)) = ends.InputTooLong
 plotting_end (Err (Input (input.BadLine at))) = ends.BadInput at
-plotting_end (Err (Input input.TooManySlots)) = ends.TooManySlots most_slots
+plotting_end (Err (Input input.TooManySlots)) = ends.TooMuch most_slots

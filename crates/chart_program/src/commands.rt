@@ -177,7 +177,7 @@ fn plotting_end(answer: Result<(), PlotEnd>) -> End
         Err(PlotEnd::Input(InputEnd::ReadFault)) => End::ReadFault,
         Err(PlotEnd::Input(InputEnd::InputTooLong)) => End::InputTooLong,
         Err(PlotEnd::Input(InputEnd::BadLine { at })) => End::BadInput { at },
-        Err(PlotEnd::Input(InputEnd::TooManySlots)) => End::TooManySlots {
+        Err(PlotEnd::Input(InputEnd::TooManySlots)) => End::TooMuch {
             most: MOST_SLOTS as u64,
         },
     }

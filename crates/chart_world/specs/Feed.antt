@@ -12,9 +12,9 @@ pending_of feed = slice_range feed.bytes.items feed.start feed.end
 abbrev pub given_of : Feed → ℕ
 given_of feed = feed.taken - (feed.end - feed.start)
 
--- the next line is pending, up to its line feed, which is among the first 2^32 bytes of the input
+-- the next line is pending, up to its line feed, which is within the limit
 abbrev pub HasLine : Feed → Type 0
-HasLine feed = Contains (take (2 ^ 32 - given_of feed) (pending_of feed)) 10
+HasLine feed = Contains (take (feed.limit - given_of feed) (pending_of feed)) 10
 
 -- There is a first line. It has this length, and its front is in the spill.
 pub record Gathered (size : ℕ) (spill bytes : List ℕ) : Type 0 where

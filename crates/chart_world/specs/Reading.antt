@@ -18,19 +18,25 @@ pub record Reading : Type 0 where
   pub usable : Bool
   -- a take has found the end of the input
   pub ended : Bool
+  -- lines come from so many first bytes of the input, and no others
+  pub limit : ℕ
 
 -- before the first call
+abbrev pub unread_up_to : ℕ → Reading
+unread_up_to limit = record { given = 0; pending = []; taken = 0; line = []; offset = 0; usable = true; ended = false; limit = limit }
+
+-- the same of the first 2^32 bytes
 abbrev pub unread_input : Reading
-unread_input = record { given = 0; pending = []; taken = 0; line = []; offset = 0; usable = true; ended = false }
+unread_input = unread_up_to (2 ^ 32)
 
 -- these bytes and those behind them, where those are told
 abbrev pub in_front_of : List ℕ → Option (List ℕ) → Option (List ℕ)
 in_front_of pending None = None
 in_front_of pending (Some left) = Some (pending ++ left)
 
--- the next line is pending, up to its line feed, which is among the first 2^32 bytes of the input
+-- the next line is pending, up to its line feed, which is within the limit
 abbrev pub HasLine : Reading → Type 0
-HasLine reading = Contains (take (2 ^ 32 - reading.given) reading.pending) 10
+HasLine reading = Contains (take (reading.limit - reading.given) reading.pending) 10
 
 -- The bytes behind the lines that were given, where the stream tells what is left to take.
 abbrev pub unread : Reading → Option (List ℕ) → Option (List ℕ)
@@ -68,7 +74,7 @@ Took before now bytes = HasGrown before now ⊎ IfSome bytes (λ told. told ≡ 
 pub record HasLineAt (before : ℕ) (reading : Reading) : Type 0 where
   pub place : before ≡ position_or_len is_line_feed reading.pending
   pub within : before < length reading.pending
-  pub early : reading.given + before < 2 ^ 32
+  pub early : reading.given + before < reading.limit
 
 -- a line feed ends the first line of these bytes, where they are told
 abbrev pub HasFeed : Option (List ℕ) → Type 0

@@ -9,16 +9,13 @@ use block_disk::{Failed, Streams};
 use std::alloc::{AllocError, Global};
 
 /// The bytes of a piece.
-const PIECE: usize = 65536;
+const PIECE: usize = 524288;
 
 /// The most bytes of a line that is not too long.
 pub(crate) const LONGEST: usize = 8192;
 
-/// The most bytes of the input.
-pub(crate) const LIMIT: u64 = 4294967296;
-
 /// `bytes[start..end]` was taken and isn't passed yet. `spill` has the front of a line. `ended` says
-/// that a take found the end of the input.
+/// that a take found the end of the input. Lines may come from `limit` bytes of it.
 #[derive(Drop)]
 pub(crate) struct Feed {
     pub(crate) bytes: Vec<u8>,
@@ -27,15 +24,17 @@ pub(crate) struct Feed {
     pub(crate) taken: u64,
     pub(crate) spill: Vec<u8>,
     pub(crate) ended: bool,
-    ghost sized: { vec_len bytes ≡ 65536 },
+    pub(crate) limit: u64,
+    ghost sized: { vec_len bytes ≡ 524288 },
     ghost ordered: { start ≤ end },
-    ghost within: { end ≤ 65536 },
+    ghost within: { end ≤ 524288 },
     ghost counted: { end - start ≤ taken },
-    ghost bounded: { taken ≤ 2 ^ 32 + 65536 },
+    ghost limited: { limit < 2 ^ 63 },
+    ghost bounded: { taken ≤ limit + 524288 },
     ghost short: { vec_len spill ≤ 8192 },
     ghost room: { 8192 ≤ vec_capacity spill },
     ghost passed: { IsTrue ended → start ≡ end },
-    ghost found: { IsTrue ended → taken ≤ 2 ^ 32 },
+    ghost found: { IsTrue ended → taken ≤ limit },
 }
 
 /// The bytes before the first line feed, or all where there is none.
@@ -50,8 +49,9 @@ fn line_feed_at(bytes: &[u8]) -> usize
 
 impl Feed {
     /// Nothing taken yet.
-    pub(crate) fn new(alloc: Global) -> Result<Feed, AllocError>
-        ensures { IfOk result (λ feed. (feed.start ≡ 0) × (feed.end ≡ 0) × (feed.taken ≡ 0) × (feed.ended ≡ false)) }
+    pub(crate) fn new(alloc: Global, limit: u64) -> Result<Feed, AllocError>
+        requires { limit < 2 ^ 63 }
+        ensures { IfOk result (λ feed. (feed.start ≡ 0) × (feed.end ≡ 0) × (feed.taken ≡ 0) × (feed.ended ≡ false) × (feed.limit ≡ limit)) }
     {
         Ok(Feed {
             bytes: vec![in alloc; 0; PIECE]?,
@@ -60,6 +60,7 @@ impl Feed {
             taken: 0,
             spill: Vec::with_capacity(alloc, LONGEST)?,
             ended: false,
+            limit,
         })
     }
 
@@ -94,6 +95,7 @@ impl Feed {
         ensures taken { self.new.taken ≡ self.old.taken }
         ensures spill { self.new.spill.items ≡ self.old.spill.items }
         ensures ended { self.new.ended ≡ self.old.ended }
+        ensures limit { self.new.limit ≡ self.old.limit }
     {
         self.start += count;
     }
@@ -107,6 +109,7 @@ impl Feed {
         ensures bytes { self.new.bytes.items ≡ self.old.bytes.items }
         ensures taken { self.new.taken ≡ self.old.taken }
         ensures ended { self.new.ended ≡ self.old.ended }
+        ensures limit { self.new.limit ≡ self.old.limit }
     {
         let kept = count.min(LONGEST - self.spill.len());
         let bytes = self.bytes.as_slice();
@@ -119,7 +122,7 @@ impl Feed {
     /// Takes the next piece, once all is passed.
     pub(crate) fn refill<S: Streams>(&mut self, from: &mut S) -> Result<usize, Failed>
         requires passed { self.old.start ≡ self.old.end }
-        requires within { self.old.taken ≤ 2 ^ 32 }
+        requires within { self.old.taken ≤ self.old.limit }
         ensures given { IfOk result (λ count. IfSome (S.left from.old) (λ left. Given count left self.new.bytes.items)) }
         ensures left { IfOk result (λ count. S.left from.new ≡ left_after count (S.left from.old)) }
         ensures start { OnOk result (self.new.start ≡ 0) }
@@ -131,6 +134,7 @@ impl Feed {
         ensures passed_on_err { OnErr result (self.new.start ≡ self.new.end) }
         ensures taken_on_err { OnErr result (self.new.taken ≡ self.old.taken) }
         ensures spill { self.new.spill.items ≡ self.old.spill.items }
+        ensures limit { self.new.limit ≡ self.old.limit }
         ensures cause { OnErr result (HasRisen (S.read_faults from.old) (S.read_faults from.new)) }
         ensures quiet { OnOk result (S.read_faults from.new ≡ S.read_faults from.old) }
         ensures sent { S.sent from.new ≡ S.sent from.old }

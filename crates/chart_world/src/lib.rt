@@ -21,6 +21,6 @@ mod std_world;
 
 pub use laws::lines_join_back;
 pub use line_answer::{LineAnswer, LineFault};
-pub use lines::{Lines, offset_of};
+pub use lines::Lines;
 pub use mem_world::MemWorld;
 pub use std_world::StdWorld;

@@ -19,8 +19,8 @@ pub enum LineFault {
     /// A take failed. Every line whose line feed was taken came before.
     #[error("the input could not be read")]
     ReadFault,
-    /// A byte past 2^32 was taken, and every line whose line feed is among the first 2^32 bytes came
-    /// before.
-    #[error("the input has more than 2^32 bytes")]
+    /// A byte past the limit of these `Lines` was taken, and every line whose line feed is within it
+    /// came before.
+    #[error("the input has more bytes than its limit")]
     InputTooLong,
 }

@@ -5,14 +5,17 @@ ghost use Rattle.block_disk.specs.Counts.{HasRisen};
 ghost use Rattle.block_disk.specs.Streams.{left_after};
 ghost use Rattle.chart_world.specs.Fronts.{StandsIn, first_piece};
 ghost use Rattle.chart_world.specs.Lines.{is_line_feed, text_of};
-ghost use Rattle.chart_world.specs.Reading.{unread_input, unread, told_lines, with_first, behind_first, input_length, HasFeed, HasLine, HasLineAt, IsNone, NoLineIn, Took};
+ghost use Rattle.chart_world.specs.Reading.{unread_input, unread_up_to, unread, told_lines, with_first, behind_first, input_length, HasFeed, HasLine, HasLineAt, IsNone, NoLineIn, Took};
 
-use crate::feed::{Feed, LIMIT, LONGEST};
+use crate::feed::{Feed, LONGEST};
 use crate::line_answer::{LineAnswer, LineFault};
 use crate::place::{Place, text_len};
 use block_disk::Streams;
 use std::alloc::{AllocError, Global};
 use std::marker::Model;
+
+/// The most bytes of the input, where no other limit is named.
+const LIMIT: u64 = 4294967296;
 
 /// A reader of lines. It takes pieces of a stream as it needs them.
 #[derive(Drop)]
@@ -31,7 +34,7 @@ impl Model for Lines {
 
     ghost use Rattle.chart_world.specs.Place.{placed, IsPlaced};
 
-    ghost view = { λ l. record { given = l.feed.taken - (l.feed.end - l.feed.start); pending = slice_range l.feed.bytes.items l.feed.start l.feed.end; taken = l.feed.taken; line = placed l.place l.feed.bytes.items l.feed.spill.items; offset = l.offset; usable = l.usable; ended = l.feed.ended } };
+    ghost view = { λ l. record { given = l.feed.taken - (l.feed.end - l.feed.start); pending = slice_range l.feed.bytes.items l.feed.start l.feed.end; taken = l.feed.taken; line = placed l.place l.feed.bytes.items l.feed.spill.items; offset = l.offset; usable = l.usable; ended = l.feed.ended; limit = l.feed.limit } };
 
     ghost invariant = { λ l. IsPlaced l.place l.feed.spill.items };
 }
@@ -42,7 +45,7 @@ impl Lines {
         requires usable { IsTrue self.old.usable }
         requires place { before ≡ position_or_len is_line_feed self.old.pending }
         requires within { before < length self.old.pending }
-        requires early { self.old.given + before < 2 ^ 32 }
+        requires early { self.old.given + before < self.old.limit }
         requires given { self.old.taken ≡ self.old.given + length self.old.pending }
         ensures line { result ≡ LineAnswer.Line → text_of (take before self.old.pending) ≡ Some self.new.line }
         ensures too_long { result ≡ LineAnswer.TooLong → text_of (take before self.old.pending) ≡ None }
@@ -54,6 +57,7 @@ impl Lines {
         ensures offset { self.new.offset ≡ self.old.given }
         ensures usable { IsTrue self.new.usable }
         ensures ended { self.new.ended ≡ self.old.ended }
+        ensures limit { self.new.limit ≡ self.old.limit }
     {
         let first = self.feed.start;
         self.offset = self.feed.given();
@@ -78,18 +82,26 @@ impl Lines {
         ensures none { result ≡ None → HasLine self.now → ⊥ }
     {
         let before = self.feed.line_feed();
-        if before < self.feed.len() && self.feed.given() + (before as u64) < LIMIT {
+        if before < self.feed.len() && self.feed.given() + (before as u64) < self.feed.limit {
             return Some(before);
         }
         None
     }
 
-    /// Takes all buffers that it will need.
+    /// Takes all buffers that it will need. Its lines come from the first 2^32 bytes of the input.
     pub fn new(alloc: Global) -> Result<Lines, AllocError>
         ensures { IfOk result (λ lines. lines ≡ unread_input) }
     {
+        Lines::up_to(alloc, LIMIT)
+    }
+
+    /// The same of lines that come from so many first bytes of the input.
+    pub fn up_to(alloc: Global, limit: u64) -> Result<Lines, AllocError>
+        requires { limit < 2 ^ 63 }
+        ensures { IfOk result (λ lines. lines ≡ unread_up_to limit) }
+    {
         Ok(Lines {
-            feed: Feed::new(alloc)?,
+            feed: Feed::new(alloc, limit)?,
             place: Place::Nowhere,
             offset: 0,
             usable: true,
@@ -114,7 +126,7 @@ impl Lines {
         ensures passes { result ≡ Ok LineAnswer.Line → self.old.given < self.new.given }
         ensures passes_too_long { result ≡ Ok LineAnswer.TooLong → self.old.given < self.new.given }
         ensures passes_end { result ≡ Ok LineAnswer.End → self.new.given ≡ self.old.given }
-        ensures within { OnOk result (self.new.given ≤ 2 ^ 32) }
+        ensures within { OnOk result (self.new.given ≤ self.old.limit) }
         ensures offset { result ≡ Ok LineAnswer.Line → self.new.offset ≡ self.old.given }
         ensures offset_too_long { result ≡ Ok LineAnswer.TooLong → self.new.offset ≡ self.old.given }
         ensures offset_end { result ≡ Ok LineAnswer.End → self.new.offset ≡ self.old.offset }
@@ -124,9 +136,9 @@ impl Lines {
         ensures read_fault { result ≡ Err LineFault.ReadFault → HasRisen (S.read_faults from.old) (S.read_faults from.new) }
         ensures quiet { result ≢ Err LineFault.ReadFault → S.read_faults from.new ≡ S.read_faults from.old }
         ensures read_before { result ≡ Err LineFault.ReadFault → NoLineIn (self.new.taken - self.old.given) (unread self.old (S.left from.old)) }
-        ensures read_within { result ≡ Err LineFault.ReadFault → self.new.taken ≤ 2 ^ 32 }
-        ensures past { result ≡ Err LineFault.InputTooLong → 2 ^ 32 < self.new.taken }
-        ensures past_before { result ≡ Err LineFault.InputTooLong → NoLineIn (2 ^ 32 - self.old.given) (unread self.old (S.left from.old)) }
+        ensures read_within { result ≡ Err LineFault.ReadFault → self.new.taken ≤ self.old.limit }
+        ensures past { result ≡ Err LineFault.InputTooLong → self.old.limit < self.new.taken }
+        ensures past_before { result ≡ Err LineFault.InputTooLong → NoLineIn (self.old.limit - self.old.given) (unread self.old (S.left from.old)) }
         ensures left_on_err { OnErr result (S.left from.new ≡ left_after (self.new.taken - self.old.given) (unread self.old (S.left from.old))) }
         // a line without its line feed is given only where a take has found the end, and no take follows that
         ensures feed { OnOk result (self.new.ended ≡ false → HasFeed (unread self.old (S.left from.old))) }
@@ -134,6 +146,7 @@ impl Lines {
         ensures stands { (input : Option (List ℕ)) → StandsIn input self.old (S.left from.old) → OnOk result (StandsIn input self.new (S.left from.new)) }
         ensures usable { OnOk result (IsTrue self.new.usable) }
         ensures unusable { OnErr result (self.new.usable ≡ false) }
+        ensures limit { self.new.limit ≡ self.old.limit }
         // no byte is lost, and no more are taken than the line needs
         ensures total { input_length self.new.taken (S.left from.new) ≡ input_length self.old.taken (S.left from.old) }
         ensures forward { self.old.taken ≤ self.new.taken }
@@ -170,7 +183,7 @@ impl Lines {
     }
 
     /// Whether the next line is pending: then `next` takes nothing. A line counts only where its line
-    /// feed is among the first 2^32 bytes of the input, and the rest behind the last line feed never does.
+    /// feed is within the limit, and the rest behind the last line feed never does.
     pub fn ready(&self) -> bool
         ensures ready { result ≡ true → HasLine self.now }
         ensures unready { result ≡ false → HasLine self.now → ⊥ }
@@ -202,7 +215,8 @@ impl Lines {
         requires counted { self.old.taken ≡ self.old.given + length self.old.pending }
         ensures passed { self.new.given ≡ self.old.given + length (first_piece self.old.pending) }
         ensures pending { self.new.pending ≡ after_first is_line_feed self.old.pending }
-        ensures within { self.new.given ≤ 2 ^ 32 }
+        ensures within { self.new.given ≤ self.old.limit }
+        ensures limit { self.new.limit ≡ self.old.limit }
         ensures taken { self.new.taken ≡ self.old.taken }
         ensures stands { (input left : Option (List ℕ)) → StandsIn input self.old left → StandsIn input self.new left }
         ensures usable { IsTrue self.new.usable }
@@ -243,12 +257,4 @@ impl Lines {
     {
         self.feed.taken
     }
-}
-
-/// The offset of the line that was given last, which begins among the first 2^32 bytes of the input.
-pub fn offset_of(lines: &Lines) -> u32
-    requires { lines.now.offset < 2 ^ 32 }
-    ensures { result ≡ lines.now.offset }
-{
-    lines.offset() as u32
 }

@@ -1,5 +1,5 @@
 //! The work of `derive`: each line is a request.
-ghost use Rattle.std.specs.Prelude.{◌≢◌, List, ⊤};
+ghost use Rattle.std.specs.Prelude.{◌≢◌, ◌^◌, List, ⊤};
 ghost use Rattle.run_ends.specs.Faults.{end_fault};
 ghost use Rattle.run_ends.specs.declared.ending.End.TheVariants.{InputTooLong};
 ghost use Rattle.series_book.specs.declared.one_series.Series.{Series};
@@ -27,6 +27,8 @@ impl<P: PageWorld> LineWork<Store<P>, End> for RequestWork {
 
     ghost view = { λ store. shown.view store };
 
+    ghost limit = { 2 ^ 32 };
+
     ghost fit = { λ work store at. shown.IsSound store };
 
     ghost stands = { λ book work store. StandFor (shown.IsTold store) (shown.image store) book };
@@ -50,12 +52,12 @@ impl<P: PageWorld> LineWork<Store<P>, End> for RequestWork {
 
     ghost fault = { end_fault };
 
-    fn line(&mut self, from: &mut Store<P>, at: u32, line: &[u8]) -> Result<(), End> {
-        answer_line(self.alloc, from, at, line)
+    fn line(&mut self, from: &mut Store<P>, at: u64, line: &[u8]) -> Result<(), End> {
+        answer_line(self.alloc, from, at as u32, line)
     }
 
-    fn long_line(&mut self, from: &mut Store<P>, at: u32) -> Result<(), End> {
-        Err(End::BadInput { at: u64::from(at) })
+    fn long_line(&mut self, from: &mut Store<P>, at: u64) -> Result<(), End> {
+        Err(End::BadInput { at })
     }
 
     fn pause(&mut self, from: &mut Store<P>) -> Result<(), End> {

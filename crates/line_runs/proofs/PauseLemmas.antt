@@ -95,19 +95,19 @@ paused_waits r bytes before now given unready (inr (none, (p, c))) = p
 
 -- a line that stands ready ends with a line feed, which is unread
 pub no_feed : (r : Reading) (left : Option (List ℕ)) (rest : List ℕ) (count : ℕ) → unread r left ≡ Some rest
-    → NoLineFeed (take count rest) → (length r.pending ≤ count) ⊎ (2 ^ 32 - r.given ≤ count) → HasLine r → ⊥
+    → NoLineFeed (take count rest) → (length r.pending ≤ count) ⊎ (r.limit - r.given ≤ count) → HasLine r → ⊥
 no_feed r None rest count is none most has = cc (is)
 no_feed r (Some l) rest count is none most (k, below, here) =
     let same : r.pending ++ l ≡ rest = cc (is) in
-    let low : k < 2 ^ 32 - r.given = omega (arith, below, length-take (2 ^ 32 - r.given) r.pending) in
-    let within : k < length r.pending = omega (arith, below, length-take (2 ^ 32 - r.given) r.pending) in
+    let low : k < r.limit - r.given = omega (arith, below, length-take (r.limit - r.given) r.pending) in
+    let within : k < length r.pending = omega (arith, below, length-take (r.limit - r.given) r.pending) in
     let early : k < count = elim most [
       | inl all ↦ omega (arith, within, all)
       | inr first ↦ omega (arith, low, first)
     ] in
     let there : get_or rest k 10 ≡ 10 =
     ap (λ b. get_or b k 10) (sym same) ∙ get_or_append_left r.pending l 10 k within
-    ∙ sym (get_or-take (2 ^ 32 - r.given) r.pending k 10 low) ∙ here in
+    ∙ sym (get_or-take (r.limit - r.given) r.pending k 10 low) ∙ here in
     none k 10 (omega (arith, early, within, ap length same, length-append r.pending l, length-take count rest))
     (get_or-take count rest k 10 early ∙ there)
 
@@ -118,7 +118,7 @@ none_ready r (Some l) rest is none (k, below, here) =
     absurd (omega (
       arith,
       below,
-      length-take (2 ^ 32 - r.given) r.pending,
+      length-take (r.limit - r.given) r.pending,
       ap length same,
       ap length none,
       length-append r.pending l,

@@ -38,27 +38,43 @@ given_from at (line ∷ later) = Line at (text_of line) ∷ given_from (at + len
 unfoldable pub given_lines : List ℕ → List Given
 given_lines bytes = given_from 0 (split_lines bytes)
 
--- behind so many bytes the next line says this, and ends among the first 2^32 bytes
-pub record NextLine (given : ℕ) (rest : List ℕ) (line : Option (List ℕ)) : Type 0 where
-  pub later : List (Option (List ℕ))
-  pub lines_are : lines rest ≡ line ∷ later
-  pub early : given + length (first_piece rest) ≤ 2 ^ 32
+-- ---- of an input of which lines may come from so many first bytes
 
--- behind so many bytes this is given next
+module _ (limit : ℕ) where
+  -- behind so many bytes the next line says this, and ends within the limit
+  pub record NextLineWithin (given : ℕ) (rest : List ℕ) (line : Option (List ℕ)) : Type 0 where
+    pub later : List (Option (List ℕ))
+    pub lines_are : lines rest ≡ line ∷ later
+    pub early : given + length (first_piece rest) ≤ limit
+
+  -- behind so many bytes this is given next
+  abbrev pub IsNextWithin : ℕ → List ℕ → Given → Type 0
+  IsNextWithin given rest (Line at line) = (at ≡ given) × NextLineWithin given rest line
+  IsNextWithin given rest Pause = ⊤
+  IsNextWithin given rest End = rest ≡ []
+
+  -- these are some first lines of the input, with pauses
+  pub record AreFirstWithin (input : List ℕ) (given : List Given) : Type 0 where
+    pub front : List ℕ
+    pub rest : List ℕ
+    pub begins : BeginsWith input front rest
+    pub early : length front ≤ limit
+    pub given_are : unpaused given ≡ given_lines front
+
+  -- and this comes behind them
+  pub record AreBeforeWithin (input : List ℕ) (given : List Given) (next : Given) : Type 0 where
+    pub first : AreFirstWithin input given
+    pub next_is : IsNextWithin (length first.front) first.rest next
+
+-- the same of the first 2^32 bytes
+abbrev pub NextLine : ℕ → List ℕ → Option (List ℕ) → Type 0
+NextLine = NextLineWithin (2 ^ 32)
+
 abbrev pub IsNext : ℕ → List ℕ → Given → Type 0
-IsNext given rest (Line at line) = (at ≡ given) × NextLine given rest line
-IsNext given rest Pause = ⊤
-IsNext given rest End = rest ≡ []
+IsNext = IsNextWithin (2 ^ 32)
 
--- these are some first lines of the input, with pauses
-pub record AreFirst (input : List ℕ) (given : List Given) : Type 0 where
-  pub front : List ℕ
-  pub rest : List ℕ
-  pub begins : BeginsWith input front rest
-  pub early : length front ≤ 2 ^ 32
-  pub given_are : unpaused given ≡ given_lines front
+abbrev pub AreFirst : List ℕ → List Given → Type 0
+AreFirst = AreFirstWithin (2 ^ 32)
 
--- and this comes behind them
-pub record AreBefore (input : List ℕ) (given : List Given) (next : Given) : Type 0 where
-  pub first : AreFirst input given
-  pub next_is : IsNext (length first.front) first.rest next
+abbrev pub AreBefore : List ℕ → List Given → Given → Type 0
+AreBefore = AreBeforeWithin (2 ^ 32)

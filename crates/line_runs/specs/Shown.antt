@@ -5,7 +5,7 @@ use Rattle.chart_world.specs.Reading.{HasLine, Reading}
 use Rattle.line_runs.specs.Carried.{DoesOne}
 use Rattle.line_runs.specs.Given.{Given, Pause}
 use Rattle.line_runs.specs.Moments.{Since, Through}
-use Rattle.line_runs.specs.Runs.{AreAll, IsAhead, Runs, StopsSo}
+use Rattle.line_runs.specs.Runs.{AreAll, IsAheadWithin, Runs, StopsSoWithin}
 use Rattle.line_runs.specs.declared.lines_stop.LinesStop.{LinesStop}
 
 -- what is given was done, and what a crash leaves meanwhile
@@ -23,10 +23,10 @@ module _ {State S W : Type 0} (left sent : S → Option (List ℕ)) (pieces : S 
   abbrev pub RunsAll : Type 0
   RunsAll = Runs does state (AreAll (pieces old) (pieces new)) (λ s. stands s work new) (left old) (sent old) (sent new)
 
-  -- not all of it was
-  abbrev pub StopsOn : {E : Type 0} (stops : State → Given → E → W → S → Option (List ℕ) → Type 0) → LinesStop E → Type 0
-  StopsOn {E} stops stop =
-      StopsSo does (λ s it end before. stops s it end work new before) (λ s. stands s work new) state (left old) (left new) (sent old)
+  -- not all of it was, of which lines may come from so many first bytes
+  abbrev pub StopsOn : {E : Type 0} (limit : ℕ) (stops : State → Given → E → W → S → Option (List ℕ) → Type 0) → LinesStop E → Type 0
+  StopsOn {E} limit stops stop =
+      StopsSoWithin limit does (λ s it end before. stops s it end work new before) (λ s. stands s work new) state (left old) (left new) (sent old)
       (sent new) (pieces old) (pieces new) stop
 
 -- the next line stands ready, and the state stays; or it doesn't, and the work was paused
@@ -41,8 +41,8 @@ PausesOn {State} {S} {W} sent stands does state reading work old new =
     PausesSo reading does (λ s. stands s work new) state (sent old) (sent new)
 
 -- at each moment a crash leaves what some first lines left, or what comes behind them leaves on its way
-abbrev pub LastsOn : {State S : Type 0} (left sent : S → Option (List ℕ)) (view : S → View)
+abbrev pub LastsOn : {State S : Type 0} (limit : ℕ) (left sent : S → Option (List ℕ)) (view : S → View)
     (does : State → Given → List ℕ → State → Type 0) (rests : State → Image → Type 0)
     (leaves : State → Given → ℕ → Image → ℕ → Type 0) → State → S → S → Type 0
-LastsOn {State} {S} left sent view does rests leaves state old new =
-    Since (view old) (view new) (IsAhead does rests leaves state (left old) (sent old) (sent_now (view old)))
+LastsOn {State} {S} limit left sent view does rests leaves state old new =
+    Since (view old) (view new) (IsAheadWithin limit does rests leaves state (left old) (sent old) (sent_now (view old)))

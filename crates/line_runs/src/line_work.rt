@@ -1,5 +1,5 @@
 //! What is done of each line, at a pause, and at the end.
-ghost use Rattle.std.specs.Prelude.{◌≡◌, ◌+◌, ◌≤◌, ◌<◌, ◌^◌, ℕ, List, Option, Some, None, length, IfErr, IfSome, OnOk};
+ghost use Rattle.std.specs.Prelude.{◌≡◌, ◌+◌, ◌≤◌, ◌<◌, ℕ, List, Option, Some, None, length, IfErr, IfSome, OnOk};
 ghost use Rattle.block_disk.specs.View.{Image, View, Now, Passes, DiskKept, sent_now};
 ghost use Rattle.chart_world.specs.Faults.{Fault, CountsFault, fault_in};
 ghost use Rattle.line_runs.specs.Given.{Given, Line, Pause, End};
@@ -14,6 +14,9 @@ pub trait LineWork<S: Streams, E> {
 
     /// What a crash may leave, moment by moment, and what was sent by then.
     ghost view: { S → View };
+
+    /// Lines come from so many first bytes of the input.
+    ghost limit: { ℕ };
 
     /// A line may be given that begins at this offset.
     ghost fit: { Self → S → ℕ → Type 0 };
@@ -50,8 +53,9 @@ pub trait LineWork<S: Streams, E> {
     ghost fault: { E → Option Fault };
 
     /// Does a line of at most 8,192 bytes, or keeps it back.
-    fn line(&mut self, from: &mut S, at: u32, line: &[u8]) -> Result<(), E>
+    fn line(&mut self, from: &mut S, at: u64, line: &[u8]) -> Result<(), E>
         requires fit { fit self.old from.old at }
+        requires early { at < limit }
         requires short { length line.now ≤ 8192 }
         ensures does { (state : State) → stands state self.old from.old → OnOk result (DoesOn S.sent stands does state (Line at (Some line.now)) self.new from.old from.new) }
         ensures stops { (state : State) → stands state self.old from.old → IfErr result (λ end. stops state (Line at (Some line.now)) end self.new from.new (S.sent from.old)) }
@@ -65,8 +69,9 @@ pub trait LineWork<S: Streams, E> {
         ensures pieces { S.pieces from.old ≤ S.pieces from.new };
 
     /// Does a line of more bytes, which are passed over.
-    fn long_line(&mut self, from: &mut S, at: u32) -> Result<(), E>
+    fn long_line(&mut self, from: &mut S, at: u64) -> Result<(), E>
         requires fit { fit self.old from.old at }
+        requires early { at < limit }
         ensures does { (state : State) → stands state self.old from.old → OnOk result (DoesOn S.sent stands does state (Line at None) self.new from.old from.new) }
         ensures stops { (state : State) → stands state self.old from.old → IfErr result (λ end. stops state (Line at None) end self.new from.new (S.sent from.old)) }
         ensures leaves { (state : State) → stands state self.old from.old → lasting state → LeavesOn view leaves state (Line at None) from.old from.new }
@@ -81,12 +86,12 @@ pub trait LineWork<S: Streams, E> {
     /// Does what was kept back: no line stands ready, and a take may wait for the next one. The work is paused before each
     /// take, before it is ended and before a fault of the input.
     fn pause(&mut self, from: &mut S) -> Result<(), E>
-        requires fit { fit self.old from.old (2 ^ 32) }
+        requires fit { fit self.old from.old limit }
         ensures does { (state : State) → stands state self.old from.old → OnOk result (DoesOn S.sent stands does state Pause self.new from.old from.new) }
         ensures stops { (state : State) → stands state self.old from.old → IfErr result (λ end. stops state Pause end self.new from.new (S.sent from.old)) }
         ensures leaves { (state : State) → stands state self.old from.old → lasting state → LeavesOn view leaves state Pause from.old from.new }
         ensures fit { (at : ℕ) → fit self.old from.old at → OnOk result (fit self.new from.new at) }
-        ensures fit_on_err { IfErr result (λ end. (harms end → ⊥) → fit self.new from.new (2 ^ 32)) }
+        ensures fit_on_err { IfErr result (λ end. (harms end → ⊥) → fit self.new from.new limit) }
         ensures goes { goes from.old from.new }
         ensures cause { IfErr result (λ end. cause end from.old from.new) }
         ensures faults { CountsFault (fault_in fault result) (view from.old) (view from.new) }
@@ -95,12 +100,12 @@ pub trait LineWork<S: Streams, E> {
 
     /// Ends the work behind the last line and a pause.
     fn finish(&mut self, from: &mut S) -> Result<(), E>
-        requires fit { fit self.old from.old (2 ^ 32) }
+        requires fit { fit self.old from.old limit }
         ensures does { (state : State) → stands state self.old from.old → OnOk result (DoesOn S.sent stands does state End self.new from.old from.new) }
         ensures stops { (state : State) → stands state self.old from.old → IfErr result (λ end. stops state End end self.new from.new (S.sent from.old)) }
         ensures leaves { (state : State) → stands state self.old from.old → lasting state → LeavesOn view leaves state End from.old from.new }
-        ensures fit { OnOk result (fit self.new from.new (2 ^ 32)) }
-        ensures fit_on_err { IfErr result (λ end. (harms end → ⊥) → fit self.new from.new (2 ^ 32)) }
+        ensures fit { OnOk result (fit self.new from.new limit) }
+        ensures fit_on_err { IfErr result (λ end. (harms end → ⊥) → fit self.new from.new limit) }
         ensures goes { goes from.old from.new }
         ensures cause { IfErr result (λ end. cause end from.old from.new) }
         ensures faults { CountsFault (fault_in fault result) (view from.old) (view from.new) }

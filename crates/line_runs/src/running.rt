@@ -1,7 +1,7 @@
 //! The lines of an input are given to a work.
-ghost use Rattle.std.specs.Prelude.{◌≡◌, ◌≤◌, ◌<◌, ◌^◌, length, IfErr, IfSome, OnOk};
+ghost use Rattle.std.specs.Prelude.{◌≡◌, ◌≤◌, ◌<◌, length, IfErr, IfSome, OnOk};
 ghost use Rattle.chart_world.specs.Faults.{CountsFault, fault_in};
-ghost use Rattle.chart_world.specs.Reading.{IsReadUp, unread_input};
+ghost use Rattle.chart_world.specs.Reading.{IsReadUp, unread_up_to};
 ghost use Rattle.line_runs.specs.Runs.{cause_of, fault_of, harms_of};
 ghost use Rattle.line_runs.specs.Given.{Pause};
 ghost use Rattle.line_runs.specs.Shown.{LastsOn, LeavesOn, PausesOn, RunsAll, StopsOn};
@@ -9,7 +9,7 @@ ghost use Rattle.line_runs.specs.Shown.{LastsOn, LeavesOn, PausesOn, RunsAll, St
 use crate::line_work::LineWork;
 use crate::lines_stop::LinesStop;
 use block_disk::Streams;
-use chart_world::{LineAnswer, LineFault, Lines, offset_of};
+use chart_world::{LineAnswer, LineFault, Lines};
 
 /// Pauses the work, unless the next line stands ready.
 fn pause_for<S: Streams, E, W: LineWork<S, E>>(
@@ -18,12 +18,12 @@ fn pause_for<S: Streams, E, W: LineWork<S, E>>(
     lines: &Lines,
 ) -> Result<(), E>
     requires fit { W.fit work.old from.old lines.now.given }
-    requires within { lines.now.given ≤ 2 ^ 32 }
+    requires within { lines.now.given ≤ W.limit }
     ensures does { (state : W.State) → W.stands state work.old from.old → OnOk result (PausesOn S.sent W.stands W.does state lines.now work.new from.old from.new) }
     ensures stops { (state : W.State) → W.stands state work.old from.old → IfErr result (λ end. W.stops state Pause end work.new from.new (S.sent from.old)) }
     ensures leaves { (state : W.State) → W.stands state work.old from.old → W.lasting state → LeavesOn W.view W.leaves state Pause from.old from.new }
     ensures fit { OnOk result (W.fit work.new from.new lines.now.given) }
-    ensures fit_on_err { IfErr result (λ end. (W.harms end → ⊥) → W.fit work.new from.new (2 ^ 32)) }
+    ensures fit_on_err { IfErr result (λ end. (W.harms end → ⊥) → W.fit work.new from.new W.limit) }
     ensures goes { W.goes from.old from.new }
     ensures cause { IfErr result (λ end. W.cause end from.old from.new) }
     ensures faults { CountsFault (fault_in W.fault result) (W.view from.old) (W.view from.new) }
@@ -44,17 +44,17 @@ pub fn run_lines<S: Streams, E, W: LineWork<S, E>>(
     lines: &mut Lines,
 ) -> Result<(), LinesStop<E>>
     requires fit { W.fit work.old from.old 0 }
-    requires fresh { lines.old ≡ unread_input }
+    requires fresh { lines.old ≡ unread_up_to W.limit }
     ensures done { (state : W.State) → W.stands state work.old from.old → OnOk result (RunsAll S.left S.sent S.pieces W.stands W.does state work.new from.old from.new) }
-    ensures within { OnOk result (IfSome (S.left from.old) (λ input. length input ≤ 2 ^ 32)) }
-    ensures stops { (state : W.State) → W.stands state work.old from.old → IfErr result (StopsOn S.left S.sent S.pieces W.stands W.does state work.new from.old from.new W.stops) }
+    ensures within { OnOk result (IfSome (S.left from.old) (λ input. length input ≤ W.limit)) }
+    ensures stops { (state : W.State) → W.stands state work.old from.old → IfErr result (StopsOn S.left S.sent S.pieces W.stands W.does state work.new from.old from.new W.limit W.stops) }
     // at each moment a crash leaves what some first lines left, or what the next one leaves on its way
-    ensures crash { (state : W.State) → W.stands state work.old from.old → W.lasting state → LastsOn S.left S.sent W.view W.does W.rests W.leaves state from.old from.new }
+    ensures crash { (state : W.State) → W.stands state work.old from.old → W.lasting state → LastsOn W.limit S.left S.sent W.view W.does W.rests W.leaves state from.old from.new }
     // whatever the state is
     ensures whole { OnOk result (IsReadUp (S.left from.old) (S.left from.new)) }
-    ensures long { result ≡ Err (LinesStop.Fault LineFault.InputTooLong) → IfSome (S.left from.old) (λ input. 2 ^ 32 < length input) }
-    ensures fit { OnOk result (W.fit work.new from.new (2 ^ 32)) }
-    ensures fit_on_err { IfErr result (λ stop. (harms_of W.harms stop → ⊥) → W.fit work.new from.new (2 ^ 32)) }
+    ensures long { result ≡ Err (LinesStop.Fault LineFault.InputTooLong) → IfSome (S.left from.old) (λ input. W.limit < length input) }
+    ensures fit { OnOk result (W.fit work.new from.new W.limit) }
+    ensures fit_on_err { IfErr result (λ stop. (harms_of W.harms stop → ⊥) → W.fit work.new from.new W.limit) }
     ensures goes { W.goes from.old from.new }
     ensures cause { IfErr result (cause_of W.cause from.old from.new) }
     ensures faults { CountsFault (fault_in (fault_of W.fault) result) (W.view from.old) (W.view from.new) }
@@ -73,11 +73,11 @@ pub fn run_lines<S: Streams, E, W: LineWork<S, E>>(
                 Ok(()) => return Ok(()),
                 Err(end) => return Err(LinesStop::Work(end)),
             },
-            LineAnswer::TooLong => match work.long_line(from, offset_of(lines)) {
+            LineAnswer::TooLong => match work.long_line(from, lines.offset()) {
                 Ok(()) => {}
                 Err(end) => return Err(LinesStop::Work(end)),
             },
-            LineAnswer::Line => match work.line(from, offset_of(lines), lines.line()) {
+            LineAnswer::Line => match work.line(from, lines.offset(), lines.line()) {
                 Ok(()) => {}
                 Err(end) => return Err(LinesStop::Work(end)),
             },

@@ -1,5 +1,5 @@
 //! The work of `retain`: each line is a rule.
-ghost use Rattle.std.specs.Prelude.{◌≢◌, ⊤};
+ghost use Rattle.std.specs.Prelude.{◌≢◌, ◌^◌, ⊤};
 ghost use Rattle.run_ends.specs.Faults.{end_fault};
 ghost use Rattle.run_ends.specs.declared.ending.End.TheVariants.{InputTooLong};
 ghost use Rattle.series_store.specs.Shown as shown;
@@ -27,6 +27,8 @@ impl<P: PageWorld> LineWork<Store<P>, End> for RuleWork {
 
     ghost view = { λ store. shown.view store };
 
+    ghost limit = { 2 ^ 32 };
+
     ghost fit = { λ work store at. shown.IsSound store };
 
     ghost stands = { λ held work store. shown.IsTold store × StandsForBook (shown.image store) held.total held.book };
@@ -49,12 +51,12 @@ impl<P: PageWorld> LineWork<Store<P>, End> for RuleWork {
 
     ghost fault = { end_fault };
 
-    fn line(&mut self, from: &mut Store<P>, at: u32, line: &[u8]) -> Result<(), End> {
-        answer_line(self.alloc, from, at, line)
+    fn line(&mut self, from: &mut Store<P>, at: u64, line: &[u8]) -> Result<(), End> {
+        answer_line(self.alloc, from, at as u32, line)
     }
 
-    fn long_line(&mut self, from: &mut Store<P>, at: u32) -> Result<(), End> {
-        Err(End::BadInput { at: u64::from(at) })
+    fn long_line(&mut self, from: &mut Store<P>, at: u64) -> Result<(), End> {
+        Err(End::BadInput { at })
     }
 
     fn pause(&mut self, from: &mut Store<P>) -> Result<(), End> {

@@ -2,7 +2,7 @@
 use Rattle.std.specs.Prelude.{ℕ, ◌+◌, ◌*◌, ◌^◌}
 use Rattle.run_ends.specs.declared.ending.End.{End}
 use Rattle.run_ends.specs.declared.ending.End.TheVariants.{Done, WrongWords, NoMemory, ReadFault, SendFault, DiskFault, DamagedBlock, DamagedPage}
-use Rattle.run_ends.specs.declared.ending.End.TheVariants.{BadInput, InputTooLong, TooManySlots, Missing, BadCoefficient, TooSmall, IsStore}
+use Rattle.run_ends.specs.declared.ending.End.TheVariants.{BadInput, InputTooLong, TooMuch, Missing, BadCoefficient, TooSmall, IsStore}
 use Rattle.run_ends.specs.declared.ending.End.TheVariants.{UnknownSeries, Refused, UnknownSession, RefusedLine, NoSeries}
 use Rattle.run_ends.specs.declared.status.Status.{Status}
 
@@ -29,7 +29,7 @@ status_of (DamagedBlock block) = status 7 block
 status_of (DamagedPage page) = status 7 (block_of page)
 status_of (BadInput at) = status 8 at
 status_of InputTooLong = status 9 (2 ^ 32)
-status_of (TooManySlots most) = status 9 most
+status_of (TooMuch most) = status 9 most
 status_of (Missing key) = status 10 key
 status_of (BadCoefficient key) = status 11 key
 status_of (TooSmall blocks) = status 12 blocks

@@ -23,8 +23,8 @@ pub enum End {
     BadInput { at: u64 },
     /// The input has more than 2^32 bytes.
     InputTooLong,
-    /// The input has more slots than a plot takes: the most that it takes.
-    TooManySlots { most: u64 },
+    /// The input has more than a run takes, slots of a plot or bytes of a host: the most that it takes.
+    TooMuch { most: u64 },
     /// The first coefficient that a view wants and can't use was neither sent nor held: the number of its key.
     Missing { key: u64 },
     /// The first coefficient that a view wants and can't use doesn't fit: the number of its key.

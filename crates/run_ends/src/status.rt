@@ -23,7 +23,7 @@ const UNKNOWN_SERIES: u64 = 8;
 /// The first block of a store's pages.
 const FIRST_PAGE: u64 = 66;
 
-/// The most bytes of input that a run takes.
+/// The most bytes of input that a run takes, where its end names no other number.
 const MOST_BYTES: u64 = 4_294_967_296;
 
 /// The code and the place of an end.
@@ -43,7 +43,7 @@ pub fn status_of(end: End) -> Status
         End::DamagedPage { page } => told(DAMAGED, block_of(page)),
         End::BadInput { at } => told(BAD_INPUT, at),
         End::InputTooLong => told(TOO_MUCH, MOST_BYTES),
-        End::TooManySlots { most } => told(TOO_MUCH, most),
+        End::TooMuch { most } => told(TOO_MUCH, most),
         End::Missing { key } => told(MISSING, key),
         End::BadCoefficient { key } => told(BAD_COEFFICIENT, key),
         End::TooSmall { blocks } => told(TOO_SMALL, u64::from(blocks)),

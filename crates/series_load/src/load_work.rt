@@ -1,5 +1,5 @@
 //! The lines of a load, as a work.
-ghost use Rattle.std.specs.Prelude.{◌≤◌, ◌≢◌, ⊤};
+ghost use Rattle.std.specs.Prelude.{◌≤◌, ◌≢◌, ◌^◌, ⊤};
 ghost use Rattle.run_ends.specs.Faults.{end_fault};
 ghost use Rattle.series_load.specs.Loading.{Harms, Held, LoadDoes, LoadLeaves, LoadStops, StandsSo};
 ghost use Rattle.series_load.specs.LoadingLaws.{cause_later, fewer, now_stands, stands_taken};
@@ -20,6 +20,8 @@ impl<P: PageWorld> LineWork<Store<P>, End> for Loader {
     ghost State = { Held };
 
     ghost view = { λ store. shown.view store };
+
+    ghost limit = { 2 ^ 32 };
 
     ghost fit = { λ loader store at. shown.IsSound store × (loader.points ≤ at) × loads.KeepsEdits loader };
 
@@ -43,12 +45,12 @@ impl<P: PageWorld> LineWork<Store<P>, End> for Loader {
 
     ghost fault = { end_fault };
 
-    fn line(&mut self, from: &mut Store<P>, at: u32, line: &[u8]) -> Result<(), End> {
-        self.take_line(from, at, line)
+    fn line(&mut self, from: &mut Store<P>, at: u64, line: &[u8]) -> Result<(), End> {
+        self.take_line(from, at as u32, line)
     }
 
-    fn long_line(&mut self, from: &mut Store<P>, at: u32) -> Result<(), End> {
-        Err(self.stop(from, at))
+    fn long_line(&mut self, from: &mut Store<P>, at: u64) -> Result<(), End> {
+        Err(self.stop(from, at as u32))
     }
 
     fn pause(&mut self, from: &mut Store<P>) -> Result<(), End> {

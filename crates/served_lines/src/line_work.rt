@@ -1,4 +1,5 @@
 //! The work of a service on the lines of its streams.
+ghost use Rattle.std.specs.Prelude.{◌^◌};
 ghost use Rattle.chart_service.specs.Faulting.{answer_fault};
 ghost use Rattle.chart_service.specs.Shown as shown;
 ghost use Rattle.served_lines.specs.Going.{Goes, Harms, IsCause, side_of};
@@ -19,6 +20,8 @@ impl<P: PageWorld, S, F, R: Reply<S, F>> LineWork<Service<P>, AnswerEnd<F>>
     ghost State = { Stand S };
 
     ghost view = { λ service. shown.view service };
+
+    ghost limit = { 2 ^ 32 };
 
     ghost fit = { λ turns service at. FitIn turns service };
 
@@ -42,7 +45,7 @@ impl<P: PageWorld, S, F, R: Reply<S, F>> LineWork<Service<P>, AnswerEnd<F>>
 
     ghost fault = { answer_fault };
 
-    fn line(&mut self, from: &mut Service<P>, at: u32, line: &[u8]) -> Result<(), AnswerEnd<F>> {
+    fn line(&mut self, from: &mut Service<P>, at: u64, line: &[u8]) -> Result<(), AnswerEnd<F>> {
         if line.is_empty() {
             return Ok(());
         }
@@ -53,7 +56,7 @@ impl<P: PageWorld, S, F, R: Reply<S, F>> LineWork<Service<P>, AnswerEnd<F>>
         }
     }
 
-    fn long_line(&mut self, from: &mut Service<P>, at: u32) -> Result<(), AnswerEnd<F>> {
+    fn long_line(&mut self, from: &mut Service<P>, at: u64) -> Result<(), AnswerEnd<F>> {
         refuse_long(self, from)
     }
 

@@ -1,4 +1,4 @@
-use Rattle.std.proofs.Common.{◌^◌, Result, Ok, Err, inl, inr, refl}
+use Rattle.std.proofs.Common.{Result, Ok, Err, inl, inr, refl}
 use Rattle.std.specs.Prelude.{OnOk}
 use Rattle.line_runs.specs.Given.{Pause}
 use Rattle.line_runs.specs.MomentLaws.{through_none}
@@ -11,7 +11,7 @@ on_ok {T} {E} (Err e) P Q more is = tt
 
 pub pause-requires : goal.pause-requires
 pause-requires g c = record {
-  fit = g.met.W.LineWork.fit_later c.args.work.now c.args.from.now c.args.lines.now.given (2 ^ 32) c.requires.within c.requires.fit;
+  fit = g.met.W.LineWork.fit_later c.args.work.now c.args.from.now c.args.lines.now.given g.W.LineWork.limit c.requires.within c.requires.fit;
 }
 
 pub returns-then-ready-clause-does : goal.returns-then-ready-clause-does

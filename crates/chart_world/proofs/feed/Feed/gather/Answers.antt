@@ -1,4 +1,4 @@
-use Rattle.std.proofs.Common.{ℕ, List, Option, None, Some, IfSome, ◌≡◌, ◌∙◌, ◌+◌, ◌-◌, ◌^◌, ◌≤◌, ◌<◌, ◌++◌, [], length, take, ap, sym, subst, inl, inr, arith, rules}
+use Rattle.std.proofs.Common.{ℕ, List, Option, None, Some, IfSome, ◌≡◌, ◌∙◌, ◌+◌, ◌-◌, ◌≤◌, ◌<◌, ◌++◌, [], length, take, ap, sym, subst, inl, inr, arith, rules}
 use Rattle.std.specs.List.{position_or_len}
 use Rattle.block_disk.specs.Streams.{left_after}
 use Rattle.chart_world.specs.Lines.{is_line_feed}
@@ -42,12 +42,12 @@ returns-then-self-gt-LIMIT-clause-past_before g c _ =
     let told = in_front_of (pending_of c.args.self.now) (streams.left c.args.from.now) in
     let at = c.loop-self.self in
     let given = c.loop-self.invariant.given in
-    let within : 2 ^ 32 - given_of c.args.self.now ≤ c.loop-self.length + c.line_feed-before.result =
+    let within : c.args.self.now.limit - given_of c.args.self.now ≤ c.loop-self.length + c.line_feed-before.result =
     elim c.else-before-len.branch [
       | else-before-len-via-then-before-len+else-given-before-lt-LIMIT w ↦ omega (arith, given, w.given.ensures, w.if-given-before-lt-LIMIT.false)
       | else-before-len-via-else-before-len w ↦ omega (arith, given, w.if-before-len.false, c.len.ensures, c.if-self-gt-LIMIT.true)
     ] in
-    none_yet told (streams.left c.loop-self.from) c.loop-self.length (2 ^ 32 - given_of c.args.self.now) at.spill.items (pending_of at) (omega (arith, within, c.line_feed-before.ensures)) c.loop-self.invariant.partway
+    none_yet told (streams.left c.loop-self.from) c.loop-self.length (c.args.self.now.limit - given_of c.args.self.now) at.spill.items (pending_of at) (omega (arith, within, c.line_feed-before.ensures)) c.loop-self.invariant.partway
 
 pub returns-then-self-gt-LIMIT-clause-left_on_err : goal.returns-then-self-gt-LIMIT-clause-left_on_err
 returns-then-self-gt-LIMIT-clause-left_on_err g c =
@@ -143,7 +143,7 @@ returns-then-given-before-lt-LIMIT-clause-took g c none = elim c.loop-self.invar
       let old = c.args.self.now in
       let full = pending_full at.bytes.items at.start at.end at.ordered (omega (arith, at.within, at.sized, at.bytes.ok)) in
       let place : c.line_feed-before.result ≡ position_or_len is_line_feed (pending_of old) = c.line_feed-before.ensures ∙ ap (λ l. position_or_len is_line_feed l) same in
-      absurd (none (early_contains (2 ^ 32 - given_of old) (pending_of old)
+      absurd (none (early_contains (old.limit - given_of old) (pending_of old)
       (omega (arith, place, full, ap length same, c.if-before-len.true, c.len.ensures))
       (omega (arith, place, c.given.ensures, c.loop-self.invariant.given, unmoved, c.if-given-before-lt-LIMIT.true))))
   | inr risen ↦ inl risen

@@ -1,4 +1,4 @@
-use Rattle.std.proofs.Common.{◌≡◌, ◌≤◌, ◌⊎◌, ◌+◌, ◌-◌, ◌^◌}
+use Rattle.std.proofs.Common.{◌≡◌, ◌≤◌, ◌⊎◌, ◌+◌, ◌-◌}
 use Rattle.block_disk.specs.Counts.{HasGrown}
 use Rattle.chart_world.specs.Feed.{pending_of, given_of}
 use Rattle.chart_world.specs.Reading.{in_front_of, input_length}
@@ -12,6 +12,7 @@ invariant-loop-self g l =
       partway : Partway (in_front_of (pending_of l.fn.self) (streams.left l.fn.from)) l.length l.self.spill.items (pending_of l.self) (streams.left l.from);
       given : given_of l.self ≡ given_of l.fn.self + l.length;
       forward : l.fn.self.taken ≤ l.self.taken;
+      limit : l.self.limit ≡ l.fn.self.limit;
       total : input_length l.self.taken (streams.left l.from) ≡ input_length l.fn.self.taken (streams.left l.fn.from);
       sent : streams.sent l.from ≡ streams.sent l.fn.from;
       send_faults : streams.send_faults l.from ≡ streams.send_faults l.fn.from;
@@ -23,4 +24,4 @@ invariant-loop-self g l =
     }
 
 abbrev pub decreases-loop-self : goal.decreases-loop-self
-decreases-loop-self g l = 2 ^ 32 + 65536 - l.self.taken
+decreases-loop-self g l = l.fn.self.limit + 524288 - l.self.taken

@@ -18,6 +18,7 @@ returns-in_err-count g c =
       passed_on_err = c.requires.passed;
       taken_on_err = refl;
       spill = refl;
+      limit = refl;
       cause = failed.cause;
       quiet = tt;
       sent = c.take.ensures.sent;

@@ -54,6 +54,7 @@ returns-in-Some g c =
       stands = stands;
       usable = c.give_pending.ensures.usable;
       unusable = tt;
+      limit = c.give_pending.ensures.limit;
       total = grind (arith, counted, rest, some, none);
       forward = grind (arith, counted, rest, some, none);
       waits = λ _. refl;
@@ -79,6 +80,7 @@ returns-in-Ok-None g c =
     let was = c.self.inside.feed in
     let full_before = pending_full was.bytes.items was.start was.end was.ordered (omega (arith, was.within, was.sized, was.bytes.ok)) in
     let taken = ap (λ (r : Reading). r.taken) c.self.view_is in
+    let limit = ap (λ (r : Reading). r.limit) c.self.view_is in
     let ended = ap (λ (r : Reading). r.ended) c.self.view_is in
     let whole : old.taken ≡ old.given + length old.pending =
     omega (arith, full_before, was.counted, was.ordered, taken, ap (λ (r : Reading). r.given) c.self.view_is, ap length pending) in
@@ -113,6 +115,7 @@ returns-in-Ok-None g c =
       stands = λ input stands. stands_next input left later old _ rest whole counted total (λ is. absurd (off is)) (λ is. absurd (off is)) c.in-Ok-None.ensures.ended stands;
       usable = grind (arith, full, none);
       unusable = tt;
+      limit = c.gather.ensures.limit ∙ limit;
       total = total;
       forward = grind (arith, full, none);
       waits = grind (arith, full, none);
@@ -143,12 +146,14 @@ returns-then-length g c =
     let line = of_value Line c.in-Ok-Some.field-0 c.in-Ok-Some.length c.in-Ok-Some.field-0-is c.in-Ok-Some.ensures.line in
     let long : told_lines (unread c.args.self.now left) ≡ with_first None (told_lines after) =
     rw (← pending) (gathered_long told after c.in-Ok-Some.length spill c.if-length.true line c.in-Ok-Some.ensures.rest) in
+    let limited = ap (λ (r : Reading). r.limit) c.self.view_is in
     let took : (HasLine c.args.self.now → ⊥) → Took (g.S.Streams.pieces c.args.from.now) (g.S.Streams.pieces c.gather.new.from) after =
-    λ none. c.in-Ok-Some.ensures.took (λ has. none (rw (← given, ← pending) has)) in
+    λ none. c.in-Ok-Some.ensures.took (λ has. none (rw (← given, ← pending, ← limited) has)) in
     let old = c.args.self.now in
     let was = c.self.inside.feed in
     let full_before = pending_full was.bytes.items was.start was.end was.ordered (omega (arith, was.within, was.sized, was.bytes.ok)) in
     let taken = ap (λ (r : Reading). r.taken) c.self.view_is in
+    let limit = ap (λ (r : Reading). r.limit) c.self.view_is in
     let ended = ap (λ (r : Reading). r.ended) c.self.view_is in
     let whole : old.taken ≡ old.given + length old.pending =
     omega (arith, full_before, was.counted, was.ordered, taken, ap (λ (r : Reading). r.given) c.self.view_is, ap length pending) in
@@ -185,6 +190,7 @@ returns-then-length g c =
       stands = λ input stands. stands_next input left later old _ rest whole counted total feed before c.in-Ok-Some.ensures.ended stands;
       usable = grind arith;
       unusable = grind arith;
+      limit = c.gather.ensures.limit ∙ limit;
       total = grind arith;
       forward = grind arith;
       waits = grind arith;
@@ -212,12 +218,14 @@ returns g c =
     let line = of_value Line c.in-Ok-Some.field-0 c.in-Ok-Some.length c.in-Ok-Some.field-0-is c.in-Ok-Some.ensures.line in
     let short : told_lines (unread c.args.self.now left) ≡ with_first (Some (take c.text_len-end.result spill)) (told_lines after) =
     rw (← pending) (gathered_short told after c.in-Ok-Some.length spill (take c.text_len-end.result spill) c.if-length.false text line c.in-Ok-Some.ensures.rest) in
+    let limited = ap (λ (r : Reading). r.limit) c.self.view_is in
     let took : (HasLine c.args.self.now → ⊥) → Took (g.S.Streams.pieces c.args.from.now) (g.S.Streams.pieces c.gather.new.from) after =
-    λ none. c.in-Ok-Some.ensures.took (λ has. none (rw (← given, ← pending) has)) in
+    λ none. c.in-Ok-Some.ensures.took (λ has. none (rw (← given, ← pending, ← limited) has)) in
     let old = c.args.self.now in
     let was = c.self.inside.feed in
     let full_before = pending_full was.bytes.items was.start was.end was.ordered (omega (arith, was.within, was.sized, was.bytes.ok)) in
     let taken = ap (λ (r : Reading). r.taken) c.self.view_is in
+    let limit = ap (λ (r : Reading). r.limit) c.self.view_is in
     let ended = ap (λ (r : Reading). r.ended) c.self.view_is in
     let whole : old.taken ≡ old.given + length old.pending =
     omega (arith, full_before, was.counted, was.ordered, taken, ap (λ (r : Reading). r.given) c.self.view_is, ap length pending) in
@@ -253,6 +261,7 @@ returns g c =
       stands = λ input stands. stands_next input left later old _ rest whole counted total feed before c.in-Ok-Some.ensures.ended stands;
       usable = grind arith;
       unusable = grind arith;
+      limit = c.gather.ensures.limit ∙ limit;
       total = grind arith;
       forward = grind arith;
       waits = grind arith;
