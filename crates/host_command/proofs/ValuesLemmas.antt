@@ -1,5 +1,5 @@
 -- The frames that answer `values`, put together, are the pieces of the window.
-use Rattle.std.proofs.Common.{◌≡◌, ◌∙◌, ℕ, ℤ, pos, ◌+ℤ◌, ◌+◌, ◌-◌, ◌*◌, ◌<◌, ◌≤◌, ◌<ℤ◌, Bool, true, false, cond, List, [], ◌∷◌, ◌++◌, length, map, Option, None, Some, refl, ap, sym, subst, inl, inr, arith}
+use Rattle.std.proofs.Common.{◌≡◌, ◌∙◌, ℕ, ℤ, suc, pos, ◌+ℤ◌, ◌+◌, ◌-◌, ◌*◌, ◌<◌, ◌≤◌, ◌<ℤ◌, Bool, true, false, cond, List, [], ◌∷◌, ◌++◌, length, map, Option, None, Some, refl, ap, sym, subst, inl, inr, arith}
 use Rattle.std.specs.Prelude.{nat_lt, ◌↔◌}
 use Rattle.std.proofs.lemmas.Bool.{cases_lt, lt-ltb, ltb-true}
 use Rattle.chart_frames.specs.declared.frame.Frame.{Frame}
@@ -35,7 +35,7 @@ run_back run order =
 runs_back : (end from : ℕ) (runs : List SlotRun) → AreApart end from runs → map slots_of (map run_in runs) ≡ runs
 runs_back end from [] apart = refl
 runs_back end from (run ∷ runs) (first, some, within, more) =
-    ap (λ (r : SlotRun). r ∷ map slots_of (map run_in runs)) (run_back run (omega (arith, some))) ∙ ap (λ l. run ∷ l) (runs_back end (run.end + 1) runs more)
+    ap (λ (r : SlotRun). r ∷ map slots_of (map run_in runs)) (run_back run (omega (arith, some))) ∙ ap (λ l. run ∷ l) (runs_back end (suc run.end) runs more)
 
 piece_back : (id : ℕ) (series : Series) (from to end : ℕ) (frame : ValuesFrame) → frame ≡ piece_frame id series from to end → piece_in frame ≡ piece_of series.slots from end
 piece_back id series from to end frame is =
