@@ -11,6 +11,8 @@ mod hosted;
 #[cfg(test)]
 mod keys;
 #[cfg(test)]
+mod limits;
+#[cfg(test)]
 mod loads;
 #[cfg(test)]
 mod plans;

@@ -20,10 +20,10 @@ fn rows(alloc: Global, count: u16, value: &str) -> Result<Vec<u8>, Fail> {
     Ok(input)
 }
 
-/// Loads 3,000 rows of 25 bytes where the take of this number fails, each of 65,536 bytes, and checks the store: whether the
+/// Loads 12,000 rows of 25 bytes where the take of this number fails, each of 262,144 bytes, and checks the store: whether the
 /// load has this code, and what is sent begins so.
 fn is_loaded(alloc: Global, take: u64, code: u8, text: &[u8]) -> Result<bool, Fail> {
-    let input = rows(alloc, 3_000, "123456789012345.67")?;
+    let input = rows(alloc, 12_000, "123456789012345.67")?;
     let world = world_of(alloc, behind(alloc, CREATED)?, input.as_slice(), &[take])?;
     let name = Name::new(alloc, b"a")?;
     let (end, world) = load_series(alloc, &name, world);
@@ -36,9 +36,9 @@ fn is_loaded(alloc: Global, take: u64, code: u8, text: &[u8]) -> Result<bool, Fa
 fn an_input_fails_in_mid_stream(rt: HostRuntime) -> Result<(), Fail> {
     let alloc = rt.alloc();
     assert!(rt; is_loaded(alloc, 0, 4, b"series 1\nvalues 0\n")?);
-    assert!(rt; is_loaded(alloc, 1, 4, b"series 1\nvalues 2560\n")?);
-    assert!(rt; is_loaded(alloc, 2, 4, b"series 1\nvalues 2816\n")?);
-    assert!(rt; is_loaded(alloc, 3, 0, b"loaded 3000\nseries 1\nvalues 3000\n")?);
+    assert!(rt; is_loaded(alloc, 1, 4, b"series 1\nvalues 10240\n")?);
+    assert!(rt; is_loaded(alloc, 2, 4, b"series 1\nvalues 11776\n")?);
+    assert!(rt; is_loaded(alloc, 3, 0, b"loaded 12000\nseries 1\nvalues 12000\n")?);
     Ok(())
 }
 
@@ -56,12 +56,12 @@ fn syncs_of(alloc: Global, input: &[u8]) -> Result<u64, Fail> {
     Ok(loaded.saturating_sub(world.into_disk().syncs()))
 }
 
-/// The twelve runs of these rows are stored in three commits, one for each take and one for the run that stands open at the end,
+/// The twelve runs of these rows are stored in two commits, one for the take and one for the run that stands open at the end,
 /// with four syncs each.
 #[test]
 fn runs_are_stored_by_groups(rt: HostRuntime) -> Result<(), Fail> {
     let alloc = rt.alloc();
     let input = rows(alloc, 3_000, "123456789012345.67")?;
-    assert_eq!(rt; syncs_of(alloc, input.as_slice())?, 12);
+    assert_eq!(rt; syncs_of(alloc, input.as_slice())?, 8);
     Ok(())
 }

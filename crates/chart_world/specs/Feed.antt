@@ -1,5 +1,5 @@
 -- What was taken of the input and isn't passed, and a line that was put together from several pieces.
-use Rattle.std.specs.Prelude.{ℕ, ◌-◌, ◌^◌, ◌≡◌, ◌≢◌, List, [], Contains, length, take, slice_range}
+use Rattle.std.specs.Prelude.{ℕ, ◌-◌, ◌≡◌, ◌≢◌, List, [], Contains, length, take, slice_range}
 use Rattle.std.specs.List.{before_first}
 use Rattle.chart_world.specs.Lines.{is_line_feed}
 use Rattle.chart_world.specs.declared.feed.Feed.{Feed}

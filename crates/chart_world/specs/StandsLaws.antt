@@ -1,5 +1,5 @@
 -- Where a reader stands in its input, from one line to the next.
-use Rattle.std.proofs.Common.{◌≡◌, ◌<◌, ℕ, ◌+◌, ◌-◌, false, not, IsTrue, List, [], ◌∷◌, ◌++◌, length, take, drop, get_or, Option, Some, None, IfSome, refl, ap, subst, inl, inr, sym, ◌∙◌, arith, length-append, length-drop}
+use Rattle.std.proofs.Common.{◌≡◌, ◌<◌, ℕ, ◌+◌, ◌-◌, ◌^◌, false, not, IsTrue, List, [], ◌∷◌, ◌++◌, length, take, drop, get_or, Option, Some, None, IfSome, refl, ap, subst, inl, inr, sym, ◌∙◌, arith, length-append, length-drop}
 use Rattle.std.specs.List.{after_first, position_or_len}
 use Rattle.std.proofs.lemmas.List.{drop-append-le, drop-drop, drop_all, length-take, take_more}
 use Rattle.std.proofs.lemmas.List.Sums.{passes_at_first}
@@ -10,19 +10,23 @@ use Rattle.std.proofs.Math.Seq.{take-add, take-append_seam}
 use Rattle.chart_world.specs.Fronts.{IsWhole, StandsIn, first_piece}
 use Rattle.chart_world.specs.FrontLaws.{passed, whole_joined}
 use Rattle.chart_world.specs.Lines.{is_line_feed}
-use Rattle.chart_world.specs.Reading.{Reading, HasFeed, IsNone, unread_input, unread, in_front_of, behind_first, input_length}
+use Rattle.chart_world.specs.Reading.{Reading, HasFeed, IsNone, unread_input, unread_up_to, unread, in_front_of, behind_first, input_length}
 
 -- a line feed in front is the first
 position_in_front : (front behind : List ℕ) → position_or_len is_line_feed front < length front → position_or_len is_line_feed (front ++ behind) ≡ position_or_len is_line_feed front
 position_in_front front behind found = grind (arith, nat_tests, prefix_len-append (λ x. not (is_line_feed x)) front behind)
 
 -- before the first call
-pub stands_first : (o : Option (List ℕ)) (r : Reading) → r ≡ unread_input → StandsIn o r o
-stands_first o r is = let P : Reading → Type 0 = λ r. StandsIn o r o in subst P (sym is) (by o)
+pub stands_up_to : (limit : ℕ) (o : Option (List ℕ)) (r : Reading) → r ≡ unread_up_to limit → StandsIn o r o
+stands_up_to limit o r is = let P : Reading → Type 0 = λ r. StandsIn o r o in subst P (sym is) (by o)
   where
-    by : (o : Option (List ℕ)) → StandsIn o unread_input o
+    by : (o : Option (List ℕ)) → StandsIn o (unread_up_to limit) o
     by None = record { behind = refl; whole = λ _. tt; nothing = λ t. absurd (cc (t)) }
     by (Some bytes) = record { behind = refl; whole = λ _. inl refl; nothing = λ t. absurd (cc (t)) }
+
+-- the same of the first 2^32 bytes
+pub stands_first : (o : Option (List ℕ)) (r : Reading) → r ≡ unread_input → StandsIn o r o
+stands_first o r is = stands_up_to (2 ^ 32) o r is
 
 -- the stream beside the reader is as it was
 pub stands_beside : (o left left' : Option (List ℕ)) (r : Reading) → left' ≡ left → StandsIn o r left → StandsIn o r left'

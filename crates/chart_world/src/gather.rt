@@ -1,5 +1,5 @@
 //! A line that goes on past the piece that it begins in.
-ghost use Rattle.std.specs.Prelude.{false, ◌≡◌, ◌≢◌, ◌≤◌, ◌<◌, ◌+◌, ◌-◌, ◌^◌, [], IfSome, IsTrue, IfOk, OnOk, OnErr};
+ghost use Rattle.std.specs.Prelude.{false, ◌≡◌, ◌≢◌, ◌≤◌, ◌<◌, ◌+◌, ◌-◌, [], IfSome, IsTrue, IfOk, OnOk, OnErr};
 ghost use Rattle.block_disk.specs.Counts.{HasRisen};
 ghost use Rattle.block_disk.specs.Streams.{left_after};
 ghost use Rattle.chart_world.specs.Feed.{pending_of, given_of, HasLine, Gathered};

@@ -3,7 +3,7 @@ use Rattle.chart_world.specs.FaultLaws.{counts_then, counts_kept}
 use Rattle.chart_world.specs.FrontLaws.{gives_by, longer, read_up, same_line}
 use Rattle.chart_world.specs.Fronts.{Gives}
 use Rattle.chart_world.specs.Reading.{IsNone, IsReadUp, Reading, input_length}
-use Rattle.chart_world.specs.StandsLaws.{stands_beside, stands_first}
+use Rattle.chart_world.specs.StandsLaws.{stands_beside, stands_up_to}
 use Rattle.line_runs.specs.CarriedLaws.{carries_on}
 use Rattle.line_runs.specs.Given.{Line, Pause, End}
 use Rattle.line_runs.specs.Runs.{AreAll}
@@ -39,7 +39,7 @@ lines-init g c =
       within = omega (arith, ap (λ (r : Reading). r.given) fresh);
       limited = ap (λ (r : Reading). r.limit) fresh;
       whole = ap (λ (r : Reading). input_length r.taken (left from)) fresh;
-      stands_in = stands_first (left from) c.args.lines.now fresh;
+      stands_in = stands_up_to w.limit (left from) c.args.lines.now fresh;
       fit = subst F (sym fresh) c.requires.fit;
       goes = laws.goes_none from;
       quiet = refl;

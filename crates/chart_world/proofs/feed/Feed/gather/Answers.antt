@@ -7,7 +7,7 @@ use Rattle.chart_world.specs.Reading.{in_front_of, IsNone}
 use Rattle.chart_world.proofs.Pending.{pending_full, pending_from, pending_piece}
 use Rattle.chart_world.proofs.Gathering.{found, found_feed, found_rest, none_there, none_yet, left_is, pass_all, ended, ended_rest, none_left, refill_step, input_step, nothing_left, counted_rises}
 use Rattle.chart_world.proofs.NextLine.{early_contains}
-use Rattle.chart_world.proofs.feed.Feed.gather.Goals.{else-before-len-via-then-before-len+else-given-before-lt-LIMIT, else-before-len-via-else-before-len}
+use Rattle.chart_world.proofs.feed.Feed.gather.Goals.{else-before-len-via-then-before-len+else-given-before, else-before-len-via-else-before-len}
 use Rattle.chart_world.proofs.feed.Feed.gather.Goals as goal
 
 -- behind a take that gave nothing there is still nothing
@@ -15,16 +15,16 @@ still_none : (left left' : Option (List ℕ)) → IfSome left (λ l. l ≡ []) �
 still_none None left' none is = subst IsNone (sym is) tt
 still_none (Some rest) left' none is = subst IsNone (sym is) none
 
-pub returns-then-given-before-lt-LIMIT-clause-line : goal.returns-then-given-before-lt-LIMIT-clause-line
-returns-then-given-before-lt-LIMIT-clause-line g c =
+pub returns-then-given-before-clause-line : goal.returns-then-given-before-clause-line
+returns-then-given-before-clause-line g c =
     let streams = g.S.Streams in
     let told = in_front_of (pending_of c.args.self.now) (streams.left c.args.from.now) in
     let at = c.loop-self.self in
     let full = pending_full at.bytes.items at.start at.end at.ordered (omega (arith, at.within, at.sized, at.bytes.ok)) in
     rw (c.pass.ensures.spill, c.keep.ensures.spill) (found told (streams.left c.loop-self.from) c.loop-self.length c.line_feed-before.result at.spill.items (pending_of at) c.line_feed-before.ensures (omega (arith, full, c.if-before-len.true, c.len.ensures)) c.loop-self.invariant.partway)
 
-pub returns-then-given-before-lt-LIMIT-clause-rest : goal.returns-then-given-before-lt-LIMIT-clause-rest
-returns-then-given-before-lt-LIMIT-clause-rest g c =
+pub returns-then-given-before-clause-rest : goal.returns-then-given-before-clause-rest
+returns-then-given-before-clause-rest g c =
     let streams = g.S.Streams in
     let told = in_front_of (pending_of c.args.self.now) (streams.left c.args.from.now) in
     let at = c.loop-self.self in
@@ -36,21 +36,21 @@ returns-then-given-before-lt-LIMIT-clause-rest g c =
     (ap (λ l. in_front_of l (streams.left c.loop-self.from)) (pending_from at.bytes.items at.start (at.start + before + 1) at.end (before + 1) next (omega (arith, full, below)))
     ∙ found_rest told (streams.left c.loop-self.from) c.loop-self.length before at.spill.items (pending_of at) c.line_feed-before.ensures below c.loop-self.invariant.partway)
 
-pub returns-then-self-gt-LIMIT-clause-past_before : goal.returns-then-self-gt-LIMIT-clause-past_before
-returns-then-self-gt-LIMIT-clause-past_before g c _ =
+pub returns-then-self-2-clause-past_before : goal.returns-then-self-2-clause-past_before
+returns-then-self-2-clause-past_before g c _ =
     let streams = g.S.Streams in
     let told = in_front_of (pending_of c.args.self.now) (streams.left c.args.from.now) in
     let at = c.loop-self.self in
     let given = c.loop-self.invariant.given in
     let within : c.args.self.now.limit - given_of c.args.self.now ≤ c.loop-self.length + c.line_feed-before.result =
     elim c.else-before-len.branch [
-      | else-before-len-via-then-before-len+else-given-before-lt-LIMIT w ↦ omega (arith, given, w.given.ensures, w.if-given-before-lt-LIMIT.false)
-      | else-before-len-via-else-before-len w ↦ omega (arith, given, w.if-before-len.false, c.len.ensures, c.if-self-gt-LIMIT.true)
+      | else-before-len-via-then-before-len+else-given-before w ↦ omega (arith, given, c.loop-self.invariant.limit, w.given.ensures, w.if-given-before.false)
+      | else-before-len-via-else-before-len w ↦ omega (arith, given, c.loop-self.invariant.limit, w.if-before-len.false, c.len.ensures, c.if-self-2.true)
     ] in
     none_yet told (streams.left c.loop-self.from) c.loop-self.length (c.args.self.now.limit - given_of c.args.self.now) at.spill.items (pending_of at) (omega (arith, within, c.line_feed-before.ensures)) c.loop-self.invariant.partway
 
-pub returns-then-self-gt-LIMIT-clause-left_on_err : goal.returns-then-self-gt-LIMIT-clause-left_on_err
-returns-then-self-gt-LIMIT-clause-left_on_err g c =
+pub returns-then-self-2-clause-left_on_err : goal.returns-then-self-2-clause-left_on_err
+returns-then-self-2-clause-left_on_err g c =
     let streams = g.S.Streams in
     let told = in_front_of (pending_of c.args.self.now) (streams.left c.args.from.now) in
     let at = c.loop-self.self in
@@ -67,7 +67,7 @@ returns-in_default-clause-read_before g c _ =
     let all : length (pending_of at) ≤ length' = omega (arith, full, c.len-in-loop-self-2.ensures) in
     let within : length' ≤ c.line_feed-before.result =
     elim c.else-before-len.branch [
-      | else-before-len-via-then-before-len+else-given-before-lt-LIMIT w ↦ omega (arith, w.given.ensures, w.if-given-before-lt-LIMIT.false, w.if-before-len.true, c.len.ensures, c.if-self-gt-LIMIT.false, at.counted)
+      | else-before-len-via-then-before-len+else-given-before w ↦ omega (arith, w.given.ensures, w.if-given-before.false, w.if-before-len.true, c.len.ensures, c.if-self-2.false, at.counted)
       | else-before-len-via-else-before-len w ↦ omega (arith, w.if-before-len.false, c.len.ensures, c.len-in-loop-self-2.ensures)
     ] in
     let passed = pass_all told (streams.left c.loop-self.from) c.loop-self.length length' at.spill.items (pending_of at) all (omega (arith, within, c.line_feed-before.ensures)) c.loop-self.invariant.partway in
@@ -85,7 +85,7 @@ returns-in_default-clause-left_on_err g c =
     let all : length (pending_of at) ≤ length' = omega (arith, full, c.len-in-loop-self-2.ensures) in
     let within : length' ≤ c.line_feed-before.result =
     elim c.else-before-len.branch [
-      | else-before-len-via-then-before-len+else-given-before-lt-LIMIT w ↦ omega (arith, w.given.ensures, w.if-given-before-lt-LIMIT.false, w.if-before-len.true, c.len.ensures, c.if-self-gt-LIMIT.false, at.counted)
+      | else-before-len-via-then-before-len+else-given-before w ↦ omega (arith, w.given.ensures, w.if-given-before.false, w.if-before-len.true, c.len.ensures, c.if-self-2.false, at.counted)
       | else-before-len-via-else-before-len w ↦ omega (arith, w.if-before-len.false, c.len.ensures, c.len-in-loop-self-2.ensures)
     ] in
     let passed = pass_all told (streams.left c.loop-self.from) c.loop-self.length length' at.spill.items (pending_of at) all (omega (arith, within, c.line_feed-before.ensures)) c.loop-self.invariant.partway in
@@ -104,7 +104,7 @@ returns-else-length-eq0-clause-line g c =
     let all : length (pending_of at) ≤ length' = omega (arith, full, c.len-in-loop-self-2.ensures) in
     let within : length' ≤ c.line_feed-before.result =
     elim c.else-before-len.branch [
-      | else-before-len-via-then-before-len+else-given-before-lt-LIMIT w ↦ omega (arith, w.given.ensures, w.if-given-before-lt-LIMIT.false, w.if-before-len.true, c.len.ensures, c.if-self-gt-LIMIT.false, at.counted)
+      | else-before-len-via-then-before-len+else-given-before w ↦ omega (arith, w.given.ensures, w.if-given-before.false, w.if-before-len.true, c.len.ensures, c.if-self-2.false, at.counted)
       | else-before-len-via-else-before-len w ↦ omega (arith, w.if-before-len.false, c.len.ensures, c.len-in-loop-self-2.ensures)
     ] in
     let passed = pass_all told (streams.left c.loop-self.from) c.loop-self.length length' at.spill.items (pending_of at) all (omega (arith, within, c.line_feed-before.ensures)) c.loop-self.invariant.partway in
@@ -124,7 +124,7 @@ returns-else-length-eq0-clause-rest g c =
     let all : length (pending_of at) ≤ length' = omega (arith, full, c.len-in-loop-self-2.ensures) in
     let within : length' ≤ c.line_feed-before.result =
     elim c.else-before-len.branch [
-      | else-before-len-via-then-before-len+else-given-before-lt-LIMIT w ↦ omega (arith, w.given.ensures, w.if-given-before-lt-LIMIT.false, w.if-before-len.true, c.len.ensures, c.if-self-gt-LIMIT.false, at.counted)
+      | else-before-len-via-then-before-len+else-given-before w ↦ omega (arith, w.given.ensures, w.if-given-before.false, w.if-before-len.true, c.len.ensures, c.if-self-2.false, at.counted)
       | else-before-len-via-else-before-len w ↦ omega (arith, w.if-before-len.false, c.len.ensures, c.len-in-loop-self-2.ensures)
     ] in
     let passed = pass_all told (streams.left c.loop-self.from) c.loop-self.length length' at.spill.items (pending_of at) all (omega (arith, within, c.line_feed-before.ensures)) c.loop-self.invariant.partway in
@@ -136,8 +136,8 @@ returns-else-length-eq0-clause-rest g c =
     ap (λ l. in_front_of l (streams.left c.refill.new.from)) nothing
     ∙ ended_rest told (streams.left c.loop-self.from) (streams.left c.refill.new.from) (c.loop-self.length + length') spill none left passed
 
-pub returns-then-given-before-lt-LIMIT-clause-took : goal.returns-then-given-before-lt-LIMIT-clause-took
-returns-then-given-before-lt-LIMIT-clause-took g c none = elim c.loop-self.invariant.took [
+pub returns-then-given-before-clause-took : goal.returns-then-given-before-clause-took
+returns-then-given-before-clause-took g c none = elim c.loop-self.invariant.took [
   | inl (unmoved, same) ↦
       let at = c.loop-self.self in
       let old = c.args.self.now in
@@ -145,7 +145,7 @@ returns-then-given-before-lt-LIMIT-clause-took g c none = elim c.loop-self.invar
       let place : c.line_feed-before.result ≡ position_or_len is_line_feed (pending_of old) = c.line_feed-before.ensures ∙ ap (λ l. position_or_len is_line_feed l) same in
       absurd (none (early_contains (old.limit - given_of old) (pending_of old)
       (omega (arith, place, full, ap length same, c.if-before-len.true, c.len.ensures))
-      (omega (arith, place, c.given.ensures, c.loop-self.invariant.given, unmoved, c.if-given-before-lt-LIMIT.true))))
+      (omega (arith, place, c.given.ensures, c.loop-self.invariant.given, c.loop-self.invariant.limit, unmoved, c.if-given-before.true))))
   | inr risen ↦ inl risen
 ]
 
@@ -175,7 +175,7 @@ loop-self-preserved g c =
     let all : length (pending_of at) ≤ length' = omega (arith, full, c.len-in-loop-self-2.ensures) in
     let within : length' ≤ c.line_feed-before.result =
     elim c.else-before-len.branch [
-      | else-before-len-via-then-before-len+else-given-before-lt-LIMIT w ↦ omega (arith, w.given.ensures, w.if-given-before-lt-LIMIT.false, w.if-before-len.true, c.len.ensures, c.if-self-gt-LIMIT.false, at.counted)
+      | else-before-len-via-then-before-len+else-given-before w ↦ omega (arith, w.given.ensures, w.if-given-before.false, w.if-before-len.true, c.len.ensures, c.if-self-2.false, at.counted)
       | else-before-len-via-else-before-len w ↦ omega (arith, w.if-before-len.false, c.len.ensures, c.len-in-loop-self-2.ensures)
     ] in
     let passed = pass_all told (streams.left c.loop-self.from) c.loop-self.length length' at.spill.items (pending_of at) all (omega (arith, within, c.line_feed-before.ensures)) c.loop-self.invariant.partway in
@@ -189,6 +189,7 @@ loop-self-preserved g c =
           (refill_step told (streams.left c.loop-self.from) (streams.left c.refill.new.from) (c.loop-self.length + length') count spill c.refill.new.self.bytes.items c.in-Ok.ensures.given c.in-Ok.ensures.left passed);
       given = omega (arith, c.in-Ok.ensures.taken, c.in-Ok.ensures.start, c.in-Ok.ensures.end, c.keep-in-loop-self.ensures.taken, c.loop-self.invariant.given, c.len-in-loop-self.ensures, at.counted);
       forward = omega (arith, c.loop-self.invariant.forward, c.in-Ok.ensures.taken, c.keep-in-loop-self.ensures.taken);
+      limit = c.refill.ensures.limit ∙ c.keep-in-loop-self.ensures.limit ∙ c.loop-self.invariant.limit;
       total = input_step (streams.left c.loop-self.from) (streams.left c.refill.new.from) count at.taken c.refill.new.self.taken c.refill.new.self.bytes.items c.in-Ok.ensures.given c.in-Ok.ensures.left (c.in-Ok.ensures.taken ∙ ap (λ n. n + count) c.keep-in-loop-self.ensures.taken) ∙ c.loop-self.invariant.total;
       sent = search rules;
       send_faults = search rules;
@@ -199,8 +200,8 @@ loop-self-preserved g c =
       beside = g.met.S.Streams.takes_then _ _ _ c.loop-self.invariant.beside c.refill.ensures.beside;
     }
 
-pub returns-then-given-before-lt-LIMIT-clause-feed : goal.returns-then-given-before-lt-LIMIT-clause-feed
-returns-then-given-before-lt-LIMIT-clause-feed g c _ =
+pub returns-then-given-before-clause-feed : goal.returns-then-given-before-clause-feed
+returns-then-given-before-clause-feed g c _ =
     let streams = g.S.Streams in
     let told = in_front_of (pending_of c.args.self.now) (streams.left c.args.from.now) in
     let at = c.loop-self.self in
@@ -216,36 +217,36 @@ returns-then-length-eq0-clause-none g c _ =
     let none = none_left (streams.left c.loop-self.from) c.in-Ok.count c.refill.new.self.bytes.items c.if-count-eq0.true c.in-Ok.ensures.given in
     none_there told (streams.left c.loop-self.from) c.loop-self.length at.spill.items (pending_of at) (omega (arith, c.if-length-eq0.true)) (omega (arith, full, c.len-in-loop-self.ensures, c.len-in-loop-self-2.ensures, c.if-length-eq0.true)) none c.loop-self.invariant.partway
 
-pub returns-then-given-before-lt-LIMIT-clause-begun : goal.returns-then-given-before-lt-LIMIT-clause-begun
-returns-then-given-before-lt-LIMIT-clause-begun g c _ = c.if-self.false
+pub returns-then-given-before-clause-begun : goal.returns-then-given-before-clause-begun
+returns-then-given-before-clause-begun g c _ = c.if-self.false
 
-pub returns-then-given-before-lt-LIMIT-clause-ended : goal.returns-then-given-before-lt-LIMIT-clause-ended
-returns-then-given-before-lt-LIMIT-clause-ended g c is = absurd (omega (arith, c.loop-self.self.passed (sym c.keep.ensures.ended ∙ sym c.pass.ensures.ended ∙ is), c.if-before-len.true, c.len.ensures))
+pub returns-then-given-before-clause-ended : goal.returns-then-given-before-clause-ended
+returns-then-given-before-clause-ended g c is = absurd (omega (arith, c.loop-self.self.passed (sym c.keep.ensures.ended ∙ sym c.pass.ensures.ended ∙ is), c.if-before-len.true, c.len.ensures))
 
-pub returns-then-given-before-lt-LIMIT-clause-passes : goal.returns-then-given-before-lt-LIMIT-clause-passes
-returns-then-given-before-lt-LIMIT-clause-passes g c =
+pub returns-then-given-before-clause-passes : goal.returns-then-given-before-clause-passes
+returns-then-given-before-clause-passes g c =
     let at = c.loop-self.self in
     let given : given_of c.pass.new.self ≡ given_of c.args.self.now + c.loop-self.length + c.line_feed-before.result + 1 =
     omega (arith, c.pass.ensures.start, c.pass.ensures.end, c.pass.ensures.taken, c.keep.ensures.start, c.keep.ensures.end, c.keep.ensures.taken, c.loop-self.invariant.given, at.counted, c.if-before-len.true, c.len.ensures) in
     (omega (arith, given), omega (arith, given))
 
-pub returns-then-given-before-lt-LIMIT-clause-within : goal.returns-then-given-before-lt-LIMIT-clause-within
-returns-then-given-before-lt-LIMIT-clause-within g c = omega (arith, c.pass.ensures.start, c.pass.ensures.end, c.pass.ensures.taken, c.keep.ensures.start, c.keep.ensures.end, c.keep.ensures.taken, c.given.ensures, c.if-given-before-lt-LIMIT.true)
+pub returns-then-given-before-clause-within : goal.returns-then-given-before-clause-within
+returns-then-given-before-clause-within g c = omega (arith, c.pass.ensures.start, c.pass.ensures.end, c.pass.ensures.taken, c.keep.ensures.start, c.keep.ensures.end, c.keep.ensures.taken, c.given.ensures, c.if-given-before.true, c.loop-self.invariant.limit)
 
-pub returns-then-given-before-lt-LIMIT-clause-quiet : goal.returns-then-given-before-lt-LIMIT-clause-quiet
-returns-then-given-before-lt-LIMIT-clause-quiet g c _ = c.loop-self.invariant.quiet
+pub returns-then-given-before-clause-quiet : goal.returns-then-given-before-clause-quiet
+returns-then-given-before-clause-quiet g c _ = c.loop-self.invariant.quiet
 
-pub returns-then-given-before-lt-LIMIT-clause-total : goal.returns-then-given-before-lt-LIMIT-clause-total
-returns-then-given-before-lt-LIMIT-clause-total g c = rw (c.pass.ensures.taken, c.keep.ensures.taken) c.loop-self.invariant.total
+pub returns-then-given-before-clause-total : goal.returns-then-given-before-clause-total
+returns-then-given-before-clause-total g c = rw (c.pass.ensures.taken, c.keep.ensures.taken) c.loop-self.invariant.total
 
-pub returns-then-given-before-lt-LIMIT-clause-forward : goal.returns-then-given-before-lt-LIMIT-clause-forward
-returns-then-given-before-lt-LIMIT-clause-forward g c = rw (c.pass.ensures.taken, c.keep.ensures.taken) c.loop-self.invariant.forward
+pub returns-then-given-before-clause-forward : goal.returns-then-given-before-clause-forward
+returns-then-given-before-clause-forward g c = rw (c.pass.ensures.taken, c.keep.ensures.taken) c.loop-self.invariant.forward
 
-pub returns-then-self-gt-LIMIT-clause-quiet : goal.returns-then-self-gt-LIMIT-clause-quiet
-returns-then-self-gt-LIMIT-clause-quiet g c _ = c.loop-self.invariant.quiet
+pub returns-then-self-2-clause-quiet : goal.returns-then-self-2-clause-quiet
+returns-then-self-2-clause-quiet g c _ = c.loop-self.invariant.quiet
 
-pub returns-then-self-gt-LIMIT-clause-past : goal.returns-then-self-gt-LIMIT-clause-past
-returns-then-self-gt-LIMIT-clause-past g c _ = c.if-self-gt-LIMIT.true
+pub returns-then-self-2-clause-past : goal.returns-then-self-2-clause-past
+returns-then-self-2-clause-past g c _ = omega (arith, c.loop-self.invariant.limit, c.if-self-2.true)
 
 pub returns-in_default-clause-not_ended : goal.returns-in_default-clause-not_ended
 returns-in_default-clause-not_ended g c _ = c.if-self.false
@@ -254,7 +255,7 @@ pub returns-in_default-clause-read_fault : goal.returns-in_default-clause-read_f
 returns-in_default-clause-read_fault g c _ = rw c.loop-self.invariant.quiet at c.in_default.ensures.cause
 
 pub returns-in_default-clause-read_within : goal.returns-in_default-clause-read_within
-returns-in_default-clause-read_within g c _ = omega (arith, c.in_default.ensures.taken_on_err, c.keep-in-loop-self.ensures.taken, c.if-self-gt-LIMIT.false)
+returns-in_default-clause-read_within g c _ = omega (arith, c.loop-self.invariant.limit, c.in_default.ensures.taken_on_err, c.keep-in-loop-self.ensures.taken, c.if-self-2.false)
 
 pub returns-in_default-clause-total : goal.returns-in_default-clause-total
 returns-in_default-clause-total g c = cc (c.in_default.ensures.taken_on_err, c.in_default.ensures.left_on_err, c.keep-in-loop-self.ensures.taken, c.loop-self.invariant.total)
@@ -284,7 +285,7 @@ pub returns-then-length-eq0-clause-forward : goal.returns-then-length-eq0-clause
 returns-then-length-eq0-clause-forward g c = omega (arith, c.loop-self.invariant.forward, c.in-Ok.ensures.taken, c.keep-in-loop-self.ensures.taken)
 
 pub returns-then-length-eq0-clause-within : goal.returns-then-length-eq0-clause-within
-returns-then-length-eq0-clause-within g c = omega (arith, c.in-Ok.ensures.taken, c.keep-in-loop-self.ensures.taken, c.if-count-eq0.true, c.if-self-gt-LIMIT.false)
+returns-then-length-eq0-clause-within g c = omega (arith, c.in-Ok.ensures.taken, c.keep-in-loop-self.ensures.taken, c.if-count-eq0.true, c.if-self-2.false, c.loop-self.invariant.limit)
 
 pub returns-else-length-eq0-clause-begun : goal.returns-else-length-eq0-clause-begun
 returns-else-length-eq0-clause-begun g c _ = c.if-self.false
@@ -308,7 +309,7 @@ pub returns-else-length-eq0-clause-forward : goal.returns-else-length-eq0-clause
 returns-else-length-eq0-clause-forward g c = omega (arith, c.loop-self.invariant.forward, c.in-Ok.ensures.taken, c.keep-in-loop-self.ensures.taken)
 
 pub returns-else-length-eq0-clause-within : goal.returns-else-length-eq0-clause-within
-returns-else-length-eq0-clause-within g c = omega (arith, c.in-Ok.ensures.taken, c.keep-in-loop-self.ensures.taken, c.if-count-eq0.true, c.if-self-gt-LIMIT.false)
+returns-else-length-eq0-clause-within g c = omega (arith, c.in-Ok.ensures.taken, c.keep-in-loop-self.ensures.taken, c.if-count-eq0.true, c.if-self-2.false, c.loop-self.invariant.limit)
 
 pub returns-then-length-eq0-clause-found : goal.returns-then-length-eq0-clause-found
 returns-then-length-eq0-clause-found g c _ = c.in-Ok.ensures.ended_nothing c.if-count-eq0.true
@@ -321,3 +322,18 @@ returns-else-length-eq0-clause-passes g c =
     let given : given_of c.refill.new.self ≡ given_of c.args.self.now + (c.loop-self.length + c.len-in-loop-self.result) =
     omega (arith, c.in-Ok.ensures.taken, c.in-Ok.ensures.start, c.in-Ok.ensures.end, c.keep-in-loop-self.ensures.taken, c.loop-self.invariant.given, c.len-in-loop-self.ensures, c.loop-self.self.counted, c.if-count-eq0.true) in
     (omega (arith, given, c.if-length-eq0.false), omega (arith, given))
+
+pub returns-then-given-before-clause-limit : goal.returns-then-given-before-clause-limit
+returns-then-given-before-clause-limit g c = c.pass.ensures.limit ∙ c.keep.ensures.limit ∙ c.loop-self.invariant.limit
+
+pub returns-then-self-2-clause-limit : goal.returns-then-self-2-clause-limit
+returns-then-self-2-clause-limit g c = c.loop-self.invariant.limit
+
+pub returns-in_default-clause-limit : goal.returns-in_default-clause-limit
+returns-in_default-clause-limit g c = c.refill.ensures.limit ∙ c.keep-in-loop-self.ensures.limit ∙ c.loop-self.invariant.limit
+
+pub returns-then-length-eq0-clause-limit : goal.returns-then-length-eq0-clause-limit
+returns-then-length-eq0-clause-limit g c = c.refill.ensures.limit ∙ c.keep-in-loop-self.ensures.limit ∙ c.loop-self.invariant.limit
+
+pub returns-else-length-eq0-clause-limit : goal.returns-else-length-eq0-clause-limit
+returns-else-length-eq0-clause-limit g c = c.refill.ensures.limit ∙ c.keep-in-loop-self.ensures.limit ∙ c.loop-self.invariant.limit
