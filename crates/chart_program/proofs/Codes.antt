@@ -8,7 +8,7 @@ use Rattle.chart_world.specs.Lines.{lines}
 use Rattle.chart_world.specs.LineLaws.{lines_none, lines_joined}
 use Rattle.chart_world.specs.Fronts.{says, IsWhole}
 use Rattle.plain_chart.specs.Samples.{IsSlot}
-use Rattle.store_commands.specs.Traffic.{IsLong}
+use Rattle.store_commands.specs.Traffic.{IsLong, IsPast}
 use Rattle.chart_program.specs.Slots.{spelling, SpellsSlot, Behind, FirstBad, HasTooMany}
 use Rattle.chart_program.specs.Ran.{HasTooMuch, IsSlots}
 use Rattle.chart_program.proofs.Ending.{says_true}
@@ -83,7 +83,11 @@ pub told_both : (o : Option (List ℕ)) (P : Type 0) (Q : List ℕ → Type 0) �
 told_both None P Q first second = tt
 told_both (Some input) P Q first second = (first, second)
 
--- an input that is longer than 2^32 bytes, which is told by that number
+-- an input that is longer than so many bytes, which is told by that number
+pub told_past : (most : ℕ) (o : Option (List ℕ)) (Q : List ℕ → Type 0) → IsPast most o → IfSome o Q → IfSome o (λ input. (most ≡ most) × (most < length input) × Q input)
+told_past most None Q past so = tt
+told_past most (Some input) Q past so = (refl, past, so)
+
+-- the same of 2^32 bytes
 pub told_long : (o : Option (List ℕ)) (Q : List ℕ → Type 0) → IsLong o → IfSome o Q → IfSome o (λ input. (2 ^ 32 ≡ 2 ^ 32) × (2 ^ 32 < length input) × Q input)
-told_long None Q long so = tt
-told_long (Some input) Q long so = (refl, long, so)
+told_long o Q long so = told_past (2 ^ 32) o Q long so

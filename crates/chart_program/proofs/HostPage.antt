@@ -1,21 +1,31 @@
 -- The command `host` did as its page says.
-use Rattle.std.proofs.Common.{ℕ, List, IfSome, arith}
+use Rattle.std.proofs.Common.{◌≡◌, ◌<◌, ℕ, List, IfSome, refl, sym, subst, arith}
 use Rattle.block_disk.specs.View.{View}
 use Rattle.chart_world.specs.LineLaws.{told_so}
 use Rattle.gate_pages.specs.Journal.{page_count}
 use Rattle.host_command.specs.Ended.{CostsHosting, HostEnds, IsHostCause}
 use Rattle.hosted_lines.specs.Running.{EndsSo}
 use Rattle.hosted_lines.specs.Begun.{begun_live}
-use Rattle.run_ends.specs.Statuses.{status_of}
+use Rattle.run_ends.specs.Faults.{end_fault}
+use Rattle.run_ends.specs.Statuses.{code_of, status_of}
 use Rattle.run_ends.specs.declared.ending.End.{End}
 use Rattle.run_ends.specs.declared.ending.End.TheVariants.{Done, NoMemory, ReadFault, SendFault, DiskFault}
 use Rattle.run_ends.specs.declared.ending.End.TheVariants.{DamagedBlock, DamagedPage, InputTooLong, TooSmall}
-use Rattle.store_commands.specs.Away.{TurnsAway}
+use Rattle.store_commands.specs.Away.{IsTurnedAway, TurnsAway}
 use Rattle.store_commands.specs.Books.{Holds, OfBook}
 use Rattle.store_commands.specs.Traffic.{Traffic}
 use Rattle.chart_program.specs.Course.{Course, IsDoneOrCut}
-use Rattle.chart_program.specs.Host.{HostDoes, OfHost}
+use Rattle.chart_program.specs.Host.{HostDoes, OfHost, hosting_end}
 use Rattle.chart_program.specs.Serve.{AreLines}
+
+-- the call that failed stays, and so does the code
+pub hosted_fault : (end : End) → end_fault (hosting_end end) ≡ end_fault end
+hosted_fault InputTooLong = refl
+hosted_fault end = refl
+
+pub hosted_code : (end : End) → code_of (hosting_end end) ≡ code_of end
+hosted_code InputTooLong = refl
+hosted_code end = refl
 
 module _ (old new : View) (t : Traffic) where
   abbrev at : Course
@@ -26,7 +36,7 @@ module _ (old new : View) (t : Traffic) where
   Answers end input = OfBook (page_count old.size) old (λ total book.
       EndsSo (Holds (page_count old.size) total new) input (begun_live total book) t.left_now t.sent t.sent_now end)
 
-  host_does : (end : End) → IsHostCause end old new t → IfSome t.left (Answers end) → HostDoes at end
+  host_does : (end : End) → IsHostCause end old new t → IfSome t.left (Answers end) → HostDoes at (hosting_end end)
   host_does Done cause does = (cause, does)
   host_does NoMemory cause does = does
   host_does ReadFault cause does = does
@@ -35,13 +45,13 @@ module _ (old new : View) (t : Traffic) where
   host_does (DamagedBlock block) cause does =
       (record { at_first = cause.0; took_nothing = cause.1.0; sent_nothing = cause.1.1 }, does)
   host_does (DamagedPage page) cause does = (cause, does)
-  host_does InputTooLong cause does = (cause, does)
+  host_does InputTooLong cause does = (refl, cause, does)
   host_does (TooSmall blocks) cause does = cause
   host_does end cause does = absurd cause
 
   -- with good input it is done, a stream fails, or there is no memory
   host_good : (end : End) → IsHostCause end old new t → (input : List ℕ) → Answers end input → AreLines old new input
-      → IsDoneOrCut end
+      → IsDoneOrCut (hosting_end end)
   host_good Done cause input does r = tt
   host_good NoMemory cause input does r = tt
   host_good ReadFault cause input does r = tt
@@ -51,12 +61,12 @@ module _ (old new : View) (t : Traffic) where
   host_good end cause input does r = absurd (does r.total r.book r.holds)
 
   pub of_host : (end : End) → HostEnds old new t end → TurnsAway old t (status_of end)
-      → IfSome t.left (CostsHosting old new) → OfHost at end
+      → IfSome t.left (CostsHosting old new) → OfHost at (hosting_end end)
   of_host end e away costs = record {
     does = host_does end e.cause e.does;
-    store = record { goes_on = e.goes_on; away = away };
+    store = record { goes_on = e.goes_on; away = (let A : ℕ → Type 0 = λ n. old.size < 128 → IsTurnedAway t.left t.left_now t.sent t.sent_now n in subst A (sym (hosted_code end)) away) };
     crash = e.crash;
     costs = costs;
-    good = told_so (Answers end) (λ input. AreLines old new input → IsDoneOrCut end) t.left
+    good = told_so (Answers end) (λ input. AreLines old new input → IsDoneOrCut (hosting_end end)) t.left
         (host_good end e.cause) e.does;
   }

@@ -1,17 +1,19 @@
 -- The page of `host`: each line of the input is answered over the store's book, edits that stand ready together, and
 -- behind a line or a group its pushes are made.
-use Rattle.std.specs.Prelude.{ℕ, List, Option}
+use Rattle.std.specs.Prelude.{◌≡◌, ℕ, List, Option}
 use Rattle.block_disk.specs.View.{View}
 use Rattle.host_command.specs.Ended.{CostsHosting, LeavesHosted}
 use Rattle.hosted_lines.specs.HostCauses.{IsBadForHost}
+use Rattle.hosted_lines.specs.Input.{most_bytes}
 use Rattle.hosted_lines.specs.Running.{SendsAll, SendsLines, SendsPart, SendsSome, SendsTaken, SendsWithin}
 use Rattle.hosted_lines.specs.Begun.{begun_live}
 use Rattle.run_ends.specs.declared.ending.End.{End}
 use Rattle.run_ends.specs.declared.ending.End.TheVariants.{Done, NoMemory, ReadFault, SendFault, DiskFault}
-use Rattle.run_ends.specs.declared.ending.End.TheVariants.{DamagedBlock, DamagedPage, InputTooLong, TooSmall}
+use Rattle.run_ends.specs.declared.ending.End.TheVariants.{DamagedBlock, DamagedPage, InputTooLong, TooMuch, TooSmall}
 use Rattle.store_commands.specs.Books.{Holds, OfBook}
+use Rattle.store_commands.specs.Traffic.{IsPast, WasReadWithin}
 use Rattle.chart_program.specs.Course.{AtEachMoment, Course, FoundDamaged, FoundPage, HasFewBlocks, HeldNoBook}
-use Rattle.chart_program.specs.Course.{IsDoneOrCut, IsLonger, IsShort, OfInput, OverStore, Told}
+use Rattle.chart_program.specs.Course.{IsDoneOrCut, OfInput, OverStore, Told}
 use Rattle.chart_program.specs.Serve.{AreLines}
 
 -- all lines of the input are answered, all pushes are made, and all these frames were sent
@@ -38,21 +40,26 @@ HostsPart count old new input before now =
 abbrev pub HostsLines : ℕ → View → List ℕ → Option (List ℕ) → Option (List ℕ) → Type 0
 HostsLines count old input before now = OfBook count old (λ total book. SendsLines input (begun_live total book) before now)
 
--- all lines that ended among the first 2^32 bytes are answered, and there is a byte more
+-- all lines that ended among the first 2^63 - 1 bytes are answered, and there is a byte more
 abbrev pub HostsWithin : ℕ → View → View → List ℕ → Option (List ℕ) → Option (List ℕ) → Type 0
 HostsWithin count old new input before now =
     OfBook count old (λ total book. SendsWithin (Holds count total new) input (begun_live total book) before now)
 
+-- how a run ended by what the hosting of its lines says: past the most bytes it names their number
+abbrev pub hosting_end : End → End
+hosting_end InputTooLong = TooMuch most_bytes
+hosting_end end = end
+
 -- what it did and sent, by how it ended; at a fault of the disk what that holds is said by the moments
 abbrev pub HostDoes : Course → End → Type 0
-HostDoes c Done = IsShort c × Told c HostsAll
+HostDoes c Done = WasReadWithin most_bytes c.left c.left_now × Told c HostsAll
 HostDoes c NoMemory = Told c HostsSome
 HostDoes c ReadFault = Told c (λ count old new input. HostsTaken count old new input c.left_now)
 HostDoes c SendFault = Told c HostsPart
 HostDoes c DiskFault = Told c (λ count old new. HostsLines count old)
 HostDoes c (DamagedBlock block) = FoundDamaged c block × OfInput c (λ input. HeldNoBook c)
 HostDoes c (DamagedPage page) = FoundPage IsBadForHost c c.new page × OfInput c (λ input. HeldNoBook c)
-HostDoes c InputTooLong = IsLonger c × Told c HostsWithin
+HostDoes c (TooMuch most) = (most ≡ most_bytes) × IsPast most_bytes c.left × Told c HostsWithin
 HostDoes c (TooSmall blocks) = HasFewBlocks c blocks
 HostDoes c end = ⊥
 

@@ -37,6 +37,7 @@ use Rattle.stored_book.specs.Damage.{IsBadForEdit, IsBadForRequest}
 use Rattle.retain_command.specs.Retained.{LeavesSwept, RetainsAll, RetainsLines, RetainsPart, RetainsSome, RetainsTaken, RetainsToBad, RetainsToUnknown, RetainsWithin}
 use Rattle.host_command.specs.Ended.{CostsHosting, LeavesHosted}
 use Rattle.hosted_lines.specs.HostCauses.{IsBadForHost}
+use Rattle.hosted_lines.specs.Input.{most_bytes}
 use Rattle.live_command.specs.Ended.{LeavesLived, LivesAll, LivesLines, LivesPart, LivesSome, LivesTaken, LivesWithin, ReadsLiving, SyncsLiving}
 use Rattle.derive_command.specs.Derived.{IsBadForChart, DerivesAll, DerivesFirst, DerivesPart, DerivesTaken, DerivesToBad, DerivesToRefused, DerivesWithin}
 use Rattle.store_commands.specs.Damaged.{IsDamagedAtFirst, IsDamagedPlace}
@@ -313,7 +314,7 @@ IsTooMuch (Export name window) old new input place before now = ⊥
 IsTooMuch Retain old new input place before now = (place ≡ 2 ^ 32) × (2 ^ 32 < length input) × RetainsWithin (page_count old.size) old new input before now
 IsTooMuch (Cover every) old new input place before now = (place ≡ 2 ^ 32) × DrawsWithin (Some every) input before now
 IsTooMuch Live old new input place before now = (place ≡ 2 ^ 32) × (2 ^ 32 < length input) × LivesWithin (page_count old.size) old new input before now
-IsTooMuch Host old new input place before now = (place ≡ 2 ^ 32) × (2 ^ 32 < length input) × HostsWithin (page_count old.size) old new input before now
+IsTooMuch Host old new input place before now = (place ≡ most_bytes) × (most_bytes < length input) × HostsWithin (page_count old.size) old new input before now
 IsTooMuch Derive old new input place before now = (place ≡ 2 ^ 32) × (2 ^ 32 < length input) × DerivesWithin (page_count old.size) old input before now
 
 -- A line, which begins at this place, names a series that isn't there. The lines before it were swept and answered.
@@ -376,6 +377,7 @@ IsWithin (Demo seed rounds) left input = ⊤
 IsWithin Check left input = ⊤
 IsWithin ListSeries left input = ⊤
 IsWithin (Export name window) left input = ⊤
+IsWithin Host left input = (length input ≤ most_bytes) × (left ≡ Some [])
 IsWithin command left input = (length input ≤ 2 ^ 32) × (left ≡ Some [])
 
 -- the input is in the grammar of a command that takes one, and no more than it takes

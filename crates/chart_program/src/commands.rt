@@ -17,6 +17,7 @@ ghost use Rattle.store_commands.specs.Traffic.{traffic};
 ghost use Rattle.chart_program.specs.Commands.{Does, EndsSo, HasOperands};
 ghost use Rattle.chart_program.specs.Course.{course};
 ghost use Rattle.chart_program.specs.Draw.{Draws};
+ghost use Rattle.chart_program.specs.Host.{hosting_end};
 ghost use Rattle.chart_program.specs.Init.{IsFree, LeavesMade};
 ghost use Rattle.chart_program.specs.Plot.{OfPlot};
 ghost use Rattle.chart_program.specs.Ran.{EndsCommand, IsInitEnd, init_end};
@@ -38,6 +39,7 @@ use drawn_replies::laws::{
 };
 use empty_store::{InitCause, make_store};
 use host_command::host;
+use hosted_lines::MOST_BYTES;
 use live_command::live;
 use program_words::Command;
 use retain_command::retain;
@@ -105,12 +107,22 @@ pub(crate) fn status_of_command<W: World>(
         }
         Command::Host => {
             let (end, world) = host(alloc, world);
-            (status_of(end), world)
+            (status_of(hosting_end(end)), world)
         }
         Command::Derive => {
             let (end, world) = derive(alloc, world);
             (status_of(end), world)
         }
+    }
+}
+
+/// How a run ended by what the hosting of its lines says: past the most bytes of input it names their number.
+fn hosting_end(end: End) -> End
+    ensures { result ≡ hosting_end end }
+{
+    match end {
+        End::InputTooLong => End::TooMuch { most: MOST_BYTES },
+        _ => end,
     }
 }
 

@@ -1,7 +1,7 @@
 -- What is done over the store of a disk, in the words of the disk.
 use Rattle.std.proofs.Common.{◌≡◌, ◌≢◌, ◌∙◌, ℕ, ◌<◌, ◌≤◌, Bool, List, [], Option, Some, None, IfSome, ap, refl, sym, subst, inl, inr, arith}
 use Rattle.std.specs.List.{filter}
-use Rattle.block_disk.specs.View.{Image, View, Honest, sent_now}
+use Rattle.block_disk.specs.View.{Beside, Image, View, Honest, sent_now}
 use Rattle.block_disk.specs.SentLaws.{sent_none}
 use Rattle.chart_service.specs.MomentLaws.{since_both, since_none}
 use Rattle.chart_service.specs.Moments.{Since}
@@ -35,13 +35,15 @@ use Rattle.store_commands.proofs.WorldLemmas.{IsUnopened}
 use Rattle.store_commands.specs.Books.{HoldsAgain, OfBook, OfPages, Stands, Holds}
 use Rattle.store_commands.specs.Codes.{too_small, unopened}
 use Rattle.store_commands.specs.Status.{opening_end}
-use Rattle.store_commands.specs.Traffic.{IsLong, Traffic, WasRead}
+use Rattle.store_commands.specs.Traffic.{IsPast, Traffic, WasReadWithin}
 use Rattle.hosted_lines.specs.Doing.{Goes}
 use Rattle.hosted_lines.specs.HostCauses.{IsBadForHost, IsHostCause as IsRunCause}
 use Rattle.hosted_lines.specs.Hosts.{Counted}
+use Rattle.hosted_lines.specs.Input.{most_bytes}
 use Rattle.hosted_lines.specs.Running.{CostsLines, EndsSo, FirstLines, IsAhead, SendsAll}
 use Rattle.hosted_lines.proofs.AmidLemmas.{amid_book, amid_same}
 use Rattle.hosted_lines.specs.Begun.{begun_live}
+use Rattle.hosted_lines.proofs.CountLemmas.{few_none}
 use Rattle.hosted_lines.proofs.DiskSides.{disk_side}
 use Rattle.host_command.specs.Ended.{CostsFrom, CostsHosting, HostEnds, IsHostCause, LeavesHosted}
 use Rattle.host_command.specs.Ending.{IsServeCause, Served}
@@ -73,8 +75,8 @@ none_ahead IsThere input at from there = record {
   high = omega arith;
 }
 
-none_cost : (input : List ℕ) (at : Counted) → CostsLines input at at.reads at.syncs
-none_cost input at = record {
+none_cost : (input : List ℕ) (at : Counted) (pieces pieces' : ℕ) → CostsLines input at pieces pieces' at.reads at.syncs
+none_cost input at pieces pieces' = record {
   front = [];
   rest = input;
   begins = record { split = refl; whole = inl (inl refl) };
@@ -83,6 +85,7 @@ none_cost input at = record {
   frames = [];
   state = at;
   happened = (refl, refl);
+  groups = few_none (told []) pieces pieces' none_told;
   last = inl (refl, refl);
 }
 
@@ -150,7 +153,7 @@ later_host count count' new page same within bad =
 
 -- from the state on that a service without sessions begins with
 module _ (count count' : ℕ) (sound sound' : Bool) (old new : View) (t : Traffic) (goes : Goes (disk_side count sound old t.reads t.sends) (disk_side count' sound' new t.reads_now t.sends_now)) (rests : RestsNew count old) (state : ℕ → List Series → LiveState) (begins : (total : ℕ) (book : List Series) → state total book ≡ begun_live total book) where
-  cause_on : (end : End) → (end ≡ Done → WasRead t.left t.left_now) → (end ≡ InputTooLong → IsLong t.left) → (end ≢ Done → IsRunCause end (disk_side count sound old t.reads t.sends) (disk_side count' sound' new t.reads_now t.sends_now)) → IsServeCause end count old new t
+  cause_on : (end : End) → (end ≡ Done → WasReadWithin most_bytes t.left t.left_now) → (end ≡ InputTooLong → IsPast most_bytes t.left) → (end ≢ Done → IsRunCause end (disk_side count sound old t.reads t.sends) (disk_side count' sound' new t.reads_now t.sends_now)) → IsServeCause end count old new t
   cause_on Done whole long cause = whole refl
   cause_on NoMemory whole long cause = tt
   cause_on ReadFault whole long cause = cause (λ is. cc)
@@ -190,7 +193,7 @@ module _ (count count' : ℕ) (sound sound' : Bool) (old new : View) (t : Traffi
             ahead_on total input (begun_live total book) (sent_now old) (new.sent_by at) count (new.crash at) (within_held count total book old holds) (subst P goes.size each) image left;
       }
 
-  pub served_by : (end : End) → (end ≡ Done → WasRead t.left t.left_now) → (end ≡ InputTooLong → IsLong t.left)
+  pub served_by : (end : End) → (end ≡ Done → WasReadWithin most_bytes t.left t.left_now) → (end ≡ InputTooLong → IsPast most_bytes t.left)
       → (end ≢ Done → IsRunCause end (disk_side count sound old t.reads t.sends) (disk_side count' sound' new t.reads_now t.sends_now))
       → OfPages count old (λ total book. IfSome t.left (λ input. ServedOn total (state total book) input end))
       → OfPages count old (λ total book. IfSome t.left (λ input. IfSome t.sent (λ bytes. Since (pages_view count sound old) (pages_view count' sound' new) (λ pages sent. IsAhead (Stands total pages) input (state total book) (sent_now (pages_view count sound old)) sent))))
@@ -325,15 +328,17 @@ module _ (old new : View) (t : Traffic) where
 -- no line
 pub costs_untaken : (count : ℕ) (disk : View) (left : Option (List ℕ)) → IfSome left (λ input. CostsFrom count disk disk input disk.reads disk.syncs)
 costs_untaken count disk left =
-    told_each left (λ input. CostsFrom count disk disk input disk.reads disk.syncs) (λ input total book holds. none_cost input (record { live = begun_live total book; reads = disk.reads; syncs = disk.syncs }))
+    told_each left (λ input. CostsFrom count disk disk input disk.reads disk.syncs) (λ input total book holds. none_cost input (record { live = begun_live total book; reads = disk.reads; syncs = disk.syncs }) disk.beside.pieces disk.beside.pieces)
 
 -- by a service without sessions
-pub costs_from : (count : ℕ) (old new : View) → RestsNew count old → (left : Option (List ℕ)) (state : ℕ → List Series → LiveState) → ((total : ℕ) (book : List Series) → state total book ≡ begun_live total book)
-    → ((total : ℕ) (book : List Series) → Honest old → StandsForBook (pages_of count old.image) total book → IfSome left (λ input. CostsLines input (record { live = state total book; reads = old.reads; syncs = old.syncs }) new.reads new.syncs)) → IfSome left (λ input. CostsFrom count old new input old.reads old.syncs)
-costs_from count old new rests None state begins costs = tt
-costs_from count old new rests (Some input) state begins costs = λ total book holds.
-    let P : LiveState → Type 0 = λ s. CostsLines input (record { live = s; reads = old.reads; syncs = old.syncs }) new.reads new.syncs in
-    subst P (begins total book) (costs total book holds.honest (stands_held count total book old rests holds))
+pub costs_from : (count : ℕ) (old new : View) (before now : ℕ) → old.beside.pieces ≡ before → new.beside.pieces ≡ now → RestsNew count old → (left : Option (List ℕ)) (state : ℕ → List Series → LiveState) → ((total : ℕ) (book : List Series) → state total book ≡ begun_live total book)
+    → ((total : ℕ) (book : List Series) → Honest old → StandsForBook (pages_of count old.image) total book → IfSome left (λ input. CostsLines input (record { live = state total book; reads = old.reads; syncs = old.syncs }) before now new.reads new.syncs)) → IfSome left (λ input. CostsFrom count old new input old.reads old.syncs)
+costs_from count old new before now begun ended rests None state begins costs = tt
+costs_from count old new before now begun ended rests (Some input) state begins costs = λ total book holds.
+    let B : ℕ → Type 0 = λ n. CostsLines input (record { live = state total book; reads = old.reads; syncs = old.syncs }) n now new.reads new.syncs in
+    let N : ℕ → Type 0 = λ n. CostsLines input (record { live = state total book; reads = old.reads; syncs = old.syncs }) old.beside.pieces n new.reads new.syncs in
+    let P : LiveState → Type 0 = λ s. CostsLines input (record { live = s; reads = old.reads; syncs = old.syncs }) old.beside.pieces new.beside.pieces new.reads new.syncs in
+    subst P (begins total book) (subst N (sym ended) (subst B (sym begun) (costs total book holds.honest (stands_held count total book old rests holds))))
 
 -- over a store that is opened first, or isn't
 pub costs_on : (count : ℕ) (old mid new : View) (left_mid left : Option (List ℕ)) → count ≡ page_count old.size → Opens (page_count old.size) old mid → left_mid ≡ left → IfSome left_mid (λ input. CostsFrom count mid new input mid.reads mid.syncs) → IfSome left (λ input. CostsHosting old new input)
@@ -349,7 +354,9 @@ costs_on count old mid new left_mid left counted opens same costs =
       syncs = mid.syncs;
       few_reads = opens.reads.high;
       few_syncs = syncs_few (page_count old.size) old mid opens.few;
-      costs = λ total book holds. costs total book (held old mid opens total book holds);
+      costs = λ total book holds.
+          let P : Beside → Type 0 = λ b. CostsLines input (record { live = begun_live total book; reads = mid.reads; syncs = mid.syncs }) b.pieces new.beside.pieces new.reads new.syncs in
+          subst P opens.beside_is (costs total book (held old mid opens total book holds));
     }
 
 pub costs_unopened : (old new : View) (left : Option (List ℕ)) → Opens (page_count old.size) old new → IfSome left (λ input. CostsHosting old new input)
@@ -358,5 +365,5 @@ costs_unopened old new left opens = told_each left (λ input. CostsHosting old n
   syncs = new.syncs;
   few_reads = opens.reads.high;
   few_syncs = syncs_few (page_count old.size) old new opens.few;
-  costs = λ total book holds. none_cost input (record { live = begun_live total book; reads = new.reads; syncs = new.syncs });
+  costs = λ total book holds. none_cost input (record { live = begun_live total book; reads = new.reads; syncs = new.syncs }) old.beside.pieces new.beside.pieces;
 })

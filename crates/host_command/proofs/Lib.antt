@@ -1,4 +1,5 @@
 pub mod DiskLemmas
 pub mod Holders
+pub mod ValuesLemmas
 pub mod ReportDrawing
 pub mod Drawing

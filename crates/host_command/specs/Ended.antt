@@ -11,8 +11,9 @@ use Rattle.run_ends.specs.Statuses.{block_of}
 use Rattle.stored_book.specs.Standing.{RecoversTo}
 use Rattle.store_commands.specs.Books.{HoldsAgain, OfBook, Holds}
 use Rattle.store_commands.specs.Damaged.{IsDamagedAtFirst, IsDamagedLater}
-use Rattle.store_commands.specs.Traffic.{IsLong, Traffic, WasRead}
+use Rattle.store_commands.specs.Traffic.{IsPast, Traffic, WasReadWithin}
 use Rattle.hosted_lines.specs.HostCauses.{IsBadForHost}
+use Rattle.hosted_lines.specs.Input.{most_bytes}
 use Rattle.hosted_lines.specs.Running.{CostsLines, EndsSo, IsAhead}
 use Rattle.hosted_lines.specs.Begun.{begun_live}
 use Rattle.disk_store.specs.Openings.{SyncsOpening}
@@ -20,14 +21,14 @@ use Rattle.disk_store.specs.Openings.{SyncsOpening}
 -- Why `host` ended, whatever the disk holds. Where its store wasn't opened no input was taken and nothing was sent. A page that is
 -- called damaged is so for a request, or is one of the tree of some series that is bad for its place.
 abbrev pub IsHostCause : End → View → View → Traffic → Type 0
-IsHostCause Done old new t = WasRead t.left t.left_now
+IsHostCause Done old new t = WasReadWithin most_bytes t.left t.left_now
 IsHostCause NoMemory old new t = ⊤
 IsHostCause ReadFault old new t = HasRisen t.reads t.reads_now
 IsHostCause SendFault old new t = HasRisen t.sends t.sends_now
 IsHostCause DiskFault old new t = HasRisen old.faults new.faults
 IsHostCause (DamagedBlock block) old new t = IsDamagedAtFirst old block × ((t.left_now ≡ t.left) × (t.sent_now ≡ t.sent))
 IsHostCause (DamagedPage page) old new t = IsDamagedLater IsBadForHost (page_count old.size) new (block_of page)
-IsHostCause InputTooLong old new t = IsLong t.left
+IsHostCause InputTooLong old new t = IsPast most_bytes t.left
 IsHostCause (TooSmall blocks) old new t = (blocks ≡ old.size) × (old.size < 128)
 IsHostCause end old new t = ⊥
 
@@ -37,10 +38,11 @@ abbrev pub LeavesHosted : ℕ → List ℕ → View → View → Type 0
 LeavesHosted count input old new =
     OfBook count old (λ total book. Since old new (λ image sent. IsAhead (λ after. RecoversTo count image total after) input (begun_live total book) (sent_now old) sent))
 
--- the lines, the groups and the pushes cost no more than they may from these counts on, and nothing else is read or synced
+-- the lines, the groups and the pushes cost no more than they may from these counts on, nothing else is read or synced, and
+-- there are few groups
 abbrev pub CostsFrom : ℕ → View → View → List ℕ → ℕ → ℕ → Type 0
 CostsFrom count old new input reads syncs =
-    OfBook count old (λ total book. CostsLines input (record { live = begun_live total book; reads = reads; syncs = syncs }) new.reads new.syncs)
+    OfBook count old (λ total book. CostsLines input (record { live = begun_live total book; reads = reads; syncs = syncs }) old.beside.pieces new.beside.pieces new.reads new.syncs)
 
 -- an opening reads 200 blocks at most and syncs as often as it may, and then they cost
 pub record CostsHosting (old new : View) (input : List ℕ) : Type 0 where

@@ -1,4 +1,5 @@
 pub mod Ended
 pub mod Ending
 pub mod Drawn
+pub mod Values
 pub mod Laws

@@ -1,4 +1,4 @@
-//! What a client draws of a host's run. The functions do nothing: their contracts are the laws.
+//! What a client draws of a host's run, and reads of values. The functions do nothing: their contracts are the laws.
 ghost use Rattle.std.specs.Prelude.{ℕ, List, Option};
 ghost use Rattle.chart_frames.specs.declared.frame.Frame.{Frame};
 ghost use Rattle.chart_service.specs.State.{IsSound};
@@ -7,6 +7,7 @@ ghost use Rattle.hosted_lines.specs.Running.{HostedBy};
 ghost use Rattle.live_service.specs.Showing.{IsFirst};
 ghost use Rattle.live_service.specs.LiveReplies.{LiveState};
 ghost use Rattle.host_command.specs.Laws.{HostsDrawTheBook};
+ghost use Rattle.host_command.specs.Values.{ValuesAreTheExport};
 
 use drawn_replies::laws::clients_draw_requests;
 use host_sweeps::laws::{clients_pass_sweeps, sweeps_keep_following};
@@ -14,6 +15,8 @@ use live_service::laws::{
     clients_draw_lines, clients_draw_pushes, followed_sessions_can_follow, pushes_show_views,
 };
 use needed_nodes::laws::points_are_the_samples;
+use retention::laws::slots_before_a_time;
+use series_export::laws::pieces_are_the_export;
 
 /// A client that is sent all frames of a run draws the pictures of the book: of each line's frame as the book is at
 /// that line, of the rows of a sum its chart, of other reports, of a step of a sweep and of the edits of a group
@@ -41,4 +44,13 @@ pub fn hosts_are_accepted()
     clients_draw_requests();
     clients_draw_lines();
     clients_draw_pushes();
+}
+
+/// The frames that answer `values` for a window, each asked for from where the one before it says, are the export of the
+/// window: of their values come its lines, and no other.
+pub fn values_are_the_export()
+    ensures { ValuesAreTheExport }
+{
+    slots_before_a_time();
+    pieces_are_the_export();
 }

@@ -1,5 +1,5 @@
 -- How a host's run over an input ended, by what a run of lines says.
-use Rattle.std.proofs.Common.{◌≡◌, ◌≢◌, ◌∙◌, ℕ, ◌+◌, List, [], ◌∷◌, ◌++◌, length, Option, None, Some, IfSome, refl, ap, sym, subst, inl, inr, arith, append_assoc}
+use Rattle.std.proofs.Common.{◌≡◌, ◌≢◌, ◌∙◌, ◌≤◌, ℕ, ◌+◌, List, [], ◌∷◌, ◌++◌, length, Option, None, Some, IfSome, refl, ap, sym, subst, inl, inr, arith, append_assoc}
 use Rattle.std.specs.Prelude.{OnOk, IfErr, Result, Ok, Err}
 use Rattle.std.specs.List.{filter}
 use Rattle.std.proofs.lemmas.List.{append-nil}
@@ -15,9 +15,11 @@ use Rattle.chart_world.specs.LineLaws.{lines_none}
 use Rattle.chart_world.specs.declared.line_answer.LineFault.TheVariants as fault
 use Rattle.line_runs.specs.Carried.{Carries}
 use Rattle.line_runs.specs.Ends.{run_end}
-use Rattle.line_runs.specs.Given.{AreBefore, AreFirst, Given}
+use Rattle.line_runs.specs.Given.{Given, pauses}
+use Rattle.line_runs.specs.GivenLaws.{pauses_joined}
 use Rattle.line_runs.specs.Moments.{Since}
 use Rattle.line_runs.specs.Runs as runs
+use Rattle.line_runs.specs.Runs.{FewPauses}
 use Rattle.line_runs.specs.declared.lines_stop.LinesStop.{LinesStop}
 use Rattle.line_runs.specs.declared.lines_stop.LinesStop.TheVariants as stop
 use Rattle.live_service.specs.LiveReplies.{LiveState}
@@ -30,14 +32,17 @@ use Rattle.served_lines.proofs.Carried.{all_ended, lines_all, told_are}
 use Rattle.stored_book.specs.Standing.{StandsForBook}
 use Rattle.hosted_lines.specs.Amid.{IsThereAhead}
 use Rattle.hosted_lines.specs.Doing.{Held, held_with}
+use Rattle.hosted_lines.specs.Groups.{FewGroups}
 use Rattle.hosted_lines.specs.Hosting.{Begun, HostCost, HostMoment, HostStop}
-use Rattle.hosted_lines.specs.Hosts.{Happens, HappensFor, InRow, lines_in}
+use Rattle.hosted_lines.specs.Hosts.{Event, Happens, HappensFor, InRow, groups_in, lines_in}
+use Rattle.hosted_lines.specs.Input.{most_bytes}
 use Rattle.hosted_lines.specs.Lives.{spelled}
 use Rattle.hosted_lines.specs.Running.{CostsLines, EndsSo, FirstLines, HostedBy, IsAhead, SendsAll, SendsFirst}
 use Rattle.hosted_lines.specs.Working.{AreTold, Does, Hosted, IsHosted, Leaves, Rests, Stops, Turn, counted_of, live_at}
 use Rattle.hosted_lines.proofs.AmidLemmas.{amid_wide}
+use Rattle.hosted_lines.proofs.CountLemmas.{few_all, few_more, few_none}
 use Rattle.hosted_lines.proofs.EventLemmas.{length_more, sent_then}
-use Rattle.hosted_lines.proofs.FrontLemmas.{Place, first_placed, given_front, next_front, placed}
+use Rattle.hosted_lines.proofs.FrontLemmas.{AreBefore, AreFirst, Place, first_placed, given_front, next_front, placed}
 use Rattle.hosted_lines.proofs.RowLemmas.{lines_joined, row_plain, row_then}
 use Rattle.hosted_lines.proofs.TurnLemmas.{ended, paused, split_both, turned}
 use Rattle.hosted_lines.proofs.WorkLemmas.{hosted_at}
@@ -60,7 +65,7 @@ module _ (total : ℕ) (book : List Series) (held : Held) (view : View) (before 
     There after = StandsForBook new.image total after
 
     module _ (given : List Given) (text : List ℕ) (behind : Hosted) (carries : Carries Does start given text behind) (none : behind.ahead ≡ []) (stands : IsNow behind) where
-      turn : Turn start (lines_all given) text behind
+      turn : Turn start (lines_all given) (pauses given) text behind
       turn = turned given start text behind carries
 
       lines_are : (all : List (Option (List ℕ))) → lines_all given ≡ all → lines_in turn.events ≡ all
@@ -103,7 +108,7 @@ module _ (total : ℕ) (book : List Series) (held : Held) (view : View) (before 
           sent = sent_is done.given done.text done.behind done.carries none all.stands before all.sent;
         }
 
-    read_ends : (o left : Option (List ℕ)) (pieces pieces' : ℕ) → runs.Runs Does start (runs.AreTaken pieces pieces' left) IsNow o before now → IfSome o (λ input. EndsSo There input (live_at start) left before now ends.ReadFault)
+    read_ends : (o left : Option (List ℕ)) (pieces pieces' : ℕ) → runs.Runs Does start (runs.AreTakenWithin most_bytes pieces pieces' left) IsNow o before now → IfSome o (λ input. EndsSo There input (live_at start) left before now ends.ReadFault)
     unfolding first
     read_ends None left pieces pieces' all = tt
     read_ends (Some input) left pieces pieces' all =
@@ -111,7 +116,7 @@ module _ (total : ℕ) (book : List Series) (held : Held) (view : View) (before 
         let none = paused done.given start done.text done.behind all.are.paused done.carries in
         record { sends = first done.given done.text done.behind done.carries none all.stands input all.sent all.are.first; whole = all.are.whole; behind = all.are.behind }
 
-    long_ends : (o left : Option (List ℕ)) (pieces pieces' : ℕ) → runs.Runs Does start (runs.AreWithin pieces pieces') IsNow o before now → IfSome o (λ input. EndsSo There input (live_at start) left before now ends.InputTooLong)
+    long_ends : (o left : Option (List ℕ)) (pieces pieces' : ℕ) → runs.Runs Does start (runs.AreUpTo most_bytes pieces pieces') IsNow o before now → IfSome o (λ input. EndsSo There input (live_at start) left before now ends.InputTooLong)
     unfolding first
     long_ends None left pieces pieces' all = tt
     long_ends (Some input) left pieces pieces' all =
@@ -122,7 +127,7 @@ module _ (total : ℕ) (book : List Series) (held : Held) (view : View) (before 
   -- ---- what comes next is on its way
 
   module _ (given : List Given) (text : List ℕ) (mid : Hosted) (carries : Carries Does start given text mid) (next : Given) where
-    abbrev before_it : Turn start (lines_all given) text mid
+    abbrev before_it : Turn start (lines_all given) (pauses given) text mid
     before_it = turned given start text mid carries
 
     begun_all : (frames : List Frame) (new : LiveState) → (b : Begun (mid.ahead ++ lines_of next) frames (live_at mid) new) → lines_all given ++ lines_of next ≡ lines_in (before_it.events ++ b.events) ++ b.rest
@@ -204,8 +209,13 @@ module _ (total : ℕ) (book : List Series) (held : Held) (view : View) (before 
           high = omega (arith, m.high, counted, ap length before_it.text_is, length_more before_it.frames (m.shown ++ m.more), ap (λ l. length (spelled l)) (append_assoc before_it.frames m.shown m.more));
         }
 
-    cost_all : (input : List ℕ) → AreBefore input given next → (reads syncs : ℕ) → HostCost (mid.ahead ++ lines_of next) (counted_of mid) reads syncs → CostsLines input (counted_of start) reads syncs
-    cost_all input are reads syncs c =
+    groups_all : (events : List Event) (lines : List (Option (List ℕ))) (pieces pieces' : ℕ) → lines ≡ lines_in (before_it.events ++ events) → groups_in events ≤ 1 → FewPauses pieces pieces' (given ++ next ∷ []) → FewGroups lines (groups_in (before_it.events ++ events)) pieces pieces'
+    groups_all events lines pieces pieces' are one few =
+        few_more before_it.events events lines (pauses given) pieces pieces' are before_it.groups one
+        (λ counts. omega (arith, few counts, pauses_joined given (next ∷ [])))
+
+    cost_all : (input : List ℕ) → AreBefore input given next → (pieces pieces' : ℕ) → FewPauses pieces pieces' (given ++ next ∷ []) → (reads syncs : ℕ) → HostCost 1 (mid.ahead ++ lines_of next) (counted_of mid) reads syncs → CostsLines input (counted_of start) pieces pieces' reads syncs
+    cost_all input are pieces pieces' few reads syncs c =
         let all : lines_all given ++ lines_of next ≡ lines_in (before_it.events ++ c.events) ++ c.rest =
         split_both [] (lines_all given) (lines_of next) (lines_in before_it.events) mid.ahead (lines_in c.events) c.rest before_it.split c.split
         ∙ ap (λ l. l ++ c.rest) (sym (lines_joined before_it.events c.events)) in
@@ -219,6 +229,7 @@ module _ (total : ℕ) (book : List Series) (held : Held) (view : View) (before 
           frames = before_it.frames ++ c.frames;
           state = c.state;
           happened = row_then HappensFor (counted_of start) (counted_of mid) c.state before_it.events c.events before_it.frames c.frames before_it.happened c.happened;
+          groups = groups_all c.events (told p.front) pieces pieces' p.done_are c.few few;
           last = elim c.last [
             | inl done ↦ inl done
             | inr failed ↦ inr (record {
@@ -248,8 +259,8 @@ module _ (total : ℕ) (book : List Series) (held : Held) (view : View) (before 
         high = omega (arith, counted, ap length t.text_is, ap (λ l. length (spelled l)) (append-nil t.frames));
       }
 
-  rest_cost : (given : List Given) (text : List ℕ) (mid : Hosted) (carries : Carries Does start given text mid) (input : List ℕ) → AreFirst input given → (reads syncs : ℕ) → reads ≡ mid.reads → syncs ≡ mid.syncs → CostsLines input (counted_of start) reads syncs
-  rest_cost given text mid carries input are reads syncs r s =
+  rest_cost : (given : List Given) (text : List ℕ) (mid : Hosted) (carries : Carries Does start given text mid) (input : List ℕ) → AreFirst input given → (pieces pieces' : ℕ) → FewPauses pieces pieces' given → (reads syncs : ℕ) → reads ≡ mid.reads → syncs ≡ mid.syncs → CostsLines input (counted_of start) pieces pieces' reads syncs
+  rest_cost given text mid carries input are pieces pieces' few reads syncs r s =
       let t = turned given start text mid carries in
       let p = placed input (lines_in t.events) mid.ahead (given_front input given (lines_in t.events ++ mid.ahead) t.split are) in
       record {
@@ -261,6 +272,7 @@ module _ (total : ℕ) (book : List Series) (held : Held) (view : View) (before 
         frames = t.frames;
         state = counted_of mid;
         happened = t.happened;
+        groups = few_all t.events (told p.front) (pauses given) pieces pieces' p.done_are t.groups few;
         last = inl (r, s);
       }
 
@@ -277,17 +289,17 @@ module _ (total : ℕ) (book : List Series) (held : Held) (view : View) (before 
   Ending end = IfSome left (λ input. EndsSo (λ after. StandsForBook new.image total after) input (held_with total book held) left' before now end)
 
   abbrev Costing : Type 0
-  Costing = IfSome left (λ input. CostsLines input (record { live = held_with total book held; reads = view.reads; syncs = view.syncs }) new.reads new.syncs)
+  Costing = IfSome left (λ input. CostsLines input (record { live = held_with total book held; reads = view.reads; syncs = view.syncs }) pieces pieces' new.reads new.syncs)
 
   abbrev begin : Hosted
   begin = first_at total book held view before
 
-  work_ends : (o : Option (List ℕ)) (end : End) → runs.RunsTo Does (λ s it e b. Stopping s it e b) begin o before pieces pieces' end → IfSome o (λ input. EndsSo (λ after. StandsForBook new.image total after) input (held_with total book held) left' before now end)
+  work_ends : (o : Option (List ℕ)) (end : End) → runs.RunsToWithin most_bytes Does (λ s it e b. Stopping s it e b) begin o before pieces pieces' end → IfSome o (λ input. EndsSo (λ after. StandsForBook new.image total after) input (held_with total book held) left' before now end)
   work_ends None end r = tt
   work_ends (Some input) end r =
       stop_ends total book held view before r.done.given r.done.text r.done.behind r.done.carries r.next input r.are new.image left' now end r.why.why
 
-  pub ends_so : {T : Type 0} (answer : Result T (LinesStop End)) → OnOk answer (runs.Runs Does begin (runs.AreAll pieces pieces') StandsNow left before now) → IfErr answer (runs.StopsSo Does (λ s it e b. Stopping s it e b) StandsNow begin left left' before now pieces pieces') → Ending (run_end answer)
+  pub ends_so : {T : Type 0} (answer : Result T (LinesStop End)) → OnOk answer (runs.Runs Does begin (runs.AreAll pieces pieces') StandsNow left before now) → IfErr answer (runs.StopsSoWithin most_bytes Does (λ s it e b. Stopping s it e b) StandsNow begin left left' before now pieces pieces') → Ending (run_end answer)
   ends_so {T} (Ok v) done stops = done_ends total book held view before new held' edits told_now now left pieces pieces' done
   ends_so {T} (Err (stop.Fault fault.ReadFault)) done stops = read_ends total book held view before new held' edits told_now now left left' pieces pieces' stops
   ends_so {T} (Err (stop.Fault fault.InputTooLong)) done stops = long_ends total book held view before new held' edits told_now now left left' pieces pieces' stops
@@ -295,13 +307,13 @@ module _ (total : ℕ) (book : List Series) (held : Held) (view : View) (before 
 
   -- ---- moments
 
-  crash_one : (input bytes : List ℕ) (from : ℕ) (image : Image) (count : ℕ) → runs.IsAhead Does Rests Leaves begin (Some input) (Some bytes) from image count → IsAhead (λ after. StandsForBook image total after) input (held_with total book held) from count
+  crash_one : (input bytes : List ℕ) (from : ℕ) (image : Image) (count : ℕ) → runs.IsAheadWithin most_bytes Does Rests Leaves begin (Some input) (Some bytes) from image count → IsAhead (λ after. StandsForBook image total after) input (held_with total book held) from count
   crash_one input bytes from image count a = elim a.is [
     | inl between ↦ rest_ahead total book held view before a.done.given a.done.text a.done.behind a.done.carries input between.are from image count between.rests_so between.sent_is
     | inr amid ↦ amid_ahead total book held view before a.done.given a.done.text a.done.behind a.done.carries amid.next input amid.are from amid.begun image count amid.begun_is amid.leaves_so
   ]
 
-  pub lasts_so : (o earlier : Option (List ℕ)) → (AreTold earlier → Since view new (runs.IsAhead Does Rests Leaves begin o earlier (sent_now view))) → IfSome o (λ input. IfSome earlier (λ bytes. moments.Since view new (λ image sent. IsAhead (λ after. StandsForBook image total after) input (held_with total book held) (sent_now view) sent)))
+  pub lasts_so : (o earlier : Option (List ℕ)) → (AreTold earlier → Since view new (runs.IsAheadWithin most_bytes Does Rests Leaves begin o earlier (sent_now view))) → IfSome o (λ input. IfSome earlier (λ bytes. moments.Since view new (λ image sent. IsAhead (λ after. StandsForBook image total after) input (held_with total book held) (sent_now view) sent)))
   lasts_so None earlier lasts = tt
   lasts_so (Some input) None lasts = tt
   lasts_so (Some input) (Some bytes) lasts =
@@ -310,40 +322,42 @@ module _ (total : ℕ) (book : List Series) (held : Held) (view : View) (before 
 
   -- ---- costs
 
-  done_costs : (o : Option (List ℕ)) → runs.Runs Does begin (runs.AreAll pieces pieces') StandsNow o before now → IfSome o (λ input. CostsLines input (counted_of begin) new.reads new.syncs)
+  done_costs : (o : Option (List ℕ)) → runs.Runs Does begin (runs.AreAll pieces pieces') StandsNow o before now → IfSome o (λ input. CostsLines input (counted_of begin) pieces pieces' new.reads new.syncs)
   done_costs None all = tt
   done_costs (Some input) all =
       let done = all.done in
       let none = ended all.are.earlier done.given begin done.text done.behind all.are.paused all.are.given_are done.carries in
       let t = turned done.given begin done.text done.behind done.carries in
       let are : lines_all done.given ≡ told input = ap lines_all all.are.given_are ∙ all_ended all.are.earlier ∙ told_are all.are.earlier input all.are.lines_are in
+      let lines_so : lines_in t.events ≡ told input = sym (append-nil (lines_in t.events)) ∙ ap (λ l. lines_in t.events ++ l) (sym none) ∙ sym t.split ∙ are in
       record {
         front = input;
         rest = [];
         begins = record { split = sym (append-nil input); whole = inr refl };
         events = t.events;
-        lines_are = sym (append-nil (lines_in t.events)) ∙ ap (λ l. lines_in t.events ++ l) (sym none) ∙ sym t.split ∙ are;
+        lines_are = lines_so;
         frames = t.frames;
         state = counted_of done.behind;
         happened = t.happened;
+        groups = few_all t.events (told input) (pauses done.given) pieces pieces' (sym lines_so) t.groups all.are.few;
         last = inl (sym all.stands.reads_are, sym all.stands.syncs_are);
       }
 
-  work_costs : (o : Option (List ℕ)) (end : End) → runs.RunsTo Does (λ s it e b. Stopping s it e b) begin o before pieces pieces' end → IfSome o (λ input. CostsLines input (counted_of begin) new.reads new.syncs)
+  work_costs : (o : Option (List ℕ)) (end : End) → runs.RunsToWithin most_bytes Does (λ s it e b. Stopping s it e b) begin o before pieces pieces' end → IfSome o (λ input. CostsLines input (counted_of begin) pieces pieces' new.reads new.syncs)
   work_costs None end r = tt
-  work_costs (Some input) end r = cost_all total book held view before r.done.given r.done.text r.done.behind r.done.carries r.next input r.are new.reads new.syncs r.why.cost
+  work_costs (Some input) end r = cost_all total book held view before r.done.given r.done.text r.done.behind r.done.carries r.next input r.are pieces pieces' r.few new.reads new.syncs r.why.cost
 
-  read_costs : (o : Option (List ℕ)) → runs.Runs Does begin (runs.AreTaken pieces pieces' left') StandsNow o before now → IfSome o (λ input. CostsLines input (counted_of begin) new.reads new.syncs)
+  read_costs : (o : Option (List ℕ)) → runs.Runs Does begin (runs.AreTakenWithin most_bytes pieces pieces' left') StandsNow o before now → IfSome o (λ input. CostsLines input (counted_of begin) pieces pieces' new.reads new.syncs)
   read_costs None all = tt
   read_costs (Some input) all =
-      rest_cost total book held view before all.done.given all.done.text all.done.behind all.done.carries input all.are.first new.reads new.syncs (sym all.stands.reads_are) (sym all.stands.syncs_are)
+      rest_cost total book held view before all.done.given all.done.text all.done.behind all.done.carries input all.are.first pieces pieces' all.are.few new.reads new.syncs (sym all.stands.reads_are) (sym all.stands.syncs_are)
 
-  long_costs : (o : Option (List ℕ)) → runs.Runs Does begin (runs.AreWithin pieces pieces') StandsNow o before now → IfSome o (λ input. CostsLines input (counted_of begin) new.reads new.syncs)
+  long_costs : (o : Option (List ℕ)) → runs.Runs Does begin (runs.AreUpTo most_bytes pieces pieces') StandsNow o before now → IfSome o (λ input. CostsLines input (counted_of begin) pieces pieces' new.reads new.syncs)
   long_costs None all = tt
   long_costs (Some input) all =
-      rest_cost total book held view before all.done.given all.done.text all.done.behind all.done.carries input all.are.first new.reads new.syncs (sym all.stands.reads_are) (sym all.stands.syncs_are)
+      rest_cost total book held view before all.done.given all.done.text all.done.behind all.done.carries input all.are.first pieces pieces' all.are.few new.reads new.syncs (sym all.stands.reads_are) (sym all.stands.syncs_are)
 
-  pub costs_so : {T : Type 0} (answer : Result T (LinesStop End)) → OnOk answer (runs.Runs Does begin (runs.AreAll pieces pieces') StandsNow left before now) → IfErr answer (runs.StopsSo Does (λ s it e b. Stopping s it e b) StandsNow begin left left' before now pieces pieces') → Costing
+  pub costs_so : {T : Type 0} (answer : Result T (LinesStop End)) → OnOk answer (runs.Runs Does begin (runs.AreAll pieces pieces') StandsNow left before now) → IfErr answer (runs.StopsSoWithin most_bytes Does (λ s it e b. Stopping s it e b) StandsNow begin left left' before now pieces pieces') → Costing
   costs_so {T} (Ok v) done stops = done_costs left done
   costs_so {T} (Err (stop.Fault fault.ReadFault)) done stops = read_costs left stops
   costs_so {T} (Err (stop.Fault fault.InputTooLong)) done stops = long_costs left stops
@@ -383,9 +397,9 @@ module _ (total : ℕ) (book : List Series) (held : Held) where
         high = omega arith;
       })
 
-  pub none_costs : (o : Option (List ℕ)) (reads syncs : ℕ) → IfSome o (λ input. CostsLines input (record { live = held_with total book held; reads = reads; syncs = syncs }) reads syncs)
-  none_costs None reads syncs = tt
-  none_costs (Some input) reads syncs = record {
+  pub none_costs : (o : Option (List ℕ)) (pieces pieces' reads syncs : ℕ) → IfSome o (λ input. CostsLines input (record { live = held_with total book held; reads = reads; syncs = syncs }) pieces pieces' reads syncs)
+  none_costs None pieces pieces' reads syncs = tt
+  none_costs (Some input) pieces pieces' reads syncs = record {
     front = [];
     rest = input;
     begins = record { split = refl; whole = inl (inl refl) };
@@ -394,6 +408,7 @@ module _ (total : ℕ) (book : List Series) (held : Held) where
     frames = [];
     state = record { live = held_with total book held; reads = reads; syncs = syncs };
     happened = (refl, refl);
+    groups = few_none (told []) pieces pieces' (ap (λ l. filter says l) lines_none);
     last = inl (refl, refl);
   }
 

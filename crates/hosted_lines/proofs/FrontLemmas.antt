@@ -1,5 +1,5 @@
 -- Which lines of an input were answered, by lines that were given.
-use Rattle.std.proofs.Common.{◌≡◌, ◌∙◌, ℕ, ◌^◌, ◌≤◌, ◌⊎◌, List, [], ◌∷◌, ◌++◌, length, Option, ap, sym, subst, inl, inr, arith, append_assoc, length-append}
+use Rattle.std.proofs.Common.{◌≡◌, ◌∙◌, ℕ, ◌≤◌, ◌⊎◌, List, [], ◌∷◌, ◌++◌, length, Option, ap, sym, subst, inl, inr, arith, append_assoc, length-append}
 use Rattle.std.specs.List.{filter, after_first}
 use Rattle.std.proofs.lemmas.List.{append-nil}
 use Rattle.chart_frames.specs.declared.frame.Frame.{Frame}
@@ -8,20 +8,29 @@ use Rattle.chart_world.specs.FrontLaws.{told_split, whole_joined}
 use Rattle.chart_world.specs.Fronts.{says, BeginsWith, IsWhole, first_piece}
 use Rattle.chart_world.specs.LineLaws.{lines_none, piece_ends, piece_line, pieces, told_behind}
 use Rattle.chart_world.specs.Lines.{is_line_feed, lines}
-use Rattle.line_runs.specs.Given.{AreBefore, AreFirst, Given, IsNext, Line, NextLine, Pause, End}
+use Rattle.line_runs.specs.Given.{AreBeforeWithin, AreFirstWithin, Given, IsNextWithin, Line, NextLineWithin, Pause, End}
 use Rattle.live_service.specs.LiveReplies.{LiveState}
 use Rattle.served_lines.specs.Turning.{lines_of}
 use Rattle.served_lines.proofs.Carried.{lines_all, told_are}
 use Rattle.served_lines.proofs.Reached.{first_of, no_lines}
 use Rattle.hosted_lines.specs.Hosts.{Event, Happens, InRow, lines_in}
+use Rattle.hosted_lines.specs.Input.{most_bytes}
 use Rattle.hosted_lines.specs.Running.{FirstLines}
+
+-- these are some first lines of the input, with pauses
+abbrev pub AreFirst : List ℕ → List Given → Type 0
+AreFirst = AreFirstWithin most_bytes
+
+-- and this comes behind them
+abbrev pub AreBefore : List ℕ → List Given → Given → Type 0
+AreBefore = AreBeforeWithin most_bytes
 
 -- a front of the input, and the lines in it
 pub record Front (input : List ℕ) (all : List (Option (List ℕ))) : Type 0 where
   pub front : List ℕ
   pub rest : List ℕ
   pub begins : BeginsWith input front rest
-  pub early : length front ≤ 2 ^ 32
+  pub early : length front ≤ most_bytes
   pub told_is : told front ≡ all
 
 pub front_so : (input : List ℕ) (all other : List (Option (List ℕ))) → all ≡ other → Front input all → Front input other
@@ -29,7 +38,7 @@ front_so input all other same f = let P : List (Option (List ℕ)) → Type 0 = 
 
 -- ---- with the next line
 
-module _ (input front rest : List ℕ) (begins : BeginsWith input front rest) (early : length front ≤ 2 ^ 32) where
+module _ (input front rest : List ℕ) (begins : BeginsWith input front rest) (early : length front ≤ most_bytes) where
   same_front : (all : List (Option (List ℕ))) → told front ≡ all → Front input all
   same_front all is = record { front = front; rest = rest; begins = begins; early = early; told_is = is }
 
@@ -37,7 +46,7 @@ module _ (input front rest : List ℕ) (begins : BeginsWith input front rest) (e
   whole_of bytes line later (inl whole) is = whole
   whole_of bytes line later (inr none) is = absurd (no_lines (sym (ap lines none ∙ lines_none) ∙ is))
 
-  line_front : (line : Option (List ℕ)) → NextLine (length front) rest line → Front input (told front ++ unless_empty line)
+  line_front : (line : Option (List ℕ)) → NextLineWithin most_bytes (length front) rest line → Front input (told front ++ unless_empty line)
   line_front line next =
       let first = first_piece rest in
       let whole = whole_of rest line next.later begins.whole next.lines_are in
@@ -55,7 +64,7 @@ module _ (input front rest : List ℕ) (begins : BeginsWith input front rest) (e
         told_is = told_behind front first whole ∙ ap (λ l. told front ++ filter says l) (piece_line rest line (first_of rest line next.later next.lines_are));
       }
 
-  more_front : (next : Given) → IsNext (length front) rest next → Front input (told front ++ lines_of next)
+  more_front : (next : Given) → IsNextWithin most_bytes (length front) rest next → Front input (told front ++ lines_of next)
   more_front (Line at line) is = line_front line is.1
   more_front Pause is = same_front (told front ++ []) (sym (append-nil (told front)))
   more_front End is = same_front (told front ++ []) (sym (append-nil (told front)))
@@ -87,7 +96,7 @@ pub record Place (input : List ℕ) (done left : List (Option (List ℕ))) : Typ
   pub front : List ℕ
   pub rest : List ℕ
   pub begins : BeginsWith input front rest
-  pub early : length front ≤ 2 ^ 32
+  pub early : length front ≤ most_bytes
   pub done_are : told front ≡ done
   pub beyond : List (Option (List ℕ))
   pub left_are : told rest ≡ left ++ beyond

@@ -123,21 +123,21 @@ module _ (lines : List (Option (List ℕ))) (edits : List Edit) (total : ℕ) (b
 
   -- they failed
   pub group_unmade : {T : Type 0} (error : ServiceError) (end : End) (held' : Held) (view mid : View) (before now : Option (List ℕ)) → end ≡ step_end error → IsOutside error → (error ≢ step.DiskFault → DoesSome edits old mid.image) → now ≡ before → Passes view mid (DoesSome edits old) (Quiet view) → mid.reads ≤ view.reads + 96 * length edits → mid.syncs ≤ view.syncs + group_syncs total book edits
-      → DoesHost {T = T} lines total old (Err end) view mid held' before now
+      → DoesHost {T = T} 1 lines total old (Err end) view mid held' before now
   group_unmade {T} error end held' view mid before now is outside left unsent passes read synced =
       let P : End → Type 0 = λ e. HostStop lines total old mid.image before now e in
       record {
         done = tt;
         stops = subst P (sym is) (group_stops error mid.image before now outside left unsent);
         moments = told_any (group_moments view mid passes) before;
-        cost = made_failed lines (group lines) (append-nil lines) total old view.reads mid.reads view.syncs mid.syncs (group_costs view.reads mid.reads view.syncs mid.syncs read synced);
+        cost = made_failed lines (group lines) (append-nil lines) total old view.reads mid.reads view.syncs mid.syncs (group_costs view.reads mid.reads view.syncs mid.syncs read synced) 1;
       }
 
   -- ---- their replies are sent
 
   pub group_sends : {T : Type 0} (frames : List Frame) (held' held'' : Held) → held'' ≡ held' → (book' : List Series) → GroupReplied edits frames old (held_with total book' held') → IsSound (state_of book' total held'.sessions) → (view mid new : View) (before between now : Option (List ℕ)) → StandsForBook mid.image total book' → Passes view mid (DoesSome edits old) (Quiet view) → sent_now mid ≡ sent_now view → between ≡ before
       → mid.reads ≤ view.reads + 96 * length edits → mid.syncs ≤ view.syncs + group_syncs total book edits → DiskKept mid new → (result : Result T End) → OnOk result (now ≡ sent_after (spelled frames) between) → IfErr result (FramesStop frames between now) → Only mid.image (Now mid) → Passes mid new (Now mid) (λ count. (sent_now mid ≤ count) × (count ≤ sent_now new)) → sent_now new ≤ sent_now mid + length (spelled frames)
-      → DoesHost lines total old result view new held'' before now
+      → DoesHost 1 lines total old result view new held'' before now
   group_sends {T} frames held' held'' same book' replied sound view mid new before between now stands passes quiet unsent read synced kept result whole stops only sends most =
       made_sends lines (group lines) (append-nil lines) total old frames (few_frames frames (held_with total book' held') replied) held' held'' same book' (group_happens frames (held_with total book' held') replied) sound view mid new before between now stands
       (group_moments view mid passes) quiet unsent (group_costs view.reads mid.reads view.syncs mid.syncs read synced) kept result whole stops only sends most

@@ -4,8 +4,9 @@ pub mod SyncLemmas
 pub mod LineLemmas
 pub mod RowLemmas
 pub mod AmidLemmas
-pub mod HostLemmas
 pub mod SpelledLemmas
+pub mod CountLemmas
+pub mod HostLemmas
 pub mod MadeLemmas
 pub mod GroupLemmas
 pub mod ReportLemmas

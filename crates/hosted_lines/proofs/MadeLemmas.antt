@@ -17,7 +17,7 @@ use Rattle.series_book.specs.declared.one_series.Series.{Series}
 use Rattle.stored_book.specs.Standing.{StandsForBook}
 use Rattle.hosted_lines.specs.Doing.{Held, held_with}
 use Rattle.hosted_lines.specs.Hosting.{Begun, DoesHost, FramesStop, HostCost, HostDone, HostMoment, HostStop, counted_with}
-use Rattle.hosted_lines.specs.Hosts.{Costs, Event, Happens, HappensFor, InRow, lines_in}
+use Rattle.hosted_lines.specs.Hosts.{Costs, Event, Happens, HappensFor, InRow, groups_in, lines_in}
 use Rattle.hosted_lines.specs.Lives.{spelled}
 use Rattle.hosted_lines.proofs.FaultLemmas.{told_any}
 use Rattle.hosted_lines.proofs.HostLemmas.{counted_at}
@@ -34,14 +34,15 @@ module _ (lines : List (Option (List ℕ))) (event : Event) (are : lines_in (eve
 
   module _ (reads reads' syncs syncs' : ℕ) (costs : Costs event old reads reads' syncs syncs') where
     -- it failed
-    pub made_failed : HostCost lines (counted_at old reads syncs) reads' syncs'
-    made_failed = record {
+    pub made_failed : (groups : ℕ) → HostCost groups lines (counted_at old reads syncs) reads' syncs'
+    made_failed groups = record {
       events = [];
       rest = lines;
       split = refl;
       frames = [];
       state = counted_at old reads syncs;
       happened = (refl, refl);
+      few = omega arith;
       last = inr (record { event = event; later = []; next = no_more; costs = costs });
     }
 
@@ -49,11 +50,11 @@ module _ (lines : List (Option (List ℕ))) (event : Event) (are : lines_in (eve
       made_row : InRow HappensFor (counted_at old reads syncs) (event ∷ []) frames (counted_with total book held reads' syncs')
       made_row = row_one HappensFor (counted_at old reads syncs) (counted_with total book held reads' syncs') event frames (record { happens = happens; costs = costs })
 
-      made_done : (image : Image) (before now : Option (List ℕ)) → StandsForBook image total book → IsSound (state_of book total held.sessions) → now ≡ sent_after (spelled frames) before → HostDone lines total (counted_at old reads syncs) image held reads' syncs' before now
+      made_done : (image : Image) (before now : Option (List ℕ)) → StandsForBook image total book → IsSound (state_of book total held.sessions) → now ≡ sent_after (spelled frames) before → HostDone (groups_in (event ∷ [])) lines total (counted_at old reads syncs) image held reads' syncs' before now
       made_done image before now stands sound sent =
-          record { frames = frames; book = book; stands = stands; sound = sound; events = event ∷ []; lines_are = are; happened = made_row; sent = sent }
+          record { frames = frames; book = book; stands = stands; sound = sound; events = event ∷ []; lines_are = are; happened = made_row; few = omega arith; sent = sent }
 
-      made_cost : HostCost lines (counted_at old reads syncs) reads' syncs'
+      made_cost : HostCost (groups_in (event ∷ [])) lines (counted_at old reads syncs) reads' syncs'
       made_cost = record {
         events = event ∷ [];
         rest = [];
@@ -61,6 +62,7 @@ module _ (lines : List (Option (List ℕ))) (event : Event) (are : lines_in (eve
         frames = frames;
         state = counted_with total book held reads' syncs';
         happened = made_row;
+        few = omega arith;
         last = inl (refl, refl);
       }
 
@@ -115,10 +117,10 @@ module _ (lines : List (Option (List ℕ))) (event : Event) (are : lines_in (eve
 
   pub made_sends : {T : Type 0} (frames : List Frame) → length frames ≤ most_ahead → (held held' : Held) → held' ≡ held → (book : List Series) → Happens event frames old (held_with total book held) → IsSound (state_of book total held.sessions) → (view mid new : View) (before between now : Option (List ℕ)) → StandsForBook mid.image total book → Through view mid (HostMoment lines total old (sent_now view)) → sent_now mid ≡ sent_now view → between ≡ before
       → Costs event old view.reads mid.reads view.syncs mid.syncs → DiskKept mid new → (result : Result T End) → OnOk result (now ≡ sent_after (spelled frames) between) → IfErr result (FramesStop frames between now) → Only mid.image (Now mid) → Passes mid new (Now mid) (λ count. (sent_now mid ≤ count) × (count ≤ sent_now new)) → sent_now new ≤ sent_now mid + length (spelled frames)
-      → DoesHost lines total old result view new held' before now
+      → DoesHost (groups_in (event ∷ [])) lines total old result view new held' before now
   made_sends {T} frames few held held' same book happens sound view mid new before between now stands made quiet unsent costs kept result whole stops only sends most =
       let S : Image → Type 0 = λ i. StandsForBook i total book in
-      let H : Held → Type 0 = λ h. DoesHost lines total old result view new h before now in
+      let H : Held → Type 0 = λ h. DoesHost (groups_in (event ∷ [])) lines total old result view new h before now in
       let R : ℕ → Type 0 = λ n. Costs event old view.reads n view.syncs new.syncs in
       let Y : ℕ → Type 0 = λ n. Costs event old view.reads mid.reads view.syncs n in
       let there : StandsForBook new.image total book = subst S (sym kept.image) stands in
@@ -126,7 +128,7 @@ module _ (lines : List (Option (List ℕ))) (event : Event) (are : lines_in (eve
       let moments = told_any (through_then view mid new (HostMoment lines total old (sent_now view)) made (sending_moments frames few (held_with total book held) happens (sent_now view) mid new stands (sym quiet) only sends most)) before in
       subst H (sym same) (by result whole stops there moments cost)
     where
-      by : (r : Result T End) → OnOk r (now ≡ sent_after (spelled frames) between) → IfErr r (FramesStop frames between now) → StandsForBook new.image total book → IfSome before (λ bytes. Through view new (HostMoment lines total old (sent_now view))) → Costs event old view.reads new.reads view.syncs new.syncs → DoesHost lines total old r view new held before now
+      by : (r : Result T End) → OnOk r (now ≡ sent_after (spelled frames) between) → IfErr r (FramesStop frames between now) → StandsForBook new.image total book → IfSome before (λ bytes. Through view new (HostMoment lines total old (sent_now view))) → Costs event old view.reads new.reads view.syncs new.syncs → DoesHost (groups_in (event ∷ [])) lines total old r view new held before now
       by (Ok v) whole stops there moments cost = record {
         done = made_done view.reads new.reads view.syncs new.syncs cost frames held book happens new.image before now there sound (whole ∙ ap (sent_after (spelled frames)) unsent);
         stops = tt;

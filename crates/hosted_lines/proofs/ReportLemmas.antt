@@ -109,21 +109,21 @@ module _ (line : List ℕ) (total : ℕ) (book : List Series) (held : Held) (idl
   report_stops step.NoMemory image before now outside stands unsent =
       record { shown = []; more = []; few = omega arith; state = old; begun = begun_none lines old; stands = inl stands; sent = unsent ∙ sent_none before }
 
-  pub report_unmade : {T : Type 0} (error : ServiceError) (end : End) (held' : Held) (view mid : View) (before now : Option (List ℕ)) → end ≡ step_end error → IsOutside error → StandsForBook mid.image total book → now ≡ before → Through view mid (HostMoment lines total old (sent_now view)) → Costs (report line) old view.reads mid.reads view.syncs mid.syncs → DoesHost {T = T} lines total old (Err end) view mid held' before now
+  pub report_unmade : {T : Type 0} (error : ServiceError) (end : End) (held' : Held) (view mid : View) (before now : Option (List ℕ)) → end ≡ step_end error → IsOutside error → StandsForBook mid.image total book → now ≡ before → Through view mid (HostMoment lines total old (sent_now view)) → Costs (report line) old view.reads mid.reads view.syncs mid.syncs → DoesHost {T = T} 0 lines total old (Err end) view mid held' before now
   report_unmade {T} error end held' view mid before now is outside stands unsent moments costs =
       let P : End → Type 0 = λ e. HostStop lines total old mid.image before now e in
       record {
         done = tt;
         stops = subst P (sym is) (report_stops error mid.image before now outside stands unsent);
         moments = told_any moments before;
-        cost = made_failed lines (report line) refl total old view.reads mid.reads view.syncs mid.syncs costs;
+        cost = made_failed lines (report line) refl total old view.reads mid.reads view.syncs mid.syncs costs 0;
       }
 
   -- ---- it is sent
 
   pub report_sends : {T : Type 0} (frame : Frame) → Reported (host_line line) frame old.state → Fits frame → IsSound (state_of book total held.sessions) → (held' : Held) → held' ≡ held → (view mid new : View) (before between now : Option (List ℕ)) → StandsForBook mid.image total book → Through view mid (HostMoment lines total old (sent_now view)) → sent_now mid ≡ sent_now view → between ≡ before
       → Costs (report line) old view.reads mid.reads view.syncs mid.syncs → DiskKept mid new → (result : Result T End) → OnOk result (now ≡ sent_after (spelling frame) between) → IfErr result (FrameStops frame between now) → Only mid.image (Now mid) → Passes mid new (Now mid) (λ count. (sent_now mid ≤ count) × (count ≤ sent_now new)) → sent_now new ≤ sent_now mid + length (spelling frame)
-      → DoesHost lines total old result view new held' before now
+      → DoesHost 0 lines total old result view new held' before now
   report_sends {T} frame reported fits sound held' same view mid new before between now stands moments quiet unsent costs kept result whole stops only sends most =
       let happens : Reports line (frame ∷ []) old old = record { frame = frame; frames_are = refl; idle = idle; reported = reported; fits = fits; same = refl } in
       made_sends lines (report line) refl total old (frame ∷ []) (omega arith) held held' same book happens sound view mid new before between now stands moments quiet unsent costs kept result

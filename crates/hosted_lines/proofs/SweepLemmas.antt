@@ -94,21 +94,21 @@ module _ (line : List ℕ) (rule : Rule) (asks : host_line line ≡ Sweep rule) 
     sent = unsent ∙ sent_none before;
   }
 
-  pub step_unmade : {T : Type 0} (error : ServiceError) (end : End) (held' : Held) (view mid : View) (before now : Option (List ℕ)) → end ≡ step_end error → IsOutside error → (error ≢ step.DiskFault → SweepsSome rule old mid.image) → now ≡ before → Passes view mid (SweepsSome rule old) (Quiet view) → Costs (sweep line) old view.reads mid.reads view.syncs mid.syncs → DoesHost {T = T} lines total old (Err end) view mid held' before now
+  pub step_unmade : {T : Type 0} (error : ServiceError) (end : End) (held' : Held) (view mid : View) (before now : Option (List ℕ)) → end ≡ step_end error → IsOutside error → (error ≢ step.DiskFault → SweepsSome rule old mid.image) → now ≡ before → Passes view mid (SweepsSome rule old) (Quiet view) → Costs (sweep line) old view.reads mid.reads view.syncs mid.syncs → DoesHost {T = T} 0 lines total old (Err end) view mid held' before now
   step_unmade {T} error end held' view mid before now is outside left unsent passes costs =
       let P : End → Type 0 = λ e. HostStop lines total old mid.image before now e in
       record {
         done = tt;
         stops = subst P (sym is) (step_stops error mid.image before now outside left unsent);
         moments = told_any (step_moments view mid passes) before;
-        cost = made_failed lines (sweep line) refl total old view.reads mid.reads view.syncs mid.syncs costs;
+        cost = made_failed lines (sweep line) refl total old view.reads mid.reads view.syncs mid.syncs costs 0;
       }
 
   -- ---- they are
 
   pub step_sends : {T : Type 0} (frame : Frame) (held' held'' : Held) → held'' ≡ held' → (book' : List Series) → SweepReplied rule frame old (held_with total book' held') → (view mid new : View) (before between now : Option (List ℕ)) → StandsForBook mid.image total book' → Passes view mid (SweepsSome rule old) (Quiet view) → sent_now mid ≡ sent_now view → between ≡ before
       → Costs (sweep line) old view.reads mid.reads view.syncs mid.syncs → DiskKept mid new → (result : Result T End) → OnOk result (now ≡ sent_after (spelling frame) between) → IfErr result (FrameStops frame between now) → Only mid.image (Now mid) → Passes mid new (Now mid) (λ count. (sent_now mid ≤ count) × (count ≤ sent_now new)) → sent_now new ≤ sent_now mid + length (spelling frame)
-      → DoesHost lines total old result view new held'' before now
+      → DoesHost 0 lines total old result view new held'' before now
   step_sends {T} frame held' held'' same book' replied view mid new before between now stands passes quiet unsent costs kept result whole stops only sends most =
       let happens : Sweeps line (frame ∷ []) old (held_with total book' held') = record { rule = rule; asks = asks; frame = frame; frames_are = refl; idle = idle; replied = replied } in
       made_sends lines (sweep line) refl total old (frame ∷ []) (omega arith) held' held'' same book' happens replied.2 view mid new before between now stands (step_moments view mid passes) quiet unsent costs kept result

@@ -17,12 +17,14 @@ use Rattle.run_ends.specs.declared.ending.End.{End}
 use Rattle.run_ends.specs.declared.ending.End.TheVariants.{NoMemory}
 use Rattle.series_book.specs.declared.edits.Edit.{Edit}
 use Rattle.series_book.specs.declared.one_series.Series.{Series}
-use Rattle.served_lines.specs.Turning.{lines_of}
+use Rattle.served_lines.specs.Turning.{lines_of, pauses_of}
 use Rattle.hosted_lines.specs.Doing.{Held, held_with}
+use Rattle.hosted_lines.specs.Groups.{GroupsBy}
 use Rattle.hosted_lines.specs.Hosting.{DoesHost, HostMoment}
-use Rattle.hosted_lines.specs.Hosts.{lines_in}
+use Rattle.hosted_lines.specs.Hosts.{groups_in, lines_in}
 use Rattle.hosted_lines.specs.Lives.{spelled}
 use Rattle.hosted_lines.specs.Working.{AreTold, Does, Hosted, IsHosted, KeepsNone, Leaves, Stops, Turn, counted_of, live_at}
+use Rattle.hosted_lines.proofs.CountLemmas.{by_fewer, by_none}
 use Rattle.hosted_lines.proofs.HostLemmas.{begun_none}
 
 -- what holds of the book and the sessions
@@ -52,8 +54,8 @@ module _ (hosted : Hosted) (edits : List Edit) (told : Type 0) (view : View) (he
   -- ---- calls that settle what was kept back, and what is given behind it
 
   module _ (it : Given) (view' : View) (held' : Held) (now : Option (List ℕ)) where
-    done_here : (told' : Type 0) → told' → held'.pending ≡ [] → {T : Type 0} (v : T) → DoesHost {T = T} (hosted.ahead ++ lines_of it) hosted.total (held_with hosted.total hosted.book held) (Ok v) view view' held' before now → DoesOne Does (λ h. IsHosted h [] told' view' held' now) here it before now
-    done_here told' holds idle {T} v does =
+    done_here : (told' : Type 0) → told' → held'.pending ≡ [] → GroupsBy (hosted.ahead ++ lines_of it) 1 (pauses_of it) → {T : Type 0} (v : T) → DoesHost {T = T} 1 (hosted.ahead ++ lines_of it) hosted.total (held_with hosted.total hosted.book held) (Ok v) view view' held' before now → DoesOne Does (λ h. IsHosted h [] told' view' held' now) here it before now
+    done_here told' holds idle by {T} v does =
         let d = does.done in
         record {
           text = spelled d.frames;
@@ -64,6 +66,7 @@ module _ (hosted : Hosted) (edits : List Edit) (told : Type 0) (view : View) (he
               split = sym d.lines_are ∙ sym (append-nil (lines_in d.events));
               frames = d.frames;
               happened = d.happened;
+              groups = by_fewer (hosted.ahead ++ lines_of it) (lines_in d.events) 1 (groups_in d.events) (pauses_of it) d.lines_are d.few by;
               text_is = refl;
               sent_is = d.sent;
               total_is = refl;
@@ -84,14 +87,14 @@ module _ (hosted : Hosted) (edits : List Edit) (told : Type 0) (view : View) (he
           sent = d.sent;
         }
 
-    pub host_does : (told' : Type 0) → told' → (edits' : List Edit) → edits' ≡ [] → {T : Type 0} (result : Result T End) → OnOk result (held'.pending ≡ []) → DoesHost {T = T} (hosted.ahead ++ lines_of it) hosted.total (held_with hosted.total hosted.book held) result view view' held' before now → OnOk result (DoesOne Does (λ h. IsHosted h edits' told' view' held' now) hosted it before now)
-    host_does told' holds edits' none {T} (Ok v) idle does =
+    pub host_does : (told' : Type 0) → told' → (edits' : List Edit) → edits' ≡ [] → GroupsBy (hosted.ahead ++ lines_of it) 1 (pauses_of it) → {T : Type 0} (result : Result T End) → OnOk result (held'.pending ≡ []) → DoesHost {T = T} 1 (hosted.ahead ++ lines_of it) hosted.total (held_with hosted.total hosted.book held) result view view' held' before now → OnOk result (DoesOne Does (λ h. IsHosted h edits' told' view' held' now) hosted it before now)
+    host_does told' holds edits' none by {T} (Ok v) idle does =
         let P : Hosted → Type 0 = λ h. DoesOne Does (λ x. IsHosted x edits' told' view' held' now) h it before now in
         let E : List Edit → Type 0 = λ l. DoesOne Does (λ x. IsHosted x l told' view' held' now) here it before now in
-        subst P (sym here_is) (subst E (sym none) (done_here told' holds idle v does))
-    host_does told' holds edits' none {T} (Err end) idle does = tt
+        subst P (sym here_is) (subst E (sym none) (done_here told' holds idle by v does))
+    host_does told' holds edits' none by {T} (Err end) idle does = tt
 
-    pub host_stops : {T : Type 0} (result : Result T End) → DoesHost {T = T} (hosted.ahead ++ lines_of it) hosted.total (held_with hosted.total hosted.book held) result view view' held' before now → IfErr result (λ end. Stops hosted it view'.image now view'.reads view'.syncs end)
+    pub host_stops : {T : Type 0} (result : Result T End) → DoesHost {T = T} 1 (hosted.ahead ++ lines_of it) hosted.total (held_with hosted.total hosted.book held) result view view' held' before now → IfErr result (λ end. Stops hosted it view'.image now view'.reads view'.syncs end)
     host_stops {T} (Ok v) does = tt
     host_stops {T} (Err end) does =
         let P : Hosted → Type 0 = λ h. Stops h it view'.image now view'.reads view'.syncs end in
@@ -101,7 +104,7 @@ module _ (hosted : Hosted) (edits : List Edit) (told : Type 0) (view : View) (he
     moments_here None lasts m = absurd lasts
     moments_here (Some bytes) lasts m = record { goes = m.goes; here = m.here }
 
-    pub host_leaves : AreTold hosted.sent → {T : Type 0} (result : Result T End) → DoesHost {T = T} (hosted.ahead ++ lines_of it) hosted.total (held_with hosted.total hosted.book held) result view view' held' before now → runs.Through view view' (Leaves hosted it (sent_now view))
+    pub host_leaves : AreTold hosted.sent → {T : Type 0} (result : Result T End) → DoesHost {T = T} 1 (hosted.ahead ++ lines_of it) hosted.total (held_with hosted.total hosted.book held) result view view' held' before now → runs.Through view view' (Leaves hosted it (sent_now view))
     host_leaves lasts {T} result does =
         let P : Hosted → Type 0 = λ h. runs.Through view view' (Leaves h it (sent_now view)) in
         subst P (sym here_is) (moments_here before (subst AreTold is.sent_is lasts) does.moments)
@@ -109,12 +112,13 @@ module _ (hosted : Hosted) (edits : List Edit) (told : Type 0) (view : View) (he
   -- ---- what is given is kept back, or is nothing
 
   module _ (it : Given) where
-    turn_kept : (ahead : List (Option (List ℕ))) → hosted.ahead ++ lines_of it ≡ ahead → Turn here (lines_of it) [] (hosted_at hosted.total hosted.book held view.reads view.syncs ahead before)
+    turn_kept : (ahead : List (Option (List ℕ))) → hosted.ahead ++ lines_of it ≡ ahead → Turn here (lines_of it) (pauses_of it) [] (hosted_at hosted.total hosted.book held view.reads view.syncs ahead before)
     turn_kept ahead same = record {
       events = [];
       split = same;
       frames = [];
       happened = (refl, refl);
+      groups = by_none (pauses_of it);
       text_is = refl;
       sent_is = sent_none before;
       total_is = refl;
@@ -168,6 +172,7 @@ module _ (hosted : Hosted) (edits : List Edit) (told : Type 0) (view : View) (he
             frames = [];
             state = counted_of here;
             happened = (refl, refl);
+            few = omega arith;
             last = inl (refl, refl);
           };
         })

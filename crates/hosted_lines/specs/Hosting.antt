@@ -23,7 +23,7 @@ use Rattle.series_book.specs.declared.one_series.Series.{Series}
 use Rattle.stored_book.specs.Standing.{StandsForBook}
 use Rattle.hosted_lines.specs.Amid.{IsThereAhead}
 use Rattle.hosted_lines.specs.Doing.{Held, held_by, held_with}
-use Rattle.hosted_lines.specs.Hosts.{Costs, Counted, Event, Happens, HappensFor, InRow, lines_in}
+use Rattle.hosted_lines.specs.Hosts.{Costs, Counted, Event, Happens, HappensFor, InRow, groups_in, lines_in}
 use Rattle.hosted_lines.specs.Lives.{spelled}
 use Rattle.hosted_lines.specs.Shown.{pages}
 
@@ -63,8 +63,9 @@ pub record Begun (lines : List (Option (List ℕ))) (frames : List Frame) (old n
 abbrev pub counted_with : ℕ → List Series → Held → ℕ → ℕ → Counted
 counted_with total book held reads syncs = record { live = held_with total book held; reads = reads; syncs = syncs }
 
--- All of them are answered, the pages stand for the book that this leaves, and the spellings of all frames were sent.
-pub record HostDone (lines : List (Option (List ℕ))) (total : ℕ) (old : Counted) (image : Image) (held : Held) (reads syncs : ℕ) (before now : Option (List ℕ)) : Type 0 where
+-- All of them are answered, in at most so many groups, the pages stand for the book that this leaves, and the spellings of all
+-- frames were sent.
+pub record HostDone (groups : ℕ) (lines : List (Option (List ℕ))) (total : ℕ) (old : Counted) (image : Image) (held : Held) (reads syncs : ℕ) (before now : Option (List ℕ)) : Type 0 where
   pub frames : List Frame
   pub book : List Series
   pub stands : StandsForBook image total book
@@ -72,6 +73,7 @@ pub record HostDone (lines : List (Option (List ℕ))) (total : ℕ) (old : Coun
   pub events : List Event
   pub lines_are : lines_in events ≡ lines
   pub happened : InRow HappensFor old events frames (counted_with total book held reads syncs)
+  pub few : groups_in events ≤ groups
   pub sent : now ≡ sent_after (spelled frames) before
 
 -- Some first of them are. Of some frames, which are fewer than may be done ahead, and of one before them a part was sent, or
@@ -129,24 +131,25 @@ pub record NextCosts (rest : List (Option (List ℕ))) (old : Counted) (reads sy
   pub next : rest ≡ lines_in (event ∷ []) ++ later
   pub costs : Costs event old.live old.reads reads old.syncs syncs
 
--- what some first of them cost, and the event behind them, which may have failed
-pub record HostCost (lines : List (Option (List ℕ))) (old : Counted) (reads syncs : ℕ) : Type 0 where
+-- what some first of them cost, in at most so many groups, and the event behind them, which may have failed
+pub record HostCost (groups : ℕ) (lines : List (Option (List ℕ))) (old : Counted) (reads syncs : ℕ) : Type 0 where
   pub events : List Event
   pub rest : List (Option (List ℕ))
   pub split : lines ≡ lines_in events ++ rest
   pub frames : List Frame
   pub state : Counted
   pub happened : InRow HappensFor old events frames state
+  pub few : groups_in events ≤ groups
   pub last : ((reads ≡ state.reads) × (syncs ≡ state.syncs)) ⊎ NextCosts rest state reads syncs
 
--- what a call does that answers these lines, and makes pushes
-pub record DoesHost {T : Type 0} (lines : List (Option (List ℕ))) (total : ℕ) (old : LiveState) (result : Result T End) (view view' : View) (held : Held) (before now : Option (List ℕ)) : Type 0 where
-  pub done : OnOk result (HostDone lines total (record { live = old; reads = view.reads; syncs = view.syncs }) view'.image held view'.reads view'.syncs before now)
+-- what a call does that answers these lines in at most so many groups, and makes pushes
+pub record DoesHost {T : Type 0} (groups : ℕ) (lines : List (Option (List ℕ))) (total : ℕ) (old : LiveState) (result : Result T End) (view view' : View) (held : Held) (before now : Option (List ℕ)) : Type 0 where
+  pub done : OnOk result (HostDone groups lines total (record { live = old; reads = view.reads; syncs = view.syncs }) view'.image held view'.reads view'.syncs before now)
   pub stops : IfErr result (HostStop lines total old view'.image before now)
   pub moments : IfSome before (λ bytes. Through view view' (HostMoment lines total old (sent_now view)))
-  pub cost : HostCost lines (record { live = old; reads = view.reads; syncs = view.syncs }) view'.reads view'.syncs
+  pub cost : HostCost groups lines (record { live = old; reads = view.reads; syncs = view.syncs }) view'.reads view'.syncs
 
 module _ {P : Type 0} {g : Ghosts P} {h : StepperGhosts (ServiceStepper P g) ServiceError} {beside : StreamGhosts (ServiceStepper P g)} where
   -- what a call does from one moment to another
-  abbrev pub HostsFor : {T : Type 0} → streams.Ghosts P → List (Option (List ℕ)) → ℕ → List Series → Result T End → Live (ServiceStepper P g) ServiceError h beside → Live (ServiceStepper P g) ServiceError h beside → Type 0
-  HostsFor told lines total book result old new = DoesHost lines total (its.state old total book) result (its.view old) (its.view new) (held_by new) (told.sent (pages old)) (told.sent (pages new))
+  abbrev pub HostsFor : {T : Type 0} → streams.Ghosts P → ℕ → List (Option (List ℕ)) → ℕ → List Series → Result T End → Live (ServiceStepper P g) ServiceError h beside → Live (ServiceStepper P g) ServiceError h beside → Type 0
+  HostsFor told groups lines total book result old new = DoesHost groups lines total (its.state old total book) result (its.view old) (its.view new) (held_by new) (told.sent (pages old)) (told.sent (pages new))

@@ -102,6 +102,15 @@ lines_in (sweep line ∷ later) = Some line ∷ lines_in later
 lines_in (group lines ∷ later) = lines ++ lines_in later
 lines_in (push ∷ later) = lines_in later
 
+-- how many of them are groups
+abbrev pub groups_in : List Event → ℕ
+groups_in [] = 0
+groups_in (answer line ∷ later) = groups_in later
+groups_in (report line ∷ later) = groups_in later
+groups_in (sweep line ∷ later) = groups_in later
+groups_in (group lines ∷ later) = groups_in later + 1
+groups_in (push ∷ later) = groups_in later
+
 -- ---- what it costs
 
 -- a state, and how often blocks were read and the disk was synced until then

@@ -1,3 +1,4 @@
+pub mod Input
 pub mod Lives
 pub mod Reads
 pub mod Shown
@@ -5,6 +6,7 @@ pub mod Doing
 pub mod HostCauses
 pub mod GoesLaws
 pub mod Hosts
+pub mod Groups
 pub mod Amid
 pub mod Reporting
 pub mod Hosting

@@ -1,6 +1,6 @@
 -- How far a host has answered the lines of an input, and pushed. Where a record speaks of a book that is there, it is one for
 -- which pages stand, or one that a disk holds, or to which an image recovers.
-use Rattle.std.specs.Prelude.{ℕ, ◌≡◌, ◌+◌, ◌-◌, ◌^◌, ◌<◌, ◌≤◌, ◌⊎◌, List, [], ◌∷◌, ◌++◌, length, take, Option, IfSome}
+use Rattle.std.specs.Prelude.{ℕ, ◌≡◌, ◌+◌, ◌-◌, ◌<◌, ◌≤◌, ◌⊎◌, List, [], ◌∷◌, ◌++◌, length, take, Option, IfSome}
 use Rattle.block_disk.specs.Streams.{sent_after, PartSent}
 use Rattle.chart_frames.specs.declared.frame.Frame.{Frame}
 use Rattle.chart_frames.specs.Frames.{spelling}
@@ -13,8 +13,10 @@ use Rattle.run_ends.specs.declared.ending.End.{End}
 use Rattle.run_ends.specs.declared.ending.End.TheVariants.{Done, NoMemory, ReadFault, SendFault, DiskFault, InputTooLong}
 use Rattle.series_book.specs.declared.one_series.Series.{Series}
 use Rattle.hosted_lines.specs.Amid.{IsThereAhead}
+use Rattle.hosted_lines.specs.Groups.{FewGroups}
 use Rattle.hosted_lines.specs.Hosting.{NextCosts}
-use Rattle.hosted_lines.specs.Hosts.{Counted, Event, Happens, HappensFor, InRow, lines_in}
+use Rattle.hosted_lines.specs.Hosts.{Counted, Event, Happens, HappensFor, InRow, groups_in, lines_in}
+use Rattle.hosted_lines.specs.Input.{most_bytes}
 use Rattle.hosted_lines.specs.Lives.{spelled}
 
 -- these lines are answered by these frames, alone or together, some first of the last pushes among them
@@ -29,7 +31,7 @@ pub record FirstLines (input : List ℕ) (frames : List Frame) (old new : LiveSt
   pub front : List ℕ
   pub rest : List ℕ
   pub begins : BeginsWith input front rest
-  pub early : length front ≤ 2 ^ 32
+  pub early : length front ≤ most_bytes
   pub hosted : HostedBy (told front) frames old new
 
 -- some first lines are answered, and the spellings of all frames so far were sent
@@ -64,11 +66,11 @@ module _ (IsThere : List Series → Type 0) (input : List ℕ) (old : LiveState)
     pub whole : IsWhole sends.first.front
     pub behind : IfSome left (Unended sends.first.rest)
 
-  -- they are those that ended among the first 2^32 bytes, and there is a byte more
+  -- they are those that ended among the first 2^63 - 1 bytes, and there is a byte more
   pub record SendsWithin : Type 0 where
     pub sends : SendsFirst
-    pub unended : NoLineFeed (take (2 ^ 32 - length sends.first.front) sends.first.rest)
-    pub past : 2 ^ 32 < length input
+    pub unended : NoLineFeed (take (most_bytes - length sends.first.front) sends.first.rest)
+    pub past : most_bytes < length input
 
   -- Some first lines are answered. Of one of the last frames, which are no more than may be done ahead, a part was sent, of
   -- those behind it nothing, and of the others all.
@@ -121,8 +123,9 @@ pub record IsAhead (IsThere : List Series → Type 0) (input : List ℕ) (old : 
   pub high : sent ≤ from + length (spelled (shown ++ more))
 
 -- Some first lines of the input are answered, and perhaps the line, the group, the step or the push behind them failed; by
--- each no more blocks were read than it may, and the disk was synced no more often.
-pub record CostsLines (input : List ℕ) (old : Counted) (reads syncs : ℕ) : Type 0 where
+-- each no more blocks were read than it may, and the disk was synced no more often. There are few groups, by the lines that are
+-- answered and the pieces taken.
+pub record CostsLines (input : List ℕ) (old : Counted) (pieces pieces' reads syncs : ℕ) : Type 0 where
   pub front : List ℕ
   pub rest : List ℕ
   pub begins : BeginsWith input front rest
@@ -131,4 +134,5 @@ pub record CostsLines (input : List ℕ) (old : Counted) (reads syncs : ℕ) : T
   pub frames : List Frame
   pub state : Counted
   pub happened : InRow HappensFor old events frames state
+  pub groups : FewGroups (told front) (groups_in events) pieces pieces'
   pub last : ((reads ≡ state.reads) × (syncs ≡ state.syncs)) ⊎ NextCosts (told rest) state reads syncs

@@ -30,4 +30,4 @@ module _ {P : Type 0} {g : Ghosts P} {h : StepperGhosts (ServiceStepper P g) Ser
   -- the lines, the groups and the pushes cost no more than they may, and nothing else was read or synced
   abbrev pub CostsFew : Type 0
   CostsFew = IfSome (told.left (pages old)) (λ input.
-      CostsLines input (record { live = its.state old total book; reads = (its.view old).reads; syncs = (its.view old).syncs }) (its.view new).reads (its.view new).syncs)
+      CostsLines input (record { live = its.state old total book; reads = (its.view old).reads; syncs = (its.view old).syncs }) (told.pieces (pages old)) (told.pieces (pages new)) (its.view new).reads (its.view new).syncs)

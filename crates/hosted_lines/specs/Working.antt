@@ -14,12 +14,13 @@ use Rattle.run_ends.specs.declared.ending.End.TheVariants.{DiskFault, InputTooLo
 use Rattle.series_book.specs.declared.edits.Edit.{Edit}
 use Rattle.series_book.specs.declared.one_series.Series.{Series}
 use Rattle.series_book.specs.Edits.{IsEdit}
-use Rattle.served_lines.specs.Turning.{lines_of}
+use Rattle.served_lines.specs.Turning.{lines_of, pauses_of}
 use Rattle.stored_book.specs.Standing.{StandsForBook}
 use Rattle.hosted_lines.specs.Doing.{Held, Side, held_with}
+use Rattle.hosted_lines.specs.Groups.{GroupsBy}
 use Rattle.hosted_lines.specs.Hosting.{HostCost, HostMoment, HostStop, counted_with}
 use Rattle.hosted_lines.specs.HostCauses.{IsHostCause}
-use Rattle.hosted_lines.specs.Hosts.{Counted, Event, HappensFor, InRow, lines_in}
+use Rattle.hosted_lines.specs.Hosts.{Counted, Event, HappensFor, InRow, groups_in, lines_in}
 use Rattle.hosted_lines.specs.Lives.{spelled}
 
 -- a book, what a live service holds beside its pages, how often blocks were read and the disk was synced, the lines that are
@@ -58,12 +59,13 @@ pub record IsHosted (hosted : Hosted) (edits : List Edit) (told : Type 0) (at : 
   pub reads_are : hosted.reads ≡ at.reads
   pub syncs_are : hosted.syncs ≡ at.syncs
 
--- Of the lines kept back and those that are given some first are answered, and the others are kept back.
-pub record Turn (old : Hosted) (lines : List (Option (List ℕ))) (text : List ℕ) (new : Hosted) : Type 0 where
+-- Of the lines kept back and those that are given, with so many pauses, some first are answered, and the others are kept back.
+pub record Turn (old : Hosted) (lines : List (Option (List ℕ))) (pauses : ℕ) (text : List ℕ) (new : Hosted) : Type 0 where
   pub events : List Event
   pub split : old.ahead ++ lines ≡ lines_in events ++ new.ahead
   pub frames : List Frame
   pub happened : InRow HappensFor (counted_of old) events frames (counted_of new)
+  pub groups : GroupsBy (lines_in events) (groups_in events) pauses
   pub text_is : text ≡ spelled frames
   pub sent_is : new.sent ≡ sent_after text old.sent
   pub total_is : new.total ≡ old.total
@@ -75,12 +77,12 @@ KeepsNone Pause ahead = ahead ≡ []
 KeepsNone EndOf ahead = ⊤
 
 abbrev pub Does : Hosted → Given → List ℕ → Hosted → Type 0
-Does old it text new = Turn old (lines_of it) text new × KeepsNone it new.ahead
+Does old it text new = Turn old (lines_of it) (pauses_of it) text new × KeepsNone it new.ahead
 
 -- it stopped the work
 pub record Stops (old : Hosted) (it : Given) (image : Image) (now : Option (List ℕ)) (reads syncs : ℕ) (end : End) : Type 0 where
   pub why : HostStop (old.ahead ++ lines_of it) old.total (live_at old) image old.sent now end
-  pub cost : HostCost (old.ahead ++ lines_of it) (counted_of old) reads syncs
+  pub cost : HostCost 1 (old.ahead ++ lines_of it) (counted_of old) reads syncs
 
 -- what a crash leaves meanwhile, where it began after so many bytes
 abbrev pub Leaves : Hosted → Given → ℕ → Image → ℕ → Type 0

@@ -19,4 +19,4 @@ mod settling;
 mod sweeping;
 
 pub use answering::{answer_line, refuse_line};
-pub use serving::host_lines;
+pub use serving::{MOST_BYTES, host_lines};

@@ -1,11 +1,12 @@
 //! The work of a host on the lines of its streams.
-ghost use Rattle.std.specs.Prelude.{◌^◌, ⊤};
+ghost use Rattle.std.specs.Prelude.{⊤};
 ghost use Rattle.chart_service.specs.Shown as shown;
 ghost use Rattle.live_service.specs.Shown as its;
 ghost use Rattle.live_view.specs.Live as follows;
 ghost use Rattle.run_ends.specs.Faults.{end_fault};
 ghost use Rattle.hosted_lines.specs.Doing.{Goes, held_by, side_of};
 ghost use Rattle.hosted_lines.specs.GoesLaws.{goes_further, goes_nowhere, goes_streams};
+ghost use Rattle.hosted_lines.specs.Input.{most_bytes};
 ghost use Rattle.hosted_lines.specs.Shown.{pages};
 ghost use Rattle.hosted_lines.specs.WorkLaws.{besides, causes_later, fit_kept, held_kept, lasts_on, no_less, now_rests, stands_kept};
 ghost use Rattle.hosted_lines.specs.Working.{CausesEnd, Does, Hosted, IsFit, IsHosted, Lasting, Leaves, Rests, Stops};
@@ -29,7 +30,7 @@ impl<P: PageWorld> LineWork<Live<ServiceStepper<P>>, End> for HostTurns {
 
     ghost view = { λ live. its.view live };
 
-    ghost limit = { 2 ^ 32 };
+    ghost limit = { most_bytes };
 
     ghost fit = { λ turns live at. IsFit (its.view live) (follows.pending live) turns.edits.items };
 

@@ -33,7 +33,7 @@ fn send_step<P: PageWorld>(
 ) -> Result<(), End>
     requires sound { (its.view live.old).fit }
     requires idle { follows.IsIdle live.old }
-    ensures does { (line : List ℕ) → host_line line ≡ Sweep rule.now → ForSound live.old (λ total book. HostsFor P.Streams (Some line ∷ []) total book result live.old live.new) }
+    ensures does { (line : List ℕ) → host_line line ≡ Sweep rule.now → ForSound live.old (λ total book. HostsFor P.Streams 0 (Some line ∷ []) total book result live.old live.new) }
     ensures goes { Goes (side_of P.Streams live.old) (side_of P.Streams live.new) }
     ensures cause { IfErr result (λ e. CausesEnd e (side_of P.Streams live.old) (side_of P.Streams live.new)) }
     ensures faults { CountsFault (fault_in end_fault result) (its.view live.old) (its.view live.new) }
@@ -55,7 +55,7 @@ fn do_step<P: PageWorld>(
 ) -> Result<(), End>
     requires sound { (its.view live.old).fit }
     requires idle { follows.IsIdle live.old }
-    ensures does { (line : List ℕ) → host_line line ≡ Sweep rule.now → ForSound live.old (λ total book. HostsFor P.Streams (Some line ∷ []) total book result live.old live.new) }
+    ensures does { (line : List ℕ) → host_line line ≡ Sweep rule.now → ForSound live.old (λ total book. HostsFor P.Streams 0 (Some line ∷ []) total book result live.old live.new) }
     ensures goes { Goes (side_of P.Streams live.old) (side_of P.Streams live.new) }
     ensures cause { IfErr result (λ e. CausesEnd e (side_of P.Streams live.old) (side_of P.Streams live.new)) }
     ensures faults { CountsFault (fault_in end_fault result) (its.view live.old) (its.view live.new) }
@@ -80,7 +80,7 @@ pub(crate) fn answer_step<P: PageWorld>(
     requires idle { follows.IsIdle live.old }
     requires few { length turns.old.edits.items ≤ most_ahead }
     requires are_edits { All IsEdit turns.old.edits.items }
-    ensures does { (line : List ℕ) → host_line line ≡ Sweep rule.now → SpelledBy turns.old.edits.items (λ lines. ForSound live.old (λ total book. HostsFor P.Streams (lines ++ Some line ∷ []) total book result live.old live.new)) }
+    ensures does { (line : List ℕ) → host_line line ≡ Sweep rule.now → SpelledBy turns.old.edits.items (λ lines. ForSound live.old (λ total book. HostsFor P.Streams 1 (lines ++ Some line ∷ []) total book result live.old live.new)) }
     ensures none { turns.new.edits.items ≡ [] }
     ensures goes { Goes (side_of P.Streams live.old) (side_of P.Streams live.new) }
     ensures cause { IfErr result (λ e. CausesEnd e (side_of P.Streams live.old) (side_of P.Streams live.new)) }

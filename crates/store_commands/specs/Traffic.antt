@@ -25,10 +25,17 @@ traffic left sent read_faults send_faults old new = record {
   sends_now = send_faults new;
 }
 
--- the input, where it is told, is at most 2^32 bytes, and was read to its end
-abbrev pub WasRead : Option (List ℕ) → Option (List ℕ) → Type 0
-WasRead left left' = IfSome left (λ input. (length input ≤ 2 ^ 32) × (left' ≡ Some []))
+-- the input, where it is told, is at most so many bytes, and was read to its end
+abbrev pub WasReadWithin : ℕ → Option (List ℕ) → Option (List ℕ) → Type 0
+WasReadWithin most left left' = IfSome left (λ input. (length input ≤ most) × (left' ≡ Some []))
 
 -- it has more bytes than that
+abbrev pub IsPast : ℕ → Option (List ℕ) → Type 0
+IsPast most left = IfSome left (λ input. most < length input)
+
+-- the same of 2^32 bytes
+abbrev pub WasRead : Option (List ℕ) → Option (List ℕ) → Type 0
+WasRead left left' = WasReadWithin (2 ^ 32) left left'
+
 abbrev pub IsLong : Option (List ℕ) → Type 0
-IsLong left = IfSome left (λ input. 2 ^ 32 < length input)
+IsLong left = IsPast (2 ^ 32) left

@@ -1,15 +1,19 @@
-use Rattle.std.proofs.Common.{subst, sym}
+use Rattle.std.proofs.Common.{Option, ap, subst, sym, ◌∙◌}
+use Rattle.chart_world.specs.Faults.{CountsFault, Fault}
 use Rattle.program_words.specs.declared.words.Command.{Command}
-use Rattle.run_ends.specs.Statuses.{code_of, place_of}
+use Rattle.run_ends.specs.Faults.{end_fault}
+use Rattle.run_ends.specs.Statuses.{code_of, place_of, status_of}
+use Rattle.run_ends.specs.declared.ending.End.{End}
 use Rattle.run_ends.specs.declared.status.Status.{Status}
 use Rattle.store_commands.specs.Faulting.{counts_end}
 use Rattle.store_commands.specs.Traffic.{traffic}
 use Rattle.chart_program.specs.Served.{faults_of}
 use Rattle.chart_program.specs.Commands.{Does}
 use Rattle.chart_program.specs.Course.{course}
+use Rattle.chart_program.specs.Host.{hosting_end}
 use Rattle.chart_program.specs.Ran.{CommandEnds}
 use Rattle.chart_program.proofs.DerivePage.{of_derive}
-use Rattle.chart_program.proofs.HostPage.{of_host}
+use Rattle.chart_program.proofs.HostPage.{hosted_fault, of_host}
 use Rattle.chart_program.proofs.LivePage.{of_live}
 use Rattle.chart_program.proofs.LoadPage.{of_load}
 use Rattle.chart_program.proofs.RetainPage.{of_retain}
@@ -272,9 +276,9 @@ returns-in-Host-clause-ends g c =
     let end = c.host-end.result.0 in
     let e = c.host-end.ensures in
     let faults = faults_of (reads old) (reads new) (sends old) (sends new) in
-    let P : Command → Type 0 = λ command. CommandEnds command (view old) (view new) (left old) (left new) (sent old) (sent new) faults (code_of end) (place_of end) in
+    let P : Command → Type 0 = λ command. CommandEnds command (view old) (view new) (left old) (left new) (sent old) (sent new) faults (code_of (hosting_end end)) (place_of (hosting_end end)) in
     let S : Status → Type 0 = λ s. CommandEnds c.args.command (view old) (view new) (left old) (left new) (sent old) (sent new) faults s.code s.place in
-    subst S (sym c.status_of-in-Host.ensures.status)
+    subst S (sym (c.status_of-in-Host.ensures.status ∙ ap (λ (e : End). status_of e) c.hosting_end.ensures))
     (subst P (sym c.in-Host.is) (host_ends (view old) (view new) (left old) (left new) (sent old) (sent new) faults end e.ends e.away e.costs))
 
 pub returns-in-Live-clause-faults : goal.returns-in-Live-clause-faults
@@ -283,7 +287,11 @@ returns-in-Live-clause-faults g c =
 
 pub returns-in-Host-clause-faults : goal.returns-in-Host-clause-faults
 returns-in-Host-clause-faults g c =
-    counts_end c.host-end.result.0 c.status_of-in-Host.result (g.W.Disk.view c.args.world) (g.W.Disk.view c.host-end.result.1) c.status_of-in-Host.ensures.status c.host-end.ensures.faults
+    let old = g.W.Disk.view c.args.world in
+    let new = g.W.Disk.view c.host-end.result.1 in
+    let F : Option Fault → Type 0 = λ fault. CountsFault fault old new in
+    let same = ap (λ (e : End). end_fault e) c.hosting_end.ensures ∙ hosted_fault c.host-end.result.0 in
+    counts_end c.hosting_end.result c.status_of-in-Host.result old new c.status_of-in-Host.ensures.status (subst F (sym same) c.host-end.ensures.faults)
 
 pub returns-in-Derive-clause-ends : goal.returns-in-Derive-clause-ends
 returns-in-Derive-clause-ends g c =
@@ -424,7 +432,7 @@ returns-in-Host-clause-does g c =
     let end = c.host-end.result.0 in
     let e = c.host-end.ensures in
     let did = of_host (view old) (view new) (traffic s.left s.sent s.read_faults s.send_faults old new) end e.ends e.away e.costs in
-    subst P (sym c.in-Host.is) (end, c.status_of-in-Host.ensures.status, did)
+    subst P (sym c.in-Host.is) (hosting_end end, c.status_of-in-Host.ensures.status ∙ ap (λ (e : End). status_of e) c.hosting_end.ensures, did)
 
 pub returns-in-Derive-clause-does : goal.returns-in-Derive-clause-does
 returns-in-Derive-clause-does g c =

@@ -1,6 +1,6 @@
-use Rattle.std.proofs.Common.{ℤ, ◌^◌, List, Option, Ok, Err, IsTrue, IfSome, All, length, refl, ap, sym, subst, ◌∙◌, arith}
+use Rattle.std.proofs.Common.{ℕ, ℤ, ◌-◌, ◌^◌, List, Option, Ok, Err, IsTrue, IfSome, All, length, refl, ap, sym, subst, ◌∙◌, arith}
 use Rattle.std.proofs.lemmas.List.Elements.{All-nil}
-use Rattle.chart_world.specs.Reading.{Reading, input_length, unread}
+use Rattle.chart_world.specs.Reading.{NoLineIn, Reading, input_length, unread}
 use Rattle.chart_world.specs.FrontLaws.{read_up, same_line}
 use Rattle.chart_world.specs.StandsLaws.{stands_first}
 use Rattle.plain_chart.specs.Samples.{IsSlot}
@@ -22,6 +22,7 @@ lines-init g c =
       usable = subst U (sym fresh) refl;
       counted = omega (arith, ap (λ r. r.taken) fresh, ap (λ r. r.given) fresh, ap (λ r. length r.pending) fresh);
       within = omega (arith, ap (λ r. r.given) fresh);
+      limited = ap (λ (r : Reading). r.limit) fresh;
       total = refl;
       stands_in = stands_first (g.S.Streams.left c.args.from.now) c.in_ok-lines.lines fresh;
       values = subst V (sym c.new-slots.ensures.items) (All-nil IsSlot);
@@ -55,13 +56,15 @@ pub returns-in-TooLong-clause-ends : goal.returns-in-TooLong-clause-ends
 returns-in-TooLong-clause-ends g c =
     bad_so (g.S.Streams.left c.args.from.now) (unread c.lines.lines (g.S.Streams.left c.lines.from)) (unread c.next.new.self (g.S.Streams.left c.next.new.from)) c.lines.lines.given c.offset.result c.lines.slots.items _
     (c.in_ok-next.ensures.too_long (ap Ok c.in-TooLong.is)) too_long_bad (c.offset.ensures ∙ c.in_ok-next.ensures.offset_too_long (ap Ok c.in-TooLong.is))
-    (early_so c.lines.lines c.next.new.self (g.S.Streams.left c.lines.from) (g.S.Streams.left c.next.new.from) c.in_ok-next.ensures.rest c.lines.invariant.counted c.in_ok-next.ensures.given c.in_ok-next.ensures.total c.in_ok-next.ensures.within) c.lines.invariant.progress
+    (early_so c.lines.lines c.next.new.self (g.S.Streams.left c.lines.from) (g.S.Streams.left c.next.new.from) c.in_ok-next.ensures.rest c.lines.invariant.counted c.in_ok-next.ensures.given c.in_ok-next.ensures.total (omega (arith, c.in_ok-next.ensures.within, c.lines.invariant.limited))) c.lines.invariant.progress
 
 pub returns-in_err-next-clause-ends : goal.returns-in_err-next-clause-ends
 returns-in_err-next-clause-ends g c =
     let f = c.in_err-next.field-0.0 in
+    let limited = c.lines.invariant.limited in
+    let N : ℕ → Type 0 = λ n. NoLineIn (n - c.lines.lines.given) (unread c.lines.lines (g.S.Streams.left c.lines.from)) in
     let stops = fault_so (g.S.Streams.left c.args.from.now) c.lines.lines c.next.new.self (g.S.Streams.left c.lines.from) (g.S.Streams.left c.next.new.from) c.lines.slots.items f
-    (λ h. c.lines.invariant.stands_in.whole (c.in_err-next.ensures.not_ended (ap Err h))) (λ h. c.in_err-next.ensures.read_before (ap Err h)) (λ h. c.in_err-next.ensures.past_before (ap Err h)) (λ h. c.in_err-next.ensures.past (ap Err h))
+    (λ h. c.lines.invariant.stands_in.whole (c.in_err-next.ensures.not_ended (ap Err h))) (λ h. c.in_err-next.ensures.read_before (ap Err h)) (λ h. subst N limited (c.in_err-next.ensures.past_before (ap Err h))) (λ h. omega (arith, c.in_err-next.ensures.past (ap Err h), limited))
     c.in_err-next.ensures.left_on_err c.lines.invariant.counted c.in_err-next.ensures.total c.lines.invariant.progress in
     let S : InputEnd → Type 0 = λ e. IfSome (g.S.Streams.left c.args.from.now) (λ input. Stops input (g.S.Streams.left c.next.new.from) e) in
     error_so _ _ c.from_residual-in_err-next.result c.from_residual-in_err-next.ensures.1 (λ e is. subst S (sym is) stops)
@@ -74,7 +77,7 @@ returns-in_err-add_line-in-Line-clause-ends g c =
     let told = same_line bytes bytes' c.line.result.now c.next.new.self.line c.line.ensures.line (c.in_ok-next.ensures.line (ap Ok c.in-Line.is)) in
     let at = c.offset-in-Line.ensures ∙ c.in_ok-next.ensures.offset (ap Ok c.in-Line.is) in
     let stops = not_added_so (g.S.Streams.left c.args.from.now) bytes bytes' (g.S.Streams.left c.next.new.from) c.lines.lines.given c.offset-in-Line.result c.lines.slots.items c.line.result.now e
-    told at (early_so c.lines.lines c.next.new.self (g.S.Streams.left c.lines.from) (g.S.Streams.left c.next.new.from) c.in_ok-next.ensures.rest c.lines.invariant.counted c.in_ok-next.ensures.given c.in_ok-next.ensures.total c.in_ok-next.ensures.within)
+    told at (early_so c.lines.lines c.next.new.self (g.S.Streams.left c.lines.from) (g.S.Streams.left c.next.new.from) c.in_ok-next.ensures.rest c.lines.invariant.counted c.in_ok-next.ensures.given c.in_ok-next.ensures.total (omega (arith, c.in_ok-next.ensures.within, c.lines.invariant.limited)))
     c.in_err-add_line-in-Line.ensures.ends c.lines.invariant.progress in
     let S : InputEnd → Type 0 = λ x. IfSome (g.S.Streams.left c.args.from.now) (λ input. Stops input (g.S.Streams.left c.next.new.from) x) in
     error_so _ _ c.from_residual-in_err-add_line-in-Line.result c.from_residual-in_err-add_line-in-Line.ensures.1 (λ x is. subst S (sym is) stops)
@@ -90,7 +93,8 @@ lines-preserved g c =
     record {
       usable = next.usable;
       counted = next.given;
-      within = next.within;
+      within = omega (arith, next.within, inv.limited);
+      limited = next.limit ∙ inv.limited;
       total = next.total ∙ inv.total;
       stands_in = next.stands (g.S.Streams.left c.args.from.now) inv.stands_in;
       values = values_so c.line.result.now c.lines.slots.items c.add_line.new.slots.items done inv.values;

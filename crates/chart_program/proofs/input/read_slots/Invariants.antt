@@ -12,6 +12,7 @@ invariant-lines g l = record {
   usable : IsTrue l.lines.usable;
   counted : l.lines.taken ≡ l.lines.given + length l.lines.pending;
   within : l.lines.given ≤ 2 ^ 32;
+  limited : l.lines.limit ≡ 2 ^ 32;
   total : input_length l.lines.taken (g.S.Streams.left l.from) ≡ input_length l.initial.lines.taken (g.S.Streams.left l.initial.from);
   stands_in : StandsIn (g.S.Streams.left l.initial.from) l.lines (g.S.Streams.left l.from);
   values : All IsSlot l.slots.items;

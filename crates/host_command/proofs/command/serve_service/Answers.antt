@@ -10,10 +10,11 @@ use Rattle.series_book.specs.declared.one_series.Series.{Series}
 use Rattle.series_store.specs.Shown as stored
 use Rattle.store_commands.proofs.Held.{RestsNew, rests_new}
 use Rattle.store_commands.specs.Traffic.{traffic}
-use Rattle.store_commands.specs.TrafficLaws.{was_read}
+use Rattle.store_commands.specs.TrafficLaws.{was_read_within}
 use Rattle.store_commands.proofs.Stores.{store_disk, store_sound}
 use Rattle.host_command.specs.Ended.{CostsFrom}
 use Rattle.hosted_lines.specs.Begun.{begun_live}
+use Rattle.hosted_lines.specs.Input.{most_bytes}
 use Rattle.host_command.specs.Ending.{Served}
 use Rattle.hosted_lines.proofs.DiskSides.{begins_so}
 use Rattle.host_command.proofs.DiskLemmas.{costs_from, served_by}
@@ -50,7 +51,7 @@ returns-clause-serves g c =
     let R : Service _ _ → Type 0 = λ s. RestsNew (shown.pages s).count (view (shown.pages s).disk) in
     let rests : RestsNew pages.count (view disk) = subst R (sym is_service) (rests_new (shown.pages service).count (view (shown.pages service).disk) (stored.numbers service.store) ((shown.pages service).at_rest c.requires.sound) (service.store.space.spelled c.requires.sound)) in
     let all = served_by pages.count end_pages.count pages.sound end_pages.sound (view disk) (view new) (traffic left sent reads sends disk new) made.goes rests (its.state start) begins
-    end (λ done. was_read (left disk) (left new) (made.within done) (made.whole done)) made.long made.cause made.ends made.crash closed in
+    end (λ done. was_read_within most_bytes (left disk) (left new) (made.within done) (made.whole done)) made.long made.cause made.ends made.crash closed in
     let D : g.row.W.Denot → Type 0 = λ d. Served pages.count (view disk) (view d) (traffic left sent reads sends disk d) end in
     let S : Service _ _ → Type 0 = λ s. Served (shown.pages s).count (view (shown.pages s).disk) (view c.disk_of.result) (traffic left sent reads sends (shown.pages s).disk c.disk_of.result) end in
     subst S is_service (subst D (sym same_disk) all)
@@ -78,7 +79,7 @@ returns-clause-costs g c =
     let rests : RestsNew pages.count (view disk) = subst R (sym is_service) (rests_new (shown.pages service).count (view (shown.pages service).disk) (stored.numbers service.store) ((shown.pages service).at_rest c.requires.sound) (service.store.space.spelled c.requires.sound)) in
     let D : g.row.W.Denot → Type 0 = λ d. IfSome (left disk) (λ input. CostsFrom pages.count (view disk) (view d) input (view disk).reads (view disk).syncs) in
     let S : Service _ _ → Type 0 = λ s. IfSome (left (shown.pages s).disk) (λ input. CostsFrom (shown.pages s).count (view (shown.pages s).disk) (view c.disk_of.result) input (view (shown.pages s).disk).reads (view (shown.pages s).disk).syncs) in
-    subst S is_service (subst D (sym same_disk) (costs_from pages.count (view disk) (view new) rests (left disk) (its.state start) begins made.costs))
+    subst S is_service (subst D (sym same_disk) (costs_from pages.count (view disk) (view new) (g.W.Streams.pieces disk) (g.W.Streams.pieces new) (g.met.W.World.beside_pieces disk) (g.met.W.World.beside_pieces new) rests (left disk) (its.state start) begins made.costs))
 
 pub returns-clause-faults : goal.returns-clause-faults
 returns-clause-faults g c =

@@ -13,7 +13,7 @@ returns-in-List-clause-does g c = λ lines spell total book told stands sound.
     let line = c.args.line.now in
     let old = c.args.live.now in
     let new = c.answer_asked.new.live in
-    lines_so (lines ++ Some line ∷ []) (lines ++ unless_empty (Some line)) total (held_with total book (held_by old)) c.answer_asked.result (view (pages old)) (view (pages new)) (held_by new) (sent (pages old)) (sent (pages new))
+    lines_so 1 (lines ++ Some line ∷ []) (lines ++ unless_empty (Some line)) total (held_with total book (held_by old)) c.answer_asked.result (view (pages old)) (view (pages new)) (held_by new) (sent (pages old)) (sent (pages new))
     (ap (λ l. lines ++ l) (sym (said (Some line) (says_text line c.requires.some))))
     (c.answer_asked.ensures.does line (sym c.requires.asks) lines spell total book told stands sound)
 
@@ -24,6 +24,6 @@ returns-in-Sweep-clause-does g c = λ lines spell total book told stands sound.
     let line = c.args.line.now in
     let old = c.args.live.now in
     let new = c.answer_step.new.live in
-    lines_so (lines ++ Some line ∷ []) (lines ++ unless_empty (Some line)) total (held_with total book (held_by old)) c.answer_step.result (view (pages old)) (view (pages new)) (held_by new) (sent (pages old)) (sent (pages new))
+    lines_so 1 (lines ++ Some line ∷ []) (lines ++ unless_empty (Some line)) total (held_with total book (held_by old)) c.answer_step.result (view (pages old)) (view (pages new)) (held_by new) (sent (pages old)) (sent (pages new))
     (ap (λ l. lines ++ l) (sym (said (Some line) (says_text line c.requires.some))))
     (c.answer_step.ensures.does line (sym c.requires.asks ∙ c.in-Sweep.is) lines spell total book told stands sound)

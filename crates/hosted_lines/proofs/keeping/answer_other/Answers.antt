@@ -22,7 +22,7 @@ returns-in-Ok-clause-does g c = λ lines spell total book told stands sound.
     let second = e.does total first.done.book (c.in-Ok.ensures.goes.is_told told) first.done.stands first.done.sound in
     let none : edits_of more ≡ [] = no_edits c.args.line.now c.requires.other in
     let same : (view (pages new)).syncs ≡ (view (pages mid)).syncs = omega (arith, e.syncs, e.rises, ap length none) in
-    host_then lines more total (held_with total book (held_by old)) (held_by mid) (held_by new) (view (pages old)) (view (pages mid)) (view (pages new)) (sent (pages old)) (sent (pages mid)) (sent (pages new)) first.done
+    host_then 1 0 lines more total (held_with total book (held_by old)) (held_by mid) (held_by new) (view (pages old)) (view (pages mid)) (view (pages new)) (sent (pages old)) (sent (pages mid)) (sent (pages new)) first.done
     (w.counts_sent (pages old)) (w.counts_sent (pages mid)) first.moments c.answer_line.result
     (live_does more (passed_line c.args.line.now c.requires.passed) total (held_with total first.done.book (held_by mid)) c.answer_line.result (view (pages mid)) (view (pages new)) (held_by new) (sent (pages mid)) (sent (pages new)) same second)
 
@@ -32,5 +32,5 @@ returns-in-Err-clause-does g c = λ lines spell total book told stands sound.
     let sent = g.P.Streams.sent in
     let old = c.args.live.now in
     let new = c.settle.new.live in
-    fails_wide lines (unless_empty (Some c.args.line.now)) total (held_with total book (held_by old)) c.in-Err.end (view (pages old)) (view (pages new)) (held_by new) (sent (pages old)) (sent (pages new))
+    fails_wide 1 lines (unless_empty (Some c.args.line.now)) total (held_with total book (held_by old)) c.in-Err.end (view (pages old)) (view (pages new)) (held_by new) (sent (pages old)) (sent (pages new))
     (c.in-Err.ensures.does lines spell total book told stands sound)

@@ -15,7 +15,7 @@ returns-in-Ok-clause-does g c = λ lines spell total book told stands sound.
     let first = c.in-Ok.ensures.does lines spell total book told stands sound in
     let e = c.refuse_line.ensures in
     let second = e.does total first.done.book (c.in-Ok.ensures.goes.is_told told) first.done.stands first.done.sound in
-    host_then lines (None ∷ []) total (held_with total book (held_by old)) (held_by mid) (held_by new) (view (pages old)) (view (pages mid)) (view (pages new)) (sent (pages old)) (sent (pages mid)) (sent (pages new)) first.done
+    host_then 1 0 lines (None ∷ []) total (held_with total book (held_by old)) (held_by mid) (held_by new) (view (pages old)) (view (pages mid)) (view (pages new)) (sent (pages old)) (sent (pages mid)) (sent (pages new)) first.done
     (w.counts_sent (pages old)) (w.counts_sent (pages mid)) first.moments c.refuse_line.result
     (live_does (None ∷ []) (tt, tt) total (held_with total first.done.book (held_by mid)) c.refuse_line.result (view (pages mid)) (view (pages new)) (held_by new) (sent (pages mid)) (sent (pages new)) e.syncs second)
 
@@ -25,5 +25,5 @@ returns-in-Err-clause-does g c = λ lines spell total book told stands sound.
     let sent = g.P.Streams.sent in
     let old = c.args.live.now in
     let new = c.settle.new.live in
-    fails_wide lines (None ∷ []) total (held_with total book (held_by old)) c.in-Err.end (view (pages old)) (view (pages new)) (held_by new) (sent (pages old)) (sent (pages new))
+    fails_wide 1 lines (None ∷ []) total (held_with total book (held_by old)) c.in-Err.end (view (pages old)) (view (pages new)) (held_by new) (sent (pages old)) (sent (pages new))
     (c.in-Err.ensures.does lines spell total book told stands sound)

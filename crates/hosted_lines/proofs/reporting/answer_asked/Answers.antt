@@ -14,7 +14,7 @@ returns-in-Ok-clause-does g c = λ line asks lines spell total book told stands 
     let new = c.send_report.new.live in
     let first = c.in-Ok.ensures.does lines spell total book told stands sound in
     let second = c.send_report.ensures.does line asks total first.done.book (c.in-Ok.ensures.goes.is_told told) first.done.stands first.done.sound in
-    host_then lines (Some line ∷ []) total (held_with total book (held_by old)) (held_by mid) (held_by new) (view (pages old)) (view (pages mid)) (view (pages new)) (sent (pages old)) (sent (pages mid)) (sent (pages new)) first.done
+    host_then 1 0 lines (Some line ∷ []) total (held_with total book (held_by old)) (held_by mid) (held_by new) (view (pages old)) (view (pages mid)) (view (pages new)) (sent (pages old)) (sent (pages mid)) (sent (pages new)) first.done
     (w.counts_sent (pages old)) (w.counts_sent (pages mid)) first.moments c.send_report.result second
 
 pub returns-in-Err-clause-does : goal.returns-in-Err-clause-does
@@ -23,5 +23,5 @@ returns-in-Err-clause-does g c = λ line asks lines spell total book told stands
     let sent = g.P.Streams.sent in
     let old = c.args.live.now in
     let new = c.settle.new.live in
-    fails_wide lines (Some line ∷ []) total (held_with total book (held_by old)) c.in-Err.end (view (pages old)) (view (pages new)) (held_by new) (sent (pages old)) (sent (pages new))
+    fails_wide 1 lines (Some line ∷ []) total (held_with total book (held_by old)) c.in-Err.end (view (pages old)) (view (pages new)) (held_by new) (sent (pages old)) (sent (pages new))
     (c.in-Err.ensures.does lines spell total book told stands sound)

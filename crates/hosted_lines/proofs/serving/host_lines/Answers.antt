@@ -1,4 +1,4 @@
-use Rattle.std.proofs.Common.{rules, List, ◌≡◌, ◌≢◌, ◌≤◌, ◌<◌, ◌^◌, [], IfSome, length, refl, subst, sym}
+use Rattle.std.proofs.Common.{rules, List, ◌≡◌, ◌≢◌, ◌≤◌, ◌<◌, [], IfSome, length, refl, subst, sym}
 use Rattle.chart_service.specs.EditGroups.{SpellEdits}
 use Rattle.chart_service.specs.Shown as shown
 use Rattle.series_book.specs.declared.edits.Edit.{Edit}
@@ -11,6 +11,7 @@ use Rattle.run_ends.specs.declared.ending.End.{End}
 use Rattle.run_ends.specs.declared.ending.End.TheVariants.{Done, DiskFault, InputTooLong}
 use Rattle.hosted_lines.specs.Doing.{held_by, side_of}
 use Rattle.hosted_lines.specs.HostCauses.{IsHostCause}
+use Rattle.hosted_lines.specs.Input.{most_bytes}
 use Rattle.hosted_lines.specs.Served.{EndsOn}
 use Rattle.hosted_lines.specs.Shown.{pages}
 use Rattle.hosted_lines.specs.Working.{CausesEnd, IsHosted}
@@ -30,7 +31,7 @@ returns-in_default-clause-crash g c = λ total book told stands.
 pub returns-in_default-clause-costs : goal.returns-in_default-clause-costs
 returns-in_default-clause-costs g c = λ total book told stands.
     let view = its.view c.args.live.now in
-    none_costs total book (held_by c.args.live.now) (g.P.Streams.left (pages c.args.live.now)) view.reads view.syncs
+    none_costs total book (held_by c.args.live.now) (g.P.Streams.left (pages c.args.live.now)) (g.P.Streams.pieces (pages c.args.live.now)) (g.P.Streams.pieces (pages c.args.live.now)) view.reads view.syncs
 
 pub returns-clause-ends : goal.returns-clause-ends
 returns-clause-ends g c = λ total book told stands.
@@ -89,7 +90,7 @@ pub returns-clause-within : goal.returns-clause-within
 returns-clause-within g c =
     let side = side_of g.P.Streams in
     let e = c.run_lines-answer.ensures in
-    let W : End → Type 0 = λ end. end ≡ Done → IfSome (g.P.Streams.left (pages c.args.live.now)) (λ input. length input ≤ 2 ^ 32) in
+    let W : End → Type 0 = λ end. end ≡ Done → IfSome (g.P.Streams.left (pages c.args.live.now)) (λ input. length input ≤ most_bytes) in
     subst W (sym c.run_end.ensures)
     (came_to_end (λ end s s'. CausesEnd end (side s) (side s')) c.args.live.now c.run_lines-answer.new.from c.run_lines-answer.result (λ none. none.cause) e.within e.cause)
 
@@ -110,7 +111,7 @@ returns-clause-long g c =
     let old = c.args.live.now in
     let new = c.run_lines-answer.new.from in
     let e = c.run_lines-answer.ensures in
-    let L : End → Type 0 = λ end. end ≡ InputTooLong → IfSome (g.P.Streams.left (pages old)) (λ input. 2 ^ 32 < length input) in
+    let L : End → Type 0 = λ end. end ≡ InputTooLong → IfSome (g.P.Streams.left (pages old)) (λ input. most_bytes < length input) in
     subst L (sym c.run_end.ensures)
     (input_long (λ end s s'. CausesEnd end (side s) (side s')) old new c.run_lines-answer.result (λ never. never.within refl) e.long e.cause)
 

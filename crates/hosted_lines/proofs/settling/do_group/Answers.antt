@@ -12,8 +12,8 @@ returns-then-is_empty-clause-does g c = λ lines spell total book told stands so
     let at = pages c.args.live.now in
     let held = held_by c.args.live.now in
     let none : length c.args.edits.now ≡ 0 = grind (arith, common_steps) in
-    lines_so [] lines total (held_with total book held) _ (g.P.Pages.view at) (g.P.Pages.view at) held (g.P.Streams.sent at) (g.P.Streams.sent at) (sym (spell_none lines c.args.edits.now none spell))
-    (none_hosts _ total book held (g.P.Pages.view at) (g.P.Streams.sent at) stands sound)
+    lines_so 1 [] lines total (held_with total book held) _ (g.P.Pages.view at) (g.P.Pages.view at) held (g.P.Streams.sent at) (g.P.Streams.sent at) (sym (spell_none lines c.args.edits.now none spell))
+    (none_hosts 1 _ total book held (g.P.Pages.view at) (g.P.Streams.sent at) stands sound)
 
 pub returns-in-Ok-clause-does : goal.returns-in-Ok-clause-does
 returns-in-Ok-clause-does g c = λ lines spell total book told stands sound.
@@ -25,7 +25,7 @@ returns-in-Ok-clause-does g c = λ lines spell total book told stands sound.
     let new = c.send_pushes.new.live in
     let first = c.in-Ok.ensures.does lines spell total book told stands sound in
     let second = c.send_pushes.ensures.does total first.done.book (c.in-Ok.ensures.goes.is_told told) first.done.stands first.done.sound in
-    lines_so _ lines total (held_with total book (held_by old)) c.send_pushes.result (view (pages old)) (view (pages new)) (held_by new) (sent (pages old)) (sent (pages new)) (append-nil lines)
-    (host_then lines [] total (held_with total book (held_by old)) (held_by mid) (held_by new) (view (pages old)) (view (pages mid)) (view (pages new)) (sent (pages old)) (sent (pages mid)) (sent (pages new)) first.done
+    lines_so 1 _ lines total (held_with total book (held_by old)) c.send_pushes.result (view (pages old)) (view (pages new)) (held_by new) (sent (pages old)) (sent (pages new)) (append-nil lines)
+    (host_then 1 0 lines [] total (held_with total book (held_by old)) (held_by mid) (held_by new) (view (pages old)) (view (pages mid)) (view (pages new)) (sent (pages old)) (sent (pages mid)) (sent (pages new)) first.done
     (w.counts_sent (pages old)) (w.counts_sent (pages mid)) first.moments c.send_pushes.result
     (live_does [] tt total (held_with total first.done.book (held_by mid)) c.send_pushes.result (view (pages mid)) (view (pages new)) (held_by new) (sent (pages mid)) (sent (pages new)) c.send_pushes.ensures.syncs second))

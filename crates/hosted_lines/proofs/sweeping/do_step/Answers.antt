@@ -14,6 +14,6 @@ returns-in-Ok-clause-does g c = λ line asks total book told stands sound.
     let new = c.send_pushes.new.live in
     let first = c.in-Ok.ensures.does line asks total book told stands sound in
     let second = c.send_pushes.ensures.does total first.done.book (c.in-Ok.ensures.goes.is_told told) first.done.stands first.done.sound in
-    host_then (Some line ∷ []) [] total (held_with total book (held_by old)) (held_by mid) (held_by new) (view (pages old)) (view (pages mid)) (view (pages new)) (sent (pages old)) (sent (pages mid)) (sent (pages new)) first.done
+    host_then 0 0 (Some line ∷ []) [] total (held_with total book (held_by old)) (held_by mid) (held_by new) (view (pages old)) (view (pages mid)) (view (pages new)) (sent (pages old)) (sent (pages mid)) (sent (pages new)) first.done
     (w.counts_sent (pages old)) (w.counts_sent (pages mid)) first.moments c.send_pushes.result
     (live_does [] tt total (held_with total first.done.book (held_by mid)) c.send_pushes.result (view (pages mid)) (view (pages new)) (held_by new) (sent (pages mid)) (sent (pages new)) c.send_pushes.ensures.syncs second)

@@ -1,8 +1,8 @@
-use Rattle.std.proofs.Common.{◌≡◌, ◌∙◌, ℕ, List, Option, None, Some, Ok, Err, IsTrue, ◌^◌, length, refl, ap, sym, subst, arith}
+use Rattle.std.proofs.Common.{◌≡◌, ◌∙◌, ◌-◌, ℕ, List, Option, None, Some, Ok, Err, IsTrue, ◌^◌, length, refl, ap, sym, subst, arith}
 use Rattle.chart_world.specs.FrontLaws.{gives_by, longer, read_up, read_whole, same_line}
 use Rattle.chart_world.specs.Fronts.{Gives}
 use Rattle.chart_world.specs.StandsLaws.{stands_beside, stands_first}
-use Rattle.chart_world.specs.Reading.{Reading, input_length, unread}
+use Rattle.chart_world.specs.Reading.{NoLineIn, Reading, input_length, unread}
 use Rattle.live_service.specs.Shown as its
 use Rattle.chart_service.proofs.Outcomes.{ok_err}
 use Rattle.hosted_lines.specs.GoesLaws.{cause_later, goes_further, goes_nowhere, goes_streams, held_same}
@@ -37,6 +37,7 @@ lines-init g c =
       usable = subst U (sym fresh) refl;
       counted = omega (arith, ap (λ (r : Reading). r.taken) fresh, ap (λ (r : Reading). r.given) fresh, ap (λ (r : Reading). length r.pending) fresh);
       within = omega (arith, ap (λ (r : Reading). r.given) fresh);
+      limited = ap (λ (r : Reading). r.limit) fresh;
       whole = ap (λ (r : Reading). input_length r.taken o) fresh;
       stands_in = stands_first o c.args.lines.now fresh;
       sound = c.requires.sound;
@@ -68,7 +69,8 @@ returns-in-Err-clause-stops g c = λ total book told stands.
     let state = its.state start total book in
     let far = far_kept (left first) (unread c.lines.lines (left mid)) c.lines.lines.given total state (view mid).image (view taken).image (held_by c.lines.live) (held_by c.next.new.from) (sent first) (sent mid) (sent taken) kept.image same c.next.ensures.sent (inv.far total book told stands) in
     let E : _ → Type 0 = λ end. EndsOn g.P.Streams total book start c.next.new.from end in
-    subst E (sym c.input_end.ensures) (fault_on (left first) total state (view taken).image (held_by c.next.new.from) (sent first) (sent taken) (beside.pending_same ∙ inv.idle) c.lines.lines c.next.new.self (left mid) (left taken) c.in-Err.fault inv.within (λ h. inv.stands_in.whole (no.not_ended (ap Err h))) (λ h. no.read_before (ap Err h)) (λ h. no.past_before (ap Err h)) (λ h. no.past (ap Err h)) no.left_on_err inv.counted no.total far)
+    let N : ℕ → Type 0 = λ n. NoLineIn (n - c.lines.lines.given) (unread c.lines.lines (left mid)) in
+    subst E (sym c.input_end.ensures) (fault_on (left first) total state (view taken).image (held_by c.next.new.from) (sent first) (sent taken) (beside.pending_same ∙ inv.idle) c.lines.lines c.next.new.self (left mid) (left taken) c.in-Err.fault inv.within (λ h. inv.stands_in.whole (no.not_ended (ap Err h))) (λ h. no.read_before (ap Err h)) (λ h. subst N inv.limited (no.past_before (ap Err h))) (λ h. omega (arith, no.past (ap Err h), inv.limited)) no.left_on_err inv.counted no.total far)
 
 pub returns-in-Err-clause-crash : goal.returns-in-Err-clause-crash
 returns-in-Err-clause-crash g c = λ total book told stands.
@@ -118,7 +120,7 @@ returns-in-Err-clause-long g c = λ same.
     let left = g.P.Streams.left in
     let no = c.in-Err.ensures in
     longer (left (pages c.args.live.now)) (left (pages c.next.new.from)) c.next.new.self.taken (2 ^ 32)
-    (no.past (ap Err (input_long_is c.in-Err.fault c.input_end.result c.input_end.ensures same))) (no.total ∙ c.lines.invariant.whole)
+    (omega (arith, no.past (ap Err (input_long_is c.in-Err.fault c.input_end.result c.input_end.ensures same)), c.lines.invariant.limited)) (no.total ∙ c.lines.invariant.whole)
 
 pub returns-in-End-clause-crash : goal.returns-in-End-clause-crash
 returns-in-End-clause-crash g c = λ total book told stands.
@@ -160,7 +162,8 @@ lines-preserved-in-Ok-refuse_line g c =
     record {
       usable = e.usable;
       counted = e.given;
-      within = e.within;
+      within = omega (arith, e.within, inv.limited);
+      limited = c.next.ensures.limit ∙ inv.limited;
       whole = subst U (sym it.left) (e.total ∙ inv.whole);
       stands_in = stands_beside (left first) (left taken) (left new) c.next.new.self it.left (e.stands (left first) inv.stands_in);
       sound = it.sound (ok_err _ _);
@@ -172,7 +175,7 @@ lines-preserved-in-Ok-refuse_line g c =
           let state = its.state start total book in
           let far = far_kept (left first) (unread c.lines.lines (left mid)) c.lines.lines.given total state (view mid).image (view taken).image (held_by c.lines.live) (held_by c.next.new.from) (sent first) (sent mid) (sent taken) kept.image same c.next.ensures.sent (inv.far total book told stands) in
           let F : Option (List ℕ) → Type 0 = λ l. Far (left first) (unread c.next.new.self l) c.next.new.self.given total state (view new).image (held_by c.refuse_line.new.live) (sent first) (sent new) in
-          subst F (sym it.left) (far_line c.lines.lines c.next.new.self (left mid) (left taken) line gives e.within total state (held_by c.next.new.from) (held_by c.refuse_line.new.live) (view taken) (view new) (sent first) (sent taken) (sent new) c.in-Ok-refuse_line.field-0 (left first) (λ between there sound. it.does total between (goes.is_told told) there sound) far);
+          subst F (sym it.left) (far_line c.lines.lines c.next.new.self (left mid) (left taken) line gives (omega (arith, e.within, inv.limited)) total state (held_by c.next.new.from) (held_by c.refuse_line.new.live) (view taken) (view new) (sent first) (sent taken) (sent new) c.in-Ok-refuse_line.field-0 (left first) (λ between there sound. it.does total between (goes.is_told told) there sound) far);
       synced =
           let F : Option (List ℕ) → Type 0 = λ l. FarSynced (left first) (unread c.next.new.self l) c.next.new.self.given (view first).syncs (view new).syncs in
           subst F (sym it.left) (far_synced_line (left first) c.lines.lines c.next.new.self (left mid) (left taken) line gives (view first).syncs (view taken).syncs (view new).syncs (none_syncs (edits_of (unless_empty line)) (view taken).syncs (view new).syncs it.syncs) (far_synced_kept (left first) (unread c.lines.lines (left mid)) c.lines.lines.given (view first).syncs (view mid).syncs (view taken).syncs kept.syncs inv.synced));
@@ -185,7 +188,7 @@ lines-preserved-in-Ok-refuse_line g c =
           let state = its.state start total book in
           let far = far_kept (left first) (unread c.lines.lines (left mid)) c.lines.lines.given total state (view mid).image (view taken).image (held_by c.lines.live) (held_by c.next.new.from) (sent first) (sent mid) (sent taken) kept.image same c.next.ensures.sent (inv.far total book told stands) in
           let since = lasts_on_take (left first) (unread c.lines.lines (left mid)) c.lines.lines.given total state (held_by c.lines.live) (sent first) (sent mid) (view first) (view mid) (view taken) (w.counts_sent first) (w.counts_sent mid) (g.met.P.Pages.rests mid inv.sound) (w.take_passes mid taken takes) (inv.far total book told stands) (inv.lasts total book told stands) in
-          lasts_on_line c.lines.lines c.next.new.self (left mid) (left taken) line gives e.within total state (held_by c.next.new.from) (held_by c.refuse_line.new.live) (view taken) (view new) (sent first) (sent taken) (sent new) _ (left first) (view first) (w.counts_sent first) (w.counts_sent taken) (λ between there sound. it.does total between (goes.is_told told) there sound) far since;
+          lasts_on_line c.lines.lines c.next.new.self (left mid) (left taken) line gives (omega (arith, e.within, inv.limited)) total state (held_by c.next.new.from) (held_by c.refuse_line.new.live) (view taken) (view new) (sent first) (sent taken) (sent new) _ (left first) (view first) (w.counts_sent first) (w.counts_sent taken) (λ between there sound. it.does total between (goes.is_told told) there sound) far since;
     }
 
 pub returns-in-Err-refuse_line-clause-stops : goal.returns-in-Err-refuse_line-clause-stops
@@ -213,7 +216,7 @@ returns-in-Err-refuse_line-clause-stops g c = λ total book told stands.
     let goes = goes_further (side start) (side c.lines.live) (side c.next.new.from) inv.goes (goes_streams (side c.lines.live) (side c.next.new.from) kept (w.take_told mid taken takes) (w.take_was_told mid taken takes) (w.take_goes_on mid taken takes) c.next.ensures.read_faults (omega (arith, c.next.ensures.send_faults))) in
     let state = its.state start total book in
     let far = far_kept (left first) (unread c.lines.lines (left mid)) c.lines.lines.given total state (view mid).image (view taken).image (held_by c.lines.live) (held_by c.next.new.from) (sent first) (sent mid) (sent taken) kept.image same c.next.ensures.sent (inv.far total book told stands) in
-    line_stops c.lines.lines c.next.new.self (left mid) (left taken) line gives e.within total state (held_by c.next.new.from) (held_by c.refuse_line.new.live) (view taken) (view new) (sent first) (sent taken) (sent new) c.in-Err-refuse_line.end (left first) (left new) (λ between there sound. it.does total between (goes.is_told told) there sound) far
+    line_stops c.lines.lines c.next.new.self (left mid) (left taken) line gives (omega (arith, e.within, inv.limited)) total state (held_by c.next.new.from) (held_by c.refuse_line.new.live) (view taken) (view new) (sent first) (sent taken) (sent new) c.in-Err-refuse_line.end (left first) (left new) (λ between there sound. it.does total between (goes.is_told told) there sound) far
 
 pub returns-in-Err-refuse_line-clause-crash : goal.returns-in-Err-refuse_line-clause-crash
 returns-in-Err-refuse_line-clause-crash g c = λ total book told stands.
@@ -241,7 +244,7 @@ returns-in-Err-refuse_line-clause-crash g c = λ total book told stands.
     let state = its.state start total book in
     let far = far_kept (left first) (unread c.lines.lines (left mid)) c.lines.lines.given total state (view mid).image (view taken).image (held_by c.lines.live) (held_by c.next.new.from) (sent first) (sent mid) (sent taken) kept.image same c.next.ensures.sent (inv.far total book told stands) in
     let since = lasts_on_take (left first) (unread c.lines.lines (left mid)) c.lines.lines.given total state (held_by c.lines.live) (sent first) (sent mid) (view first) (view mid) (view taken) (w.counts_sent first) (w.counts_sent mid) (g.met.P.Pages.rests mid inv.sound) (w.take_passes mid taken takes) (inv.far total book told stands) (inv.lasts total book told stands) in
-    lasts_on_line c.lines.lines c.next.new.self (left mid) (left taken) line gives e.within total state (held_by c.next.new.from) (held_by c.refuse_line.new.live) (view taken) (view new) (sent first) (sent taken) (sent new) _ (left first) (view first) (w.counts_sent first) (w.counts_sent taken) (λ between there sound. it.does total between (goes.is_told told) there sound) far since
+    lasts_on_line c.lines.lines c.next.new.self (left mid) (left taken) line gives (omega (arith, e.within, inv.limited)) total state (held_by c.next.new.from) (held_by c.refuse_line.new.live) (view taken) (view new) (sent first) (sent taken) (sent new) _ (left first) (view first) (w.counts_sent first) (w.counts_sent taken) (λ between there sound. it.does total between (goes.is_told told) there sound) far since
 
 pub returns-in-Err-refuse_line-clause-goes : goal.returns-in-Err-refuse_line-clause-goes
 returns-in-Err-refuse_line-clause-goes g c =
@@ -308,7 +311,8 @@ lines-preserved g c =
     record {
       usable = e.usable;
       counted = e.given;
-      within = e.within;
+      within = omega (arith, e.within, inv.limited);
+      limited = c.next.ensures.limit ∙ inv.limited;
       whole = subst U (sym it.left) (e.total ∙ inv.whole);
       stands_in = stands_beside (left first) (left taken) (left new) c.next.new.self it.left (e.stands (left first) inv.stands_in);
       sound = it.sound (ok_err _ _);
@@ -320,7 +324,7 @@ lines-preserved g c =
           let state = its.state start total book in
           let far = far_kept (left first) (unread c.lines.lines (left mid)) c.lines.lines.given total state (view mid).image (view taken).image (held_by c.lines.live) (held_by c.next.new.from) (sent first) (sent mid) (sent taken) kept.image same c.next.ensures.sent (inv.far total book told stands) in
           let F : Option (List ℕ) → Type 0 = λ l. Far (left first) (unread c.next.new.self l) c.next.new.self.given total state (view new).image (held_by c.answer_line.new.live) (sent first) (sent new) in
-          subst F (sym it.left) (far_line c.lines.lines c.next.new.self (left mid) (left taken) line gives e.within total state (held_by c.next.new.from) (held_by c.answer_line.new.live) (view taken) (view new) (sent first) (sent taken) (sent new) c.in-Ok-answer_line.field-0 (left first) (λ between there sound. it.does total between (goes.is_told told) there sound) far);
+          subst F (sym it.left) (far_line c.lines.lines c.next.new.self (left mid) (left taken) line gives (omega (arith, e.within, inv.limited)) total state (held_by c.next.new.from) (held_by c.answer_line.new.live) (view taken) (view new) (sent first) (sent taken) (sent new) c.in-Ok-answer_line.field-0 (left first) (λ between there sound. it.does total between (goes.is_told told) there sound) far);
       synced =
           let F : Option (List ℕ) → Type 0 = λ l. FarSynced (left first) (unread c.next.new.self l) c.next.new.self.given (view first).syncs (view new).syncs in
           subst F (sym it.left) (far_synced_line (left first) c.lines.lines c.next.new.self (left mid) (left taken) line gives (view first).syncs (view taken).syncs (view new).syncs (it.syncs) (far_synced_kept (left first) (unread c.lines.lines (left mid)) c.lines.lines.given (view first).syncs (view mid).syncs (view taken).syncs kept.syncs inv.synced));
@@ -333,7 +337,7 @@ lines-preserved g c =
           let state = its.state start total book in
           let far = far_kept (left first) (unread c.lines.lines (left mid)) c.lines.lines.given total state (view mid).image (view taken).image (held_by c.lines.live) (held_by c.next.new.from) (sent first) (sent mid) (sent taken) kept.image same c.next.ensures.sent (inv.far total book told stands) in
           let since = lasts_on_take (left first) (unread c.lines.lines (left mid)) c.lines.lines.given total state (held_by c.lines.live) (sent first) (sent mid) (view first) (view mid) (view taken) (w.counts_sent first) (w.counts_sent mid) (g.met.P.Pages.rests mid inv.sound) (w.take_passes mid taken takes) (inv.far total book told stands) (inv.lasts total book told stands) in
-          lasts_on_line c.lines.lines c.next.new.self (left mid) (left taken) line gives e.within total state (held_by c.next.new.from) (held_by c.answer_line.new.live) (view taken) (view new) (sent first) (sent taken) (sent new) _ (left first) (view first) (w.counts_sent first) (w.counts_sent taken) (λ between there sound. it.does total between (goes.is_told told) there sound) far since;
+          lasts_on_line c.lines.lines c.next.new.self (left mid) (left taken) line gives (omega (arith, e.within, inv.limited)) total state (held_by c.next.new.from) (held_by c.answer_line.new.live) (view taken) (view new) (sent first) (sent taken) (sent new) _ (left first) (view first) (w.counts_sent first) (w.counts_sent taken) (λ between there sound. it.does total between (goes.is_told told) there sound) far since;
     }
 
 pub returns-in-Err-answer_line-clause-stops : goal.returns-in-Err-answer_line-clause-stops
@@ -362,7 +366,7 @@ returns-in-Err-answer_line-clause-stops g c = λ total book told stands.
     let goes = goes_further (side start) (side c.lines.live) (side c.next.new.from) inv.goes (goes_streams (side c.lines.live) (side c.next.new.from) kept (w.take_told mid taken takes) (w.take_was_told mid taken takes) (w.take_goes_on mid taken takes) c.next.ensures.read_faults (omega (arith, c.next.ensures.send_faults))) in
     let state = its.state start total book in
     let far = far_kept (left first) (unread c.lines.lines (left mid)) c.lines.lines.given total state (view mid).image (view taken).image (held_by c.lines.live) (held_by c.next.new.from) (sent first) (sent mid) (sent taken) kept.image same c.next.ensures.sent (inv.far total book told stands) in
-    line_stops c.lines.lines c.next.new.self (left mid) (left taken) line gives e.within total state (held_by c.next.new.from) (held_by c.answer_line.new.live) (view taken) (view new) (sent first) (sent taken) (sent new) c.in-Err-answer_line.end (left first) (left new) (λ between there sound. it.does total between (goes.is_told told) there sound) far
+    line_stops c.lines.lines c.next.new.self (left mid) (left taken) line gives (omega (arith, e.within, inv.limited)) total state (held_by c.next.new.from) (held_by c.answer_line.new.live) (view taken) (view new) (sent first) (sent taken) (sent new) c.in-Err-answer_line.end (left first) (left new) (λ between there sound. it.does total between (goes.is_told told) there sound) far
 
 pub returns-in-Err-answer_line-clause-crash : goal.returns-in-Err-answer_line-clause-crash
 returns-in-Err-answer_line-clause-crash g c = λ total book told stands.
@@ -391,7 +395,7 @@ returns-in-Err-answer_line-clause-crash g c = λ total book told stands.
     let state = its.state start total book in
     let far = far_kept (left first) (unread c.lines.lines (left mid)) c.lines.lines.given total state (view mid).image (view taken).image (held_by c.lines.live) (held_by c.next.new.from) (sent first) (sent mid) (sent taken) kept.image same c.next.ensures.sent (inv.far total book told stands) in
     let since = lasts_on_take (left first) (unread c.lines.lines (left mid)) c.lines.lines.given total state (held_by c.lines.live) (sent first) (sent mid) (view first) (view mid) (view taken) (w.counts_sent first) (w.counts_sent mid) (g.met.P.Pages.rests mid inv.sound) (w.take_passes mid taken takes) (inv.far total book told stands) (inv.lasts total book told stands) in
-    lasts_on_line c.lines.lines c.next.new.self (left mid) (left taken) line gives e.within total state (held_by c.next.new.from) (held_by c.answer_line.new.live) (view taken) (view new) (sent first) (sent taken) (sent new) _ (left first) (view first) (w.counts_sent first) (w.counts_sent taken) (λ between there sound. it.does total between (goes.is_told told) there sound) far since
+    lasts_on_line c.lines.lines c.next.new.self (left mid) (left taken) line gives (omega (arith, e.within, inv.limited)) total state (held_by c.next.new.from) (held_by c.answer_line.new.live) (view taken) (view new) (sent first) (sent taken) (sent new) _ (left first) (view first) (w.counts_sent first) (w.counts_sent taken) (λ between there sound. it.does total between (goes.is_told told) there sound) far since
 
 pub returns-in-Err-answer_line-clause-goes : goal.returns-in-Err-answer_line-clause-goes
 returns-in-Err-answer_line-clause-goes g c =

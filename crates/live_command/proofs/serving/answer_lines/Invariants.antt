@@ -22,6 +22,7 @@ invariant-lines g l =
       usable : IsTrue l.lines.usable;
       counted : l.lines.taken ≡ l.lines.given + length l.lines.pending;
       within : l.lines.given ≤ 2 ^ 32;
+      limited : l.lines.limit ≡ 2 ^ 32;
       whole : input_length l.lines.taken (left (pages live)) ≡ input_length 0 (left (pages first));
       stands_in : StandsIn (left (pages first)) l.lines (left (pages live));
       sound : (its.view live).fit;
