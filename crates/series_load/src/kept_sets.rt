@@ -8,8 +8,9 @@ use run_ends::End;
 use series_book::Edit;
 use std::alloc::Global;
 
-/// So many sets are kept at most.
-const MOST_SETS: usize = 32;
+/// So many sets are kept at most. A take brings fewer sets of 256 readings; so only where runs are short are sets done
+/// before the next take, since there are too many of them.
+const MOST_SETS: usize = 512;
 
 /// Sets of runs that have ended, in order, and the offset of the first line of each run.
 #[derive(Drop)]

@@ -1,5 +1,5 @@
 -- A page that the nodes of the selected series call damaged.
-use Rattle.std.proofs.Common.{◌≡◌, ℕ, ◌<◌, length, sym, subst, arith}
+use Rattle.std.proofs.Common.{ℕ, ◌<◌, length, sym, subst, arith}
 use Rattle.std.proofs.lemmas.Option.{slice_get_within}
 use Rattle.block_disk.specs.View.{Image, View}
 use Rattle.catalog_page.specs.Entries.{Entry}

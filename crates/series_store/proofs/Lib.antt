@@ -30,3 +30,4 @@ pub mod GroupLemmas
 pub mod CoverLemmas
 pub mod KeptLemmas
 pub mod NameLemmas
+pub mod RoomLemmas

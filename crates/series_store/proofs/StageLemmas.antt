@@ -23,8 +23,6 @@ use Rattle.catalog_page.specs.Entries.{IsEntry, entry_at}
 use Rattle.catalog_page.specs.Layout.{KeepsLayout}
 use Rattle.catalog_page.specs.Places.{page_of, number_of, records_of}
 use Rattle.series_book.specs.declared.limits.TheConstants.{MOST_SLOTS}
-use Rattle.series_book.specs.declared.edits.Edit.{Edit}
-use Rattle.series_book.specs.declared.edits.Edit.TheVariants.{Create, Append, Set, Clear}
 use Rattle.series_book.specs.declared.one_series.Series.{Series}
 use Rattle.series_book.specs.declared.outcomes.Outcome.{Outcome}
 use Rattle.series_book.specs.declared.refusals.Refusal.{Refusal}
@@ -39,7 +37,7 @@ use Rattle.tree_walk.proofs.SpaceLemmas.{stays_then}
 use Rattle.tree_walk.specs.declared.tree.Tree.{Tree}
 use Rattle.series_store.specs.Changing.{IsRefusedBy}
 use Rattle.series_store.specs.Errors.{error_of}
-use Rattle.series_store.specs.Staging.{IsCatalogOf, IsWholeOf, IsStaging, IsStagedBy, IsStageCause, IsAnswer, IsRefusal, TakesBack, most_puts}
+use Rattle.series_store.specs.Staging.{IsCatalogOf, IsWholeOf, IsStaging, IsStagedBy, IsStageCause, IsAnswer, IsRefusal, TakesBack}
 use Rattle.series_store.specs.declared.errors.StoreError.{StoreError}
 use Rattle.series_store.specs.declared.errors.StoreError.TheVariants.{DiskFault}
 use Rattle.series_store.specs.declared.staged.Staged.{Staged}
@@ -241,10 +239,3 @@ last_changes none = cc
 pub run_pages : (first n slots len : ℕ) → n ≤ 256 → touch first (first + n) (page_levels slots) (page_levels len) 0 ≤ 15
 run_pages first n slots len few =
     omega (arith, touch_wide 3 first (first + n) n (page_levels slots) (page_levels len) (omega arith) (omega arith) (omega (arith, few)) (omega (arith, few)), levels_few len)
-
--- no edit puts more pages than one that clears
-pub most_few : (edit : Edit) → most_puts edit ≤ 41
-most_few (Create name start step scale) = omega arith
-most_few (Append name values) = omega arith
-most_few (Set name time values) = omega arith
-most_few (Clear name time count) = omega arith

@@ -1,5 +1,5 @@
 -- What staging an edit does, in a transaction and in the catalog.
-use Rattle.std.specs.Prelude.{ℕ, ℤ, Option, ◌≡◌, ◌+◌, ◌<◌, ◌≤◌, ◌^◌, ◌++◌, ◌∷◌, [], List, length, slice_get, Some, Result, Ok, Err, IfOk, IfErr, OnOk, OnErr, ⊤}
+use Rattle.std.specs.Prelude.{ℕ, ℤ, Option, ◌≡◌, ◌+◌, ◌/◌, ◌-ℤ◌, ◌<◌, ◌≤◌, ◌^◌, ◌++◌, ◌∷◌, [], min, max, unsigned_abs, List, length, slice_get, Some, Result, Ok, Err, IfOk, IfErr, IfSome, OnOk, OnErr, ⊤}
 use Rattle.block_disk.specs.Counts.{HasRisen}
 use Rattle.block_disk.specs.View.{Image, View}
 use Rattle.gate_pages.specs.declared.pages.Pages.{Ghosts}
@@ -8,15 +8,18 @@ use Rattle.page_space.specs.Transactions.{held, left_by, told_by}
 use Rattle.page_space.specs.declared.space.Space.{Space}
 use Rattle.page_space.specs.declared.superblock.Superblock.{Superblock}
 use Rattle.page_space.specs.declared.txn.Txn.{Txn}
+use Rattle.om3_coeff.specs.Keys.{page_levels}
+use Rattle.path_repair.specs.Costs.{touch}
 use Rattle.path_repair.specs.Standing.{ReadsMost}
-use Rattle.series_book.specs.declared.limits.TheConstants.{MOST_SLOTS}
+use Rattle.series_book.specs.declared.limits.TheConstants.{MOST_CLEARED, MOST_SLOTS, MOST_VALUES}
+use Rattle.series_book.specs.declared.axis.Axis.{Axis}
 use Rattle.series_book.specs.declared.one_series.Series.{Series}
 use Rattle.series_book.specs.declared.refusals.Refusal.{Refusal}
 use Rattle.series_book.specs.Books.{IsBook}
 use Rattle.series_book.specs.Edits.{Edited, apply, with_slots}
 use Rattle.series_book.specs.declared.edits.Edit.{Edit}
 use Rattle.series_book.specs.declared.edits.Edit.TheVariants.{Create, Append, Set, Clear}
-use Rattle.series_catalog.specs.Catalogs.{AreFit, AreAsTold, entry_of, with_tree}
+use Rattle.series_catalog.specs.Catalogs.{AreFit, AreAsTold, entry_of, place_of, with_tree}
 use Rattle.series_catalog.specs.Shown.{series_in}
 use Rattle.series_catalog.specs.declared.catalog.Catalog.{Catalog}
 use Rattle.series_catalog.specs.declared.stored_series.StoredSeries.{StoredSeries}
@@ -87,13 +90,52 @@ IsRefusal DiskFault = ⊥
 IsRefusal (Damaged page) = ⊥
 IsRefusal NoMemory = ⊥
 
--- the most pages that staging an edit puts into a transaction: at most 256 values lie in three pages of the lowest level and two
--- of each above it, 4,096 slots in 33 and two, and the record of a series in one
-abbrev pub most_puts : Edit → ℕ
-most_puts (Create name start step scale) = 1
-most_puts (Append name values) = 16
-most_puts (Set name time values) = 16
-most_puts (Clear name time count) = 41
+-- how many pages a change of the slots of a tree from first on and below end puts into a transaction at most: those of the
+-- tree that it touches, and the one of the series' record
+abbrev pub puts_in : Tree → ℕ → ℕ → ℕ
+puts_in tree first end = 1 + touch first end (page_levels tree.slots) (page_levels (max tree.slots end)) 0
+
+-- the slot of a series at a time
+abbrev pub slot_at_time : StoredSeries → ℤ → ℕ
+slot_at_time one time = unsigned_abs (time -ℤ one.start) / one.step
+
+-- so of the series of this name, where there is one
+abbrev pub ForNamed : List StoredSeries → List ℕ → (StoredSeries → Type 0) → Type 0
+ForNamed items name IsSo = IfSome (place_of name items) (λ id. IfSome (slice_get items id) IsSo)
+
+-- a transaction that holds so many pages, of 64 that it may, has room for a change of these slots of a tree
+abbrev pub HasRoomIn : ℕ → Tree → ℕ → ℕ → Type 0
+HasRoomIn pages tree first end = pages + puts_in tree first end ≤ 64
+
+-- the same of the tree of the series of this id
+abbrev pub HasRoomAt : ℕ → List StoredSeries → ℕ → ℕ → ℕ → Type 0
+HasRoomAt pages items id first end = IfSome (slice_get items id) (λ one. HasRoomIn pages one.tree first end)
+
+-- it has room for an edit that changes slots, unless too many
+abbrev pub HasRoomFor : ℕ → List StoredSeries → Edit → Type 0
+HasRoomFor pages items (Create name start step scale) = pages < 64
+HasRoomFor pages items (Append name values) =
+    ForNamed items name (λ one. length values ≤ MOST_VALUES → one.tree.slots + length values ≤ MOST_SLOTS → HasRoomIn pages one.tree one.tree.slots (one.tree.slots + length values))
+HasRoomFor pages items (Set name time values) =
+    ForNamed items name (λ one. length values ≤ MOST_VALUES → slot_at_time one time + length values ≤ MOST_SLOTS → HasRoomIn pages one.tree (slot_at_time one time) (slot_at_time one time + length values))
+HasRoomFor pages items (Clear name time count) =
+    ForNamed items name (λ one. 0 < count → count ≤ MOST_CLEARED → slot_at_time one time < one.tree.slots → HasRoomIn pages one.tree (slot_at_time one time) (min (slot_at_time one time + count) one.tree.slots))
+
+-- the axis of the series of this name
+pub record IsAxisIn (items : List StoredSeries) (name : List ℕ) (axis : Axis) : Type 0 where
+  pub id : ℕ
+  pub one : StoredSeries
+  pub named : place_of name items ≡ Some id
+  pub there : slice_get items id ≡ Some one
+  pub start : axis.start ≡ one.start
+  pub step : axis.step ≡ one.step
+  pub slots : axis.slots ≡ one.tree.slots
+  pub few : axis.slots ≤ MOST_SLOTS
+  pub some : 1 ≤ axis.step
+
+-- each series has no more slots than there may be, and a step
+abbrev pub AreInRange : List StoredSeries → Type 0
+AreInRange items = (id : ℕ) (one : StoredSeries) → slice_get items id ≡ Some one → (one.tree.slots ≤ MOST_SLOTS) × (1 ≤ one.step)
 
 -- what staging an edit does, whatever the pages are
 pub record IsStaging (told told' : Type 0) (old new under under' : View) (s s' : Superblock) (txn txn' : Txn) (items items' : List StoredSeries) (result : Result Staged StoreError) : Type 0 where

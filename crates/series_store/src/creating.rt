@@ -31,7 +31,7 @@ pub(crate) fn create<P: Pages>(
 ) -> Result<Staged, StoreError>
     requires sound { spaces.IsSound space.old }
     requires staged { stages.IsStaged space.old txn.old catalog.old }
-    requires few { length (held txn.old) ≤ 62 }
+    requires few { length (held txn.old) < 64 }
     requires is_edit { IsEdit (Create name.now start step scale) }
     ensures answered { stages.ForStaged space.old txn.old (λ total book. stages.AnswersSo (apply book total (Create name.now start step scale)) 0 total result space.new txn.old txn.new) }
     ensures carried { stages.Stages result space.old space.new txn.old txn.new catalog.old catalog.new }
@@ -63,7 +63,7 @@ fn add_series<P: Pages>(
 ) -> Result<Staged, StoreError>
     requires sound { spaces.IsSound space.old }
     requires staged { stages.IsStaged space.old txn.old catalog.old }
-    requires few { length (held txn.old) ≤ 62 }
+    requires few { length (held txn.old) < 64 }
     requires room { length (series_in catalog.old) < 512 }
     requires entry { IsEntry (told_by txn.old).fresh (entry_of series) }
     requires empty { series.tree ≡ NO_TREE }

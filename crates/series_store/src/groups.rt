@@ -7,6 +7,7 @@ ghost use Rattle.series_book.specs.declared.edits.Edit.{Edit};
 ghost use Rattle.series_book.specs.declared.outcomes.Outcome.{Outcome};
 ghost use Rattle.series_book.specs.declared.refusals.Refusal.{Refusal};
 ghost use Rattle.series_book.specs.Edits.{IsEdit};
+ghost use Rattle.series_catalog.specs.Shown.{series_in};
 ghost use Rattle.series_store.specs.Grouping as grouping;
 ghost use Rattle.series_store.specs.Groups.{AreDone, AreSome, AreMany, PassesWhole, IsGroupCause, ChangeNone, HaveFewSlots, PassesUntil, RefuseLast};
 ghost use Rattle.series_store.specs.Opening.{IsOutside};
@@ -15,6 +16,7 @@ ghost use Rattle.series_store.specs.Shown as shown;
 ghost use Rattle.series_store.specs.Staging as stages;
 
 use crate::errors::StoreError;
+use crate::puts::is_full;
 use crate::staged::Undo;
 use crate::staging::stage;
 use crate::store::Store;
@@ -22,30 +24,6 @@ use gate_pages::Pages;
 use page_space::{Space, Txn};
 use series_book::{Edit, Outcome, Refusal};
 use series_catalog::Catalog;
-
-/// A transaction has room for 64 pages.
-const MOST_HELD: usize = 63;
-
-/// The most pages that staging an edit puts into a transaction.
-fn most_puts(edit: &Edit) -> usize
-    ensures most { result ≡ stages.most_puts edit.now }
-    ensures few { result ≤ 41 }
-{
-    match edit {
-        Edit::Create { .. } => 1,
-        Edit::Append { .. } | Edit::Set { .. } => 16,
-        Edit::Clear { .. } => 41,
-    }
-}
-
-/// Whether an edit isn't staged behind so many pages, since it might put more than there is room for.
-fn is_full(held: usize, edit: &Edit) -> bool
-    requires { held ≤ 64 }
-    ensures full { IsTrue result → (63 < held + stages.most_puts edit.now) × (22 < held) }
-    ensures room { result ≡ false → held + stages.most_puts edit.now ≤ 63 }
-{
-    held + most_puts(edit) > MOST_HELD
-}
 
 /// The refusal, or what else the error is.
 fn refusal_in(cause: StoreError) -> Result<Refusal, StoreError>
@@ -83,7 +61,7 @@ fn stage_next<P: Pages>(
 ) -> Result<Undo, StoreError>
     requires sound { spaces.IsSound space.old }
     requires staged { stages.IsStaged space.old txn.old catalog.old }
-    requires few { length (held txn.old) + stages.most_puts edit.now ≤ 63 }
+    requires room { stages.HasRoomFor (length (held txn.old)) (series_in catalog.old) edit.now }
     requires is_edit { IsEdit edit.now }
     ensures next { grouping.GoesNext result space.old space.new txn.old txn.new catalog.old catalog.new answers.old.items answers.new.items }
     ensures quiet { OnOk result ((spaces.view space.new).faults ≡ (spaces.view space.old).faults) }
@@ -172,7 +150,7 @@ fn commit_all<P: Pages>(
     let Some((edit, rest)) = edits.split_first() else {
         return close(space, txn, is_changed);
     };
-    if is_full(held, edit) {
+    if is_full(held, catalog, edit) {
         return close(space, txn, is_changed);
     }
     let mut txn = txn;

@@ -23,6 +23,7 @@ pub mod laws;
 mod named_series;
 mod nodes;
 mod opening;
+mod puts;
 mod saving;
 mod send_errors;
 mod sending;

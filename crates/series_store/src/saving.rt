@@ -54,7 +54,7 @@ pub(crate) fn put<P: Pages>(
 ) -> Result<Staged, StoreError>
     requires sound { spaces.IsSound space.old }
     requires staged { stages.IsStaged space.old txn.old catalog.old }
-    requires few { length (held txn.old) ≤ 47 }
+    requires room { stages.HasRoomAt (length (held txn.old)) (series_in catalog.old) id slot (slot + length values.now) }
     requires there { id < length (series_in catalog.old) }
     requires some { 0 < length values.now }
     requires short { length values.now ≤ 256 }
@@ -89,7 +89,7 @@ pub(crate) fn clear_slots<P: Pages>(
 ) -> Result<Staged, StoreError>
     requires sound { spaces.IsSound space.old }
     requires staged { stages.IsStaged space.old txn.old catalog.old }
-    requires few { length (held txn.old) ≤ 22 }
+    requires room { stages.HasRoomAt (length (held txn.old)) (series_in catalog.old) id slot (slot + count) }
     requires there { id < length (series_in catalog.old) }
     requires some { 0 < count }
     requires short { count ≤ 4096 }

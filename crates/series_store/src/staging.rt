@@ -2,6 +2,7 @@
 ghost use Rattle.std.specs.Prelude.{◌≡◌, ◌≤◌, ◌+◌, length, IfOk, ◌≢◌, OnOk, IfErr};
 ghost use Rattle.page_space.specs.Shown as spaces;
 ghost use Rattle.page_space.specs.Transactions.{held};
+ghost use Rattle.series_catalog.specs.Shown.{series_in};
 ghost use Rattle.series_store.specs.Staging as stages;
 ghost use Rattle.series_book.specs.declared.edits.Edit.TheVariants.{Append, Set, Clear};
 ghost use Rattle.series_book.specs.Edits.{IsEdit, apply};
@@ -19,7 +20,7 @@ use series_book::{Edit, Name, Outcome, Refusal, Values};
 use series_catalog::Catalog;
 
 /// Stages an edit. It is refused exactly where a refusal stands, with the first that does. It reads 96 blocks at
-/// most, and puts so many pages at most.
+/// most.
 pub(crate) fn stage<P: Pages>(
     space: &mut Space<P>,
     txn: &mut Txn,
@@ -28,7 +29,7 @@ pub(crate) fn stage<P: Pages>(
 ) -> Result<Staged, StoreError>
     requires sound { spaces.IsSound space.old }
     requires staged { stages.IsStaged space.old txn.old catalog.old }
-    requires few { length (held txn.old) + stages.most_puts edit.now ≤ 63 }
+    requires room { stages.HasRoomFor (length (held txn.old)) (series_in catalog.old) edit.now }
     requires is_edit { IsEdit edit.now }
     ensures answered { stages.AnswersEdit edit.now result space.old space.new txn.old txn.new }
     ensures carried { stages.Stages result space.old space.new txn.old txn.new catalog.old catalog.new }
@@ -60,7 +61,7 @@ fn append<P: Pages>(
 ) -> Result<Staged, StoreError>
     requires sound { spaces.IsSound space.old }
     requires staged { stages.IsStaged space.old txn.old catalog.old }
-    requires few { length (held txn.old) ≤ 47 }
+    requires room { stages.HasRoomFor (length (held txn.old)) (series_in catalog.old) (Append name.now values.now) }
     requires is_edit { IsEdit (Append name.now values.now) }
     ensures answered { stages.AnswersEdit (Append name.now values.now) result space.old space.new txn.old txn.new }
     ensures carried { stages.Stages result space.old space.new txn.old txn.new catalog.old catalog.new }
@@ -89,7 +90,7 @@ fn set<P: Pages>(
 ) -> Result<Staged, StoreError>
     requires sound { spaces.IsSound space.old }
     requires staged { stages.IsStaged space.old txn.old catalog.old }
-    requires few { length (held txn.old) ≤ 47 }
+    requires room { stages.HasRoomFor (length (held txn.old)) (series_in catalog.old) (Set name.now time values.now) }
     requires is_edit { IsEdit (Set name.now time values.now) }
     ensures answered { stages.AnswersEdit (Set name.now time values.now) result space.old space.new txn.old txn.new }
     ensures carried { stages.Stages result space.old space.new txn.old txn.new catalog.old catalog.new }
@@ -119,7 +120,7 @@ fn clear<P: Pages>(
 ) -> Result<Staged, StoreError>
     requires sound { spaces.IsSound space.old }
     requires staged { stages.IsStaged space.old txn.old catalog.old }
-    requires few { length (held txn.old) ≤ 22 }
+    requires room { stages.HasRoomFor (length (held txn.old)) (series_in catalog.old) (Clear name.now time count) }
     ensures answered { stages.AnswersEdit (Clear name.now time count) result space.old space.new txn.old txn.new }
     ensures carried { stages.Stages result space.old space.new txn.old txn.new catalog.old catalog.new }
     ensures kept { stages.ForStaged space.old txn.old (λ total book. KeepsBook book (apply book total (Clear name.now time count)) → IfOk result (λ staged. staged.undo ≡ Undo.Nothing)) }

@@ -7,12 +7,13 @@ use Rattle.series_store.specs.declared.errors.StoreError.TheVariants.{DiskFault}
 use Rattle.series_store.proofs.CarryLemmas.{carried_read}
 use Rattle.series_store.proofs.DoneLemmas.{stored_cause, done_moments, done_answered}
 use Rattle.series_store.proofs.SaveLemmas.{failed, failed_reading}
-use Rattle.series_store.proofs.StageLemmas.{catalog_as, most_few}
+use Rattle.series_store.proofs.RoomLemmas.{first_room}
+use Rattle.series_store.proofs.StageLemmas.{catalog_as}
 use Rattle.tree_walk.proofs.StepLemmas.{error_so}
 use Rattle.series_store.proofs.committing.commit_one.Goals as goal
 
-pub stage-requires-clause-few : goal.stage-requires-clause-few
-stage-requires-clause-few g c = omega (arith, c.requires.one, most_few c.args.edit.now)
+pub stage-requires-clause-room : goal.stage-requires-clause-room
+stage-requires-clause-room g c = first_room _ (series_in c.args.catalog.now) c.args.edit.now (omega (arith, c.requires.one))
 
 pub returns-in_err-staged-clause-answered : goal.returns-in_err-staged-clause-answered
 returns-in_err-staged-clause-answered g c = λ total book told stands.

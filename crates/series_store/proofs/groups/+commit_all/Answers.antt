@@ -1,15 +1,24 @@
-use Rattle.std.proofs.Common.{suc, All, List, ◌∷◌, drop, length, Ok, Err, refl, sym, ap, subst, rules, arith, inl, inr, ◌∙◌}
+use Rattle.std.proofs.Common.{ℕ, suc, All, List, ◌∷◌, drop, length, Ok, Err, refl, sym, ap, subst, rules, arith, inl, inr, ◌∙◌}
 use Rattle.page_space.specs.Transactions.{held, left_by}
 use Rattle.series_book.specs.declared.edits.Edit.{Edit}
 use Rattle.series_book.specs.Edits.{IsEdit, apply}
 use Rattle.series_book.specs.EditLists.{book_behind}
 use Rattle.series_catalog.specs.declared.stored_series.StoredSeries.{StoredSeries}
 use Rattle.series_store.specs.declared.staged.Undo.{Undo}
-use Rattle.series_store.specs.Staging.{TakesBack}
+use Rattle.series_store.specs.Staging.{HasRoomFor, TakesBack}
 use Rattle.series_store.proofs.GroupLemmas.{clean_after, closed, closed_by, failed_next, failed_next_by, none_follow, edits_follow, few_added, few_follow, follow_by, stepped_behind, stepped_by}
+use Rattle.series_store.proofs.RoomLemmas.{in_range}
 use Rattle.series_store.proofs.StageLemmas.{catalog_as}
 use Rattle.tree_walk.proofs.StepLemmas.{error_so}
 use Rattle.series_store.proofs.groups.+commit_all.Goals as goal
+
+pub is_full-requires-clause-fit : goal.is_full-requires-clause-fit
+is_full-requires-clause-fit g t c = in_range c.args.txn.superblock.fresh c.args.catalog.now.series.items c.requires.staged.catalog.fits
+
+pub stage_next-requires-clause-room : goal.stage_next-requires-clause-room
+stage_next-requires-clause-room g t c =
+    let R : ℕ → Type 0 = λ n. HasRoomFor n c.args.catalog.now.series.items c.in-Some.edit.now in
+    subst R c.len-held.ensures.len (c.is_full.ensures.room c.if-is_full.false)
 
 pub returns-in_default-clause-groups : goal.returns-in_default-clause-groups
 returns-in_default-clause-groups g t c =
@@ -40,7 +49,7 @@ returns-then-is_full-clause-groups g t c =
     let close = c.close-then-is_full in
     let new = close.new.space in
     closed (told old.pages) (told new.pages) (view old.pages) (view new.pages) (under old.pages) (under new.pages) old.superblock new.superblock c.args.txn c.args.is_changed c.args.catalog.now.series.items c.args.edits.now c.args.answers.now.items close.result
-    (λ some few. omega (arith, few, (c.is_full.ensures.full c.if-is_full.true).1, c.len-held.ensures.len)) (omega (arith, c.len-held.ensures.few, c.len-held.ensures.len)) close.ensures.commits close.ensures.goes_on close.ensures.done close.ensures.superblock
+    (λ some few. omega (arith, few, c.is_full.ensures.full c.if-is_full.true, c.len-held.ensures.len)) (omega (arith, c.len-held.ensures.few, c.len-held.ensures.len)) close.ensures.commits close.ensures.goes_on close.ensures.done close.ensures.superblock
     (λ none. (ap (λ s. (view (s.pages)).image) (close.ensures.none none), ap (λ s. s.superblock) (close.ensures.none none))) close.ensures.old_superblock close.ensures.sound close.ensures.unsound close.ensures.error close.ensures.cause
     c.requires.staged c.requires.clean
 
@@ -50,7 +59,7 @@ returns-then-is_full-clause-grouped g t c = λ total book told stands clean.
     let old = c.args.space.now in
     let close = c.close-then-is_full in
     let new = close.new.space in
-    closed_by (g.P.Pages.told old.pages) (g.P.Pages.told new.pages) (view old.pages) (view new.pages) c.args.txn c.args.ends c.args.is_changed total book c.args.edits.now c.args.answers.now.items close.result told (inr (omega (arith, (c.is_full.ensures.full c.if-is_full.true).1, c.len-held.ensures.len))) close.ensures.commits close.ensures.done
+    closed_by (g.P.Pages.told old.pages) (g.P.Pages.told new.pages) (view old.pages) (view new.pages) c.args.txn c.args.ends c.args.is_changed total book c.args.edits.now c.args.answers.now.items close.result told (inr (omega (arith, c.is_full.ensures.full c.if-is_full.true, c.len-held.ensures.len))) close.ensures.commits close.ensures.done
     (λ none. ap (λ s. view (s.pages)) (close.ensures.none none)) clean close.ensures.error stands
 
 pub returns-in_err-undo-clause-groups : goal.returns-in_err-undo-clause-groups

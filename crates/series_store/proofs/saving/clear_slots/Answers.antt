@@ -1,6 +1,6 @@
 use Rattle.std.proofs.Common.{◌≡◌, ℕ, ℤ, ◌+◌, ◌≤◌, List, length, slice_get, Option, Result, Ok, OnOk, true, false, refl, sym, ap, subst, ◌∙◌, arith}
 use Rattle.block_disk.specs.View.{Image}
-use Rattle.page_space.specs.Transactions.{left_by}
+use Rattle.page_space.specs.Transactions.{held, left_by}
 use Rattle.path_repair.proofs.CallLemmas.{clear_puts}
 use Rattle.path_repair.specs.Edited.{IsEditedTree}
 use Rattle.path_repair.specs.declared.errors.RepairError.{RepairError}
@@ -15,7 +15,7 @@ use Rattle.path_repair.proofs.EditLemmas.{levels_few}
 use Rattle.series_store.specs.Changing.{IsRefusedBy, with_cleared}
 use Rattle.series_store.specs.Errors.{error_of}
 use Rattle.series_store.specs.Groups.{touched_slots}
-use Rattle.series_store.specs.Staging.{IsPartChanged, IsRefusal}
+use Rattle.series_store.specs.Staging.{HasRoomIn, IsPartChanged, IsRefusal}
 use Rattle.series_store.proofs.CarryLemmas.{names_below}
 use Rattle.series_store.proofs.ChangeLemmas.{root_below, own_tree, clear_edited}
 use Rattle.series_store.proofs.StageLemmas.{clear_touch}
@@ -44,9 +44,12 @@ clear_run-requires-clause-within g c =
 
 pub clear_run-requires-clause-room : goal.clear_run-requires-clause-room
 clear_run-requires-clause-room g c =
-    let tree = c.series.result.now.tree in
-    let few = (c.requires.staged.catalog.fits c.args.id c.series.result.now c.series.ensures).slots in
-    omega (arith, c.requires.few, clear_puts c.args.slot c.args.count tree.slots c.requires.short, levels_few tree.slots)
+    let one : StoredSeries = c.series.result.now in
+    let items : List StoredSeries = c.args.catalog.now.series.items in
+    let end = c.args.slot + c.args.count in
+    let R : StoredSeries → Type 0 = λ one. HasRoomIn (length (held c.args.txn.now)) one.tree c.args.slot end in
+    let W : StoredSeries → Type 0 = λ one. end ≤ one.tree.slots in
+    omega (arith, known_some (slice_get items c.args.id) one R c.series.ensures c.requires.room, clear_touch c.args.slot end one.tree.slots one.tree.slots refl (known_some (slice_get items c.args.id) one W c.series.ensures c.requires.within))
 
 pub save-requires-clause-staged : goal.save-requires-clause-staged
 save-requires-clause-staged g c =
@@ -65,19 +68,17 @@ save-requires-clause-staged g c =
 
 pub save-requires-clause-room : goal.save-requires-clause-room
 save-requires-clause-room g c =
-    let told = g.P.Pages.told in
-    let view = g.P.Pages.view in
-    let under = g.P.Pages.under in
-    let old = c.args.space.now in
-    let mid = c.clear_run.new.space in
-    let txn = c.args.txn.now in
-    let changed = c.clear_run.new.txn in
     let one : StoredSeries = c.series.result.now in
-    let tree = one.tree in
     let items : List StoredSeries = c.args.catalog.now.series.items in
-    let fewer = (c.requires.staged.catalog.fits c.args.id one c.series.ensures).slots in
-    let five = levels_few tree.slots in
-    omega (arith, c.requires.few, c.clear_run.ensures.moved.held, clear_puts c.args.slot c.args.count tree.slots c.requires.short, five)
+    let end = c.args.slot + c.args.count in
+    let R : StoredSeries → Type 0 = λ one. HasRoomIn (length (held c.args.txn.now)) one.tree c.args.slot end in
+    let W : StoredSeries → Type 0 = λ one. end ≤ one.tree.slots in
+    omega (
+      arith,
+      c.clear_run.ensures.moved.held,
+      known_some (slice_get items c.args.id) one R c.series.ensures c.requires.room,
+      clear_touch c.args.slot end one.tree.slots one.tree.slots refl (known_some (slice_get items c.args.id) one W c.series.ensures c.requires.within),
+    )
 
 pub returns-in_err-tree-clause-carried : goal.returns-in_err-tree-clause-carried
 returns-in_err-tree-clause-carried g c =

@@ -1,7 +1,7 @@
 use Rattle.std.proofs.Common.{◌≡◌, ℕ, ℤ, ◌+◌, ◌⊎◌, max, List, length, slice_get, Option, Result, Ok, All, IsSome, OnOk, true, false, refl, sym, ap, subst, ◌∙◌, arith}
 use Rattle.block_disk.specs.View.{Image}
 use Rattle.om3_coeff.specs.Keys.{page_levels}
-use Rattle.page_space.specs.Transactions.{left_by}
+use Rattle.page_space.specs.Transactions.{held, left_by}
 use Rattle.path_repair.specs.Costs.{touch}
 use Rattle.path_repair.specs.Edited.{IsEditedTree}
 use Rattle.series_book.specs.declared.refusals.Refusal.{Refusal}
@@ -14,7 +14,7 @@ use Rattle.stored_book.specs.Standing.{IsStore, StandsForBook}
 use Rattle.path_repair.proofs.EditLemmas.{levels_few}
 use Rattle.series_store.specs.Errors.{error_of}
 use Rattle.series_store.specs.Groups.{touched_slots}
-use Rattle.series_store.specs.Staging.{IsPartChanged}
+use Rattle.series_store.specs.Staging.{HasRoomIn, IsPartChanged}
 use Rattle.series_store.proofs.AnswerLemmas.{fits_within, tree_refused}
 use Rattle.series_store.proofs.CarryLemmas.{names_below}
 use Rattle.series_store.proofs.ChangeLemmas.{root_below, own_tree, put_edited}
@@ -41,11 +41,9 @@ put_run-requires-clause-values g c = are_values c.args.values.now c.requires.val
 
 pub put_run-requires-clause-room : goal.put_run-requires-clause-room
 put_run-requires-clause-room g c =
-    let tree = c.series.result.now.tree in
-    let long : ℕ = length c.args.values.now in
-    let n : ℕ = max tree.slots (c.args.slot + long) in
-    let few = (c.requires.staged.catalog.fits c.args.id c.series.result.now c.series.ensures).slots in
-    omega (arith, c.requires.few, run_pages c.args.slot long tree.slots n c.requires.short, levels_few n)
+    let one : StoredSeries = c.series.result.now in
+    let R : StoredSeries → Type 0 = λ one. HasRoomIn (length (held c.args.txn.now)) one.tree c.args.slot (c.args.slot + length c.args.values.now) in
+    omega (arith, known_some (slice_get c.args.catalog.now.series.items c.args.id) one R c.series.ensures c.requires.room)
 
 pub save-requires-clause-staged : goal.save-requires-clause-staged
 save-requires-clause-staged g c =
@@ -64,21 +62,9 @@ save-requires-clause-staged g c =
 
 pub save-requires-clause-room : goal.save-requires-clause-room
 save-requires-clause-room g c =
-    let told = g.P.Pages.told in
-    let view = g.P.Pages.view in
-    let under = g.P.Pages.under in
-    let old = c.args.space.now in
-    let mid = c.put_run.new.space in
-    let txn = c.args.txn.now in
-    let changed = c.put_run.new.txn in
     let one : StoredSeries = c.series.result.now in
-    let tree = one.tree in
-    let items : List StoredSeries = c.args.catalog.now.series.items in
-    let long : ℕ = length c.args.values.now in
-    let n : ℕ = max tree.slots (c.args.slot + long) in
-    let fewer = (c.requires.staged.catalog.fits c.args.id one c.series.ensures).slots in
-    let five = levels_few n in
-    omega (arith, c.requires.few, c.put_run.ensures.moved.held, run_pages c.args.slot long tree.slots n c.requires.short, five)
+    let R : StoredSeries → Type 0 = λ one. HasRoomIn (length (held c.args.txn.now)) one.tree c.args.slot (c.args.slot + length c.args.values.now) in
+    omega (arith, c.put_run.ensures.moved.held, known_some (slice_get c.args.catalog.now.series.items c.args.id) one R c.series.ensures c.requires.room)
 
 pub returns-in_err-tree-clause-carried : goal.returns-in_err-tree-clause-carried
 returns-in_err-tree-clause-carried g c =

@@ -1,4 +1,4 @@
-use Rattle.std.proofs.Common.{◌≡◌, ◌+◌, ℕ, ℤ, List, length, Option, Ok, Err, Result, subst, sym, ap, refl, arith, ◌∙◌}
+use Rattle.std.proofs.Common.{◌≡◌, ◌+◌, ◌≤◌, ℕ, ℤ, List, length, Option, Ok, Err, Result, subst, sym, ap, refl, arith, ◌∙◌}
 use Rattle.series_book.specs.declared.edits.Edit.TheVariants.{Append}
 use Rattle.series_book.specs.declared.one_series.Series.{Series}
 use Rattle.series_book.specs.declared.refusals.Refusal.{Refusal}
@@ -8,11 +8,13 @@ use Rattle.series_book.specs.Edits.{Edited, apply, id_of, within, appended, over
 use Rattle.series_catalog.specs.declared.stored_series.StoredSeries.{StoredSeries}
 use Rattle.series_store.specs.declared.errors.StoreError.TheVariants.{Refused}
 use Rattle.block_disk.specs.View.{Image}
-use Rattle.page_space.specs.Transactions.{left_by}
+use Rattle.page_space.specs.Transactions.{held, left_by}
 use Rattle.stored_book.specs.Standing.{IsStore}
 use Rattle.series_store.specs.Groups.{touch_of, touched_slots}
 use Rattle.series_store.specs.Results.{KeepsBook}
-use Rattle.series_store.specs.Staging.{IsStagedBy}
+use Rattle.series_book.specs.declared.limits.TheConstants.{MOST_SLOTS, MOST_VALUES}
+use Rattle.series_store.specs.Staging.{HasRoomIn, IsStagedBy}
+use Rattle.series_store.proofs.RoomLemmas.{for_named, room_at}
 use Rattle.series_store.proofs.StageLemmas.{staged_error, staged_store}
 use Rattle.series_store.proofs.FindLemmas.{IsFound, found, touch_found, unknown, is_axis, change_unknown, append_answer}
 use Rattle.series_store.proofs.staging.append.Goals as goal
@@ -29,6 +31,18 @@ returns-in_default-clause-answered g c = λ total book told stands.
 
 pub append_refusal-requires : goal.append_refusal-requires
 append_refusal-requires g c = record { slots = omega (arith, c.axis-axis.ensures.slots, (c.requires.staged.catalog.fits c.in-Some.id c.series.result.now c.series.ensures).slots) }
+
+pub put-requires-clause-room : goal.put-requires-clause-room
+put-requires-clause-room g c =
+    let items : List StoredSeries = c.args.catalog.now.series.items in
+    let one : StoredSeries = c.series.result.now in
+    let pages = length (held c.args.txn.now) in
+    let values = c.args.values.now in
+    let long : length c.deref.result.now ≡ length values = ap length (c.deref.ensures.value ∙ c.in_ok-run.ensures.slots) in
+    let R : StoredSeries → Type 0 = λ one. length values ≤ MOST_VALUES → one.tree.slots + length values ≤ MOST_SLOTS → HasRoomIn pages one.tree one.tree.slots (one.tree.slots + length values) in
+    room_at pages items c.in-Some.id one.tree.slots (one.tree.slots + length values) c.axis-axis.result.slots (c.axis-axis.result.slots + length c.deref.result.now) one c.series.ensures
+    (for_named items c.args.name.now c.in-Some.id one R (sym c.in-Some.ensures.id) c.series.ensures c.requires.room c.in_default-append_refusal.ensures.few (omega (arith, c.in_default-append_refusal.ensures.room, c.axis-axis.ensures.slots)))
+    c.axis-axis.ensures.slots (omega (arith, c.axis-axis.ensures.slots, long))
 
 pub returns-in-Some-append_refusal-clause-answered : goal.returns-in-Some-append_refusal-clause-answered
 returns-in-Some-append_refusal-clause-answered g c = λ total book told stands.

@@ -1,4 +1,4 @@
-use Rattle.std.proofs.Common.{◌≡◌, List, ℕ, ℤ, length, Ok, Err, Result, subst, sym, ap, refl, arith, ◌∙◌, inl, inr, ◌≤◌, ◌+◌, ◌-◌, ◌⊎◌, min}
+use Rattle.std.proofs.Common.{◌≡◌, List, ℕ, ℤ, length, Ok, Err, Result, subst, sym, ap, refl, arith, ◌∙◌, inl, inr, ◌<◌, ◌≤◌, ◌+◌, ◌-◌, ◌⊎◌, min}
 use Rattle.std.specs.Int.{w128}
 use Rattle.std.proofs.lemmas.Int.{to_z-of_z}
 use Rattle.series_book.specs.declared.edits.Edit.TheVariants.{Clear}
@@ -10,13 +10,15 @@ use Rattle.series_book.specs.Edits.{Edited, apply, id_of, place_of, unbounded, c
 use Rattle.series_catalog.specs.declared.stored_series.StoredSeries.{StoredSeries}
 use Rattle.series_store.specs.declared.errors.StoreError.TheVariants.{Refused}
 use Rattle.block_disk.specs.View.{Image}
-use Rattle.page_space.specs.Transactions.{left_by}
+use Rattle.page_space.specs.Transactions.{held, left_by}
 use Rattle.stored_book.specs.Standing.{IsStore}
 use Rattle.series_store.specs.Groups.{touch_of, touched_slots}
 use Rattle.series_store.specs.Results.{KeepsBook}
-use Rattle.series_store.specs.Staging.{IsStagedBy}
+use Rattle.series_book.specs.declared.limits.TheConstants.{MOST_CLEARED}
+use Rattle.series_store.specs.Staging.{HasRoomIn, IsStagedBy, slot_at_time}
+use Rattle.series_store.proofs.RoomLemmas.{for_named, room_at, slot_as}
 use Rattle.series_store.proofs.StageLemmas.{staged_error, staged_store, staging_nothing}
-use Rattle.series_store.proofs.FindLemmas.{IsFound, found, touch_found, unknown, is_axis, change_unknown, clear_answer, clear_there, clear_none}
+use Rattle.series_store.proofs.FindLemmas.{IsFound, a_series, found, touch_found, unknown, is_axis, change_unknown, clear_answer, clear_there, clear_none}
 use Rattle.series_store.proofs.staging.clear.Goals as goal
 use Rattle.series_store.proofs.staging.clear.Goals.{then-place-from-via-then-place-from, then-place-from-via-else-place-from+then-count-eq0}
 
@@ -35,6 +37,22 @@ clear_refusal-requires g c = omega (arith, c.axis-axis.ensures.step, (c.requires
 
 pub place_of-place-requires : goal.place_of-place-requires
 place_of-place-requires g c = omega (arith, c.axis-axis.ensures.step, (c.requires.staged.catalog.fits c.in-Some.id c.series.result.now c.series.ensures).step_low)
+
+pub clear_slots-requires-clause-room : goal.clear_slots-requires-clause-room
+clear_slots-requires-clause-room g c =
+    let items : List StoredSeries = c.args.catalog.now.series.items in
+    let one : StoredSeries = c.series.result.now in
+    let pages = length (held c.args.txn.now) in
+    let count = c.args.count in
+    let some = a_series c.axis-axis.result in
+    let at : c.place_of-place.result ≡ slot_at_time one c.args.time =
+    c.place_of-place.ensures some.0 some.1 ∙ ap (λ (t : ℤ). place_of some.0 t) (to_z-of_z w128 c.args.time c.ranges.time) ∙ slot_as c.axis-axis.result one some.0 some.1 c.args.time c.axis-axis.ensures.start c.axis-axis.ensures.step in
+    let slot = slot_at_time one c.args.time in
+    let R : StoredSeries → Type 0 = λ one. 0 < count → count ≤ MOST_CLEARED → slot_at_time one c.args.time < one.tree.slots → HasRoomIn pages one.tree (slot_at_time one c.args.time) (min (slot_at_time one c.args.time + count) one.tree.slots) in
+    let low : c.place_of-place.result < one.tree.slots = omega (arith, c.if-place-from.false, c.from.ensures, c.axis-axis.ensures.slots) in
+    room_at pages items c.in-Some.id slot (min (slot + count) one.tree.slots) c.place_of-place.result (c.place_of-place.result + (c.min-end.result - c.place_of-place.result)) one c.series.ensures
+    (for_named items c.args.name.now c.in-Some.id one R (sym c.in-Some.ensures.id) c.series.ensures c.requires.room (omega (arith, c.if-count-eq0.false)) c.in_default-clear_refusal.ensures.few (omega (arith, low, at)))
+    at (omega (arith, c.min-end.ensures, at, low, c.axis-axis.ensures.slots))
 
 pub returns-in-Some-clear_refusal-clause-answered : goal.returns-in-Some-clear_refusal-clause-answered
 returns-in-Some-clear_refusal-clause-answered g c = λ total book told stands.

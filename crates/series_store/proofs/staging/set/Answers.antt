@@ -1,4 +1,4 @@
-use Rattle.std.proofs.Common.{◌≡◌, ◌+◌, ℕ, ℤ, List, length, Option, Ok, Err, Result, subst, sym, ap, refl, arith, ◌∙◌}
+use Rattle.std.proofs.Common.{◌≡◌, ◌+◌, ◌≤◌, ℕ, ℤ, List, length, Option, Ok, Err, Result, subst, sym, ap, refl, arith, ◌∙◌}
 use Rattle.std.specs.Int.{w128}
 use Rattle.std.proofs.lemmas.Int.{to_z-of_z}
 use Rattle.series_book.specs.declared.edits.Edit.TheVariants.{Set}
@@ -10,11 +10,13 @@ use Rattle.series_book.specs.Edits.{Edited, apply, id_of, place_of, within, set_
 use Rattle.series_catalog.specs.declared.stored_series.StoredSeries.{StoredSeries}
 use Rattle.series_store.specs.declared.errors.StoreError.TheVariants.{Refused}
 use Rattle.block_disk.specs.View.{Image}
-use Rattle.page_space.specs.Transactions.{left_by}
+use Rattle.page_space.specs.Transactions.{held, left_by}
 use Rattle.stored_book.specs.Standing.{IsStore}
 use Rattle.series_store.specs.Groups.{touch_of, touched_slots}
 use Rattle.series_store.specs.Results.{KeepsBook}
-use Rattle.series_store.specs.Staging.{IsStagedBy}
+use Rattle.series_book.specs.declared.limits.TheConstants.{MOST_SLOTS, MOST_VALUES}
+use Rattle.series_store.specs.Staging.{HasRoomIn, IsStagedBy, slot_at_time}
+use Rattle.series_store.proofs.RoomLemmas.{for_named, room_at, slot_as}
 use Rattle.series_store.proofs.StageLemmas.{staged_error, staged_store}
 use Rattle.series_store.proofs.FindLemmas.{IsFound, ends_as, found, touch_found, unknown, is_axis, a_series, change_unknown, set_answer}
 use Rattle.series_store.proofs.staging.set.Goals as goal
@@ -55,6 +57,23 @@ put-requires-clause-last g c =
     let long : length c.deref.result.now ≡ length c.args.values.now = ap length (c.deref.ensures.value ∙ c.in_ok-run.ensures.slots) in
     ends_as c.args.catalog.now.series.items c.in-Some.id c.series.result.now c.axis-axis.result _ (c.place_of.result + length c.deref.result.now) c.series.ensures c.axis-axis.ensures.start c.axis-axis.ensures.step c.axis-axis.ensures.slots
     (omega (arith, c.place_of.ensures some.0 some.1, long)) (c.in_default-set_refusal.ensures.last some.0 some.1)
+
+pub put-requires-clause-room : goal.put-requires-clause-room
+put-requires-clause-room g c =
+    let items : List StoredSeries = c.args.catalog.now.series.items in
+    let one : StoredSeries = c.series.result.now in
+    let pages = length (held c.args.txn.now) in
+    let values = c.args.values.now in
+    let some = a_series c.axis-axis.result in
+    let at : c.place_of.result ≡ slot_at_time one c.args.time =
+    c.place_of.ensures some.0 some.1 ∙ ap (λ (t : ℤ). place_of some.0 t) (to_z-of_z w128 c.args.time c.ranges.time) ∙ slot_as c.axis-axis.result one some.0 some.1 c.args.time c.axis-axis.ensures.start c.axis-axis.ensures.step in
+    let long : length c.deref.result.now ≡ length values = ap length (c.deref.ensures.value ∙ c.in_ok-run.ensures.slots) in
+    let slot = slot_at_time one c.args.time in
+    let R : StoredSeries → Type 0 = λ one. length values ≤ MOST_VALUES → slot_at_time one c.args.time + length values ≤ MOST_SLOTS → HasRoomIn pages one.tree (slot_at_time one c.args.time) (slot_at_time one c.args.time + length values) in
+    room_at pages items c.in-Some.id slot (slot + length values) c.place_of.result (c.place_of.result + length c.deref.result.now) one c.series.ensures
+    (for_named items c.args.name.now c.in-Some.id one R (sym c.in-Some.ensures.id) c.series.ensures c.requires.room c.in_default-set_refusal.ensures.few
+    (omega (arith, c.in_default-set_refusal.ensures.room some.0 some.1, c.place_of.ensures some.0 some.1, at)))
+    at (omega (arith, at, long))
 
 pub returns-in-Some-set_refusal-clause-answered : goal.returns-in-Some-set_refusal-clause-answered
 returns-in-Some-set_refusal-clause-answered g c = λ total book told stands.

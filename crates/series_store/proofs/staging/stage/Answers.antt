@@ -1,14 +1,38 @@
-use Rattle.std.proofs.Common.{◌≡◌, ℤ, [], sym, ap, subst, rules, w64, to_z, of_z, ◌∙◌}
+use Rattle.std.proofs.Common.{◌≡◌, ℤ, [], length, sym, ap, subst, rules, w64, to_z, of_z, ◌∙◌}
 use Rattle.std.specs.Int.{w128}
-use Rattle.page_space.specs.Transactions.{left_by}
+use Rattle.page_space.specs.Transactions.{held, left_by}
 use Rattle.series_book.specs.declared.edits.Edit.{Edit}
 use Rattle.series_book.specs.declared.edits.Edit.TheVariants.{Create, Append, Set, Clear}
 use Rattle.series_book.specs.Edits.{apply}
 use Rattle.series_store.specs.Groups.{touch_of}
 use Rattle.series_store.specs.Results.{ClearsNone, KeepsBook}
-use Rattle.series_store.specs.Staging.{IsStagedBy}
+use Rattle.series_store.specs.Staging.{HasRoomFor, IsStagedBy}
 use Rattle.series_store.proofs.KeptLemmas.{created_keeps}
 use Rattle.series_store.proofs.staging.stage.Goals as goal
+
+pub append-requires-clause-room : goal.append-requires-clause-room
+append-requires-clause-room g c =
+    let R : Edit → Type 0 = λ edit. HasRoomFor (length (held c.args.txn.now)) c.args.catalog.now.series.items edit in
+    subst R c.in-Append.is c.requires.room
+
+pub set-requires-clause-room : goal.set-requires-clause-room
+set-requires-clause-room g c =
+    let same : to_z w128 (of_z w128 c.in-Set.time) ≡ c.in-Set.time = search rules in
+    let at : Set c.in-Set.name (to_z w128 (of_z w128 c.in-Set.time)) c.in-Set.values ≡ c.args.edit.now = ap (λ (n : ℤ). Set c.in-Set.name n c.in-Set.values) same ∙ sym c.in-Set.is in
+    let R : Edit → Type 0 = λ edit. HasRoomFor (length (held c.args.txn.now)) c.args.catalog.now.series.items edit in
+    subst R (sym at) c.requires.room
+
+pub clear-requires-clause-room : goal.clear-requires-clause-room
+clear-requires-clause-room g c =
+    let same : to_z w128 (of_z w128 c.in-Clear.time) ≡ c.in-Clear.time = search rules in
+    let at : Clear c.in-Clear.name (to_z w128 (of_z w128 c.in-Clear.time)) c.in-Clear.count ≡ c.args.edit.now = ap (λ (n : ℤ). Clear c.in-Clear.name n c.in-Clear.count) same ∙ sym c.in-Clear.is in
+    let R : Edit → Type 0 = λ edit. HasRoomFor (length (held c.args.txn.now)) c.args.catalog.now.series.items edit in
+    subst R (sym at) c.requires.room
+
+pub create-requires-clause-few : goal.create-requires-clause-few
+create-requires-clause-few g c =
+    let R : Edit → Type 0 = λ edit. HasRoomFor (length (held c.args.txn.now)) c.args.catalog.now.series.items edit in
+    subst R c.in-Create.is c.requires.room
 
 pub returns-in-Create-clause-answered : goal.returns-in-Create-clause-answered
 returns-in-Create-clause-answered g c = λ total book told stands.
