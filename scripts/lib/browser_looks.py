@@ -140,6 +140,7 @@ def drag_zoom(page):
     page.compare()
     page.do(lambda: page.browser.drag(page.plot(), (0.8, 0.5), (0.3, 0.5)))
     require(t0 < page.window()[0] < page.window()[1] < t1, "a drag to the left doesn't zoom")
+    require(page.browser.run("return document.querySelector('.selection').hidden"), "what was selected stays marked")
     page.compare()
 
 
@@ -154,6 +155,8 @@ def pan(page):
     require(page.window() == (t0, t1), "the left arrow doesn't pan back")
     page.do(lambda: page.browser.drag(page.plot(), (0.5, 0.5), (0.25, 0.5), [KEYS["shift"]]))
     require(abs(page.window()[0] - t0 - (t1 - t0) / 4) < (t1 - t0) / 100, "a drag with Shift doesn't pan")
+    moved = "return document.querySelector('.plot').style.getPropertyValue('--moved')"
+    require(page.browser.run(moved) == "", "the picture stays moved behind a drag with Shift")
     page.compare()
 
 
@@ -182,6 +185,10 @@ def go_back(page):
     page.compare()
     page.do(lambda: page.press(KEYS["home"]))
     require(page.window() == WHOLE, "Home doesn't show the whole series")
+    page.do(lambda: page.browser.run("['in', 'in', 'in', 'back'].forEach((id) => document.getElementById(id).click())"))
+    quarter = lambda: abs(4 * (page.window()[1] - page.window()[0]) - STEP * SLOTS) < 2 * STEP
+    wait_for(quarter, lambda: f"three steps at once, and one back, show {page.window()}")
+    page.compare_in_the_end()
 
 
 def name_window(page):

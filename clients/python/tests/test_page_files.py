@@ -11,7 +11,7 @@ sys.path.insert(0, os.path.join(ROOT, "clients/python"))
 from zurtkvani_client import page_rules  # noqa: E402
 
 WEB = os.path.join(ROOT, "clients/web")
-NAMED = re.compile(r'(?:from|import|src=|href=)\s*"([^":]+\.(?:js|css))"')
+NAMED = re.compile(r'(?:from|import|src=|href=|URL\()\s*"([^":]+\.(?:js|css))"')
 
 
 def named_by(path):

@@ -7,6 +7,8 @@ import { ProvedClient } from "../proved_client.js";
 
 const [FRONT, ITEM, VIEW] = [88, 25, 5]; // of a View frame: the bytes before its coefficients, those of one, and its kind
 const PAGE = 65536; // bytes by which a module's memory grows
+const LONG = 32768; // bytes of a frame that keeps the module busy
+const REST = 100; // milliseconds from a picture until a worker draws it again
 
 let unproved = null; // why the page isn't drawn by the proved client
 
@@ -36,6 +38,24 @@ export async function newClient() {
     unproved = error.message;
   }
   return { client: new Client(), module: null, words: `Drawn by the client in JavaScript, which isn't proved: ${unproved}.` };
+}
+
+let isWarm = false;
+
+/**
+ * Has a worker draw a view a few times, by the frames of its session and of it: by that the browser finds out what of the module is worth
+ * being compiled well, so that the page's next pictures don't take several times as long. Once for a page, and by no short frame.
+ */
+export function warm({ module }, opened, view) {
+  if (!module || isWarm || view.length < LONG) {
+    return;
+  }
+  isWarm = true;
+  const frames = [opened.slice(), view.slice()];
+  setTimeout(() => {
+    const worker = new Worker(new URL("warm.js", import.meta.url), { type: "module" });
+    worker.postMessage({ module, frames });
+  }, REST);
 }
 
 /** Another proved client with the same memory, which may go its own way. */

@@ -1,7 +1,8 @@
 /** One session of the program, and the client that draws its frames. Requests go one behind the other. */
-import { coverOf, newClient } from "./clients.js";
+import { coverOf, newClient, warm } from "./clients.js";
 
 const CACHE = 131072;
+const MOST_BYTES = 4194304; // of a frame, about
 const PATIENCE = 150; // milliseconds until an answer that comes in is shown by its cover
 const BETWEEN_COVERS = 100; // and from one cover to the next
 const [UNKNOWN_SESSION, SESSION_OPEN] = [4, 5];
@@ -36,39 +37,47 @@ export class Refused extends Error {
   }
 }
 
+/** The size of the frame that bytes begin with, its length too; without end where that isn't whole. */
+const sizeOf = (bytes) => (bytes.length < 4 ? Infinity : 4 + new DataView(bytes.buffer, bytes.byteOffset).getUint32(0));
+
 /** The frames of a stream, of which the last one may not be whole yet. */
 class Frames {
   constructor() {
-    [this.bytes, this.taken, this.since, this.looked] = [new Uint8Array(0), 0, null, 0];
+    [this.bytes, this.taken, this.behind, this.since, this.looked] = [new Uint8Array(0), 0, 0, null, 0];
   }
 
   add(piece) {
     const rest = this.rest();
     this.since ??= performance.now();
-    this.bytes = piece;
-    this.taken = 0;
-    if (rest.length > 0) {
-      this.bytes = new Uint8Array(rest.length + piece.length);
-      this.bytes.set(rest);
-      this.bytes.set(piece, rest.length);
+    if (rest.length === 0) {
+      [this.bytes, this.taken, this.behind] = [piece, 0, piece.length];
+      return;
     }
+    if (this.behind + piece.length > this.bytes.length) {
+      // Room for the whole frame, so that each of its pieces is put there once.
+      this.bytes = new Uint8Array(Math.max(rest.length + piece.length, Math.min(sizeOf(rest), MOST_BYTES)));
+      this.bytes.set(rest);
+      [this.taken, this.behind] = [0, rest.length];
+    }
+    this.bytes.set(piece, this.behind);
+    this.behind += piece.length;
   }
 
   /** The bytes of the next whole frame, or null. */
   next() {
     const rest = this.rest();
-    const size = rest.length < 4 ? Infinity : 4 + new DataView(rest.buffer, rest.byteOffset).getUint32(0);
+    const size = sizeOf(rest);
     if (rest.length < size) {
       return null;
     }
     this.taken += size;
-    this.since = this.taken < this.bytes.length ? performance.now() : null;
+    this.since = this.taken < this.behind ? performance.now() : null;
     return rest.subarray(0, size);
   }
 
   /** What came of the frame that isn't whole. */
   rest() {
-    return this.bytes.subarray(this.taken);
+    return this.bytes.subarray(this.taken, this.behind);
   }
 
   /** Whether a frame has been coming in for so long that its cover is worth a look, which counts then. */
@@ -109,7 +118,7 @@ export class Connection {
       const number = 1 + Math.floor(Math.random() * (2 ** 32 - 1));
       const [answer] = await this.ask([`open ${number} ${CACHE}`]);
       if (!answer.refused) {
-        this.number = number;
+        [this.number, this.opened] = [number, answer.bytes];
       } else if (answer.refused.frame.number !== SESSION_OPEN) {
         throw answer.refused;
       }
@@ -226,6 +235,9 @@ export class Connection {
     const [{ frame, picture }] = client.push(bytes);
     performance.measure("chart: picture", { start });
     if (frame.kind !== "refused") {
+      if (frame.kind === "view" && this.drawn) {
+        warm(this.drawn, this.opened, bytes);
+      }
       return { bytes, frame, picture };
     }
     if (frame.number === UNKNOWN_SESSION) {

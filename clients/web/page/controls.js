@@ -6,8 +6,8 @@ import { isFollowing, panned, zoomed } from "./windows.js";
 
 function listenToButtons(page) {
   const buttons = {
-    back: () => history.back(),
-    forward: () => history.forward(),
+    back: () => page.travel(-1),
+    forward: () => page.travel(1),
     earlier: () => page.moveBy((window) => panned(window, -0.25)),
     later: () => page.moveBy((window) => panned(window, 0.25)),
     out: () => page.moveBy((window) => zoomed(window, 2)),

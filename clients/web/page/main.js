@@ -23,6 +23,8 @@ const MOST_PANEL = 420;
 const AROUND_PANEL = 62; // what stands above and below its chart
 const BELOW_PANELS = 90;
 const NOWHERE = { t0: 0n, t1: 1n }; // the window where no series is there
+const AFTER = 20; // milliseconds from a drawing until its pixels are on the screen
+const PATIENCE = 150; // milliseconds that the controls and the address wait for pixels
 
 class Page {
   constructor() {
@@ -40,6 +42,10 @@ class Page {
     this.wanted = null; // the panels that are to be drawn next, while others are being drawn
     this.isDrawing = false;
     this.isAsked = false; // whether somebody asked for what is drawn, so that it is told aloud
+    this.held = null; // takes away what a drag left, once its pixels are there
+    this.around = null; // shows in the controls what was asked for last
+    this.untold = []; // the addresses that the browser isn't told yet
+    [this.soon, this.late] = [null, null]; // the timers of what waits for pixels
   }
 
   asked() {
@@ -62,23 +68,55 @@ class Page {
     return asked.t0 === null ? (this.panels.find(({ window }) => window)?.window ?? windowOf(asked, this.shown(asked), 1000)) : within(asked);
   }
 
-  /** Changes what is asked for, which Back undoes unless it replaces what was there. The requests leave before the address changes. */
+  /** Changes what is asked for, which Back undoes unless it replaces what was there. */
   change(words, { replaces = false, began = performance.now() } = {}) {
     this.query = spellAddress({ ...this.asked(), ...words });
     this.isAsked = true;
-    this.draw(began);
     this.tellAddress(replaces ? "replaceState" : "pushState");
+    this.draw(began);
   }
 
-  /** Has the browser's address name what is asked for. */
+  /** Has the browser's address name what is asked for, soon. */
   tellAddress(how) {
-    history[how](null, "", `${this.query}${location.hash}`);
+    const replaced = how === "replaceState" ? this.untold.pop() : null;
+    this.untold.push({ query: this.query, how: replaced?.how ?? how });
+    this.wait();
+  }
+
+  /** Sees to it that what waits for pixels doesn't wait for long. */
+  wait() {
+    this.late ??= setTimeout(() => this.settle(), PATIENCE);
+  }
+
+  /** Does what waits for pixels, since a browser takes long for a new address: that and the controls name what is asked for. */
+  settle() {
+    [this.soon, this.late].forEach(clearTimeout);
+    this.late = null;
+    this.around?.();
+    this.around = null;
+    for (const { query, how } of this.untold.splice(0)) {
+      history[how](null, "", `${query}${location.hash}`);
+    }
+    document.body.toggleAttribute("data-drawing", this.isDrawing);
+  }
+
+  /** Takes away what a drag left. */
+  release() {
+    this.held?.();
+    this.held = null;
   }
 
   /** Shows what the browser's address names. */
   goBack() {
+    this.untold = [];
     this.query = location.search;
     this.draw();
+  }
+
+  /** Goes so many steps back or forward. */
+  travel(steps) {
+    this.settle();
+    history.go(steps);
   }
 
   /** Goes to a window; one that follows the end stays there then. */
@@ -191,10 +229,11 @@ class Page {
     }
   }
 
-  /** Draws what is wanted until nothing more is; the document says so until then. */
+  /** Draws what is wanted until nothing more is; the document says so until all that waits for the pixels is done. */
   async drawOn() {
     this.isDrawing = true;
     document.body.toggleAttribute("data-drawing", true);
+    clearTimeout(this.soon);
     while (this.wanted && this.connection.number && document.visibilityState === "visible") {
       const { names, began } = this.wanted;
       this.wanted = null;
@@ -205,8 +244,9 @@ class Page {
         this.tellFault(error);
       }
     }
-    document.body.toggleAttribute("data-drawing", false);
     this.isDrawing = false;
+    this.release();
+    this.soon = setTimeout(() => this.settle(), AFTER);
     this.followed.soon();
   }
 
@@ -224,10 +264,12 @@ class Page {
     this.readLook(asked);
     this.makePanels(asked);
     const window = this.asksFor(asked);
-    setTimeout(() => this.showAsked(asked, window)); // while the answers are on their way
+    this.around = () => this.showAsked(asked, window);
+    this.wait();
     if (this.panels.length > 0) {
       const some = this.panels.filter(({ spec }) => names === null || spec.names.some((name) => names.includes(name)));
-      const drawn = drawPanels(some, window, this, () => drawAxis());
+      const painting = () => [this.release(), drawAxis()];
+      const drawn = drawPanels(some, window, this, painting);
       const drawAxis = this.makeAxis(window); // while the answers are on their way
       await drawn;
       drawAxis();

@@ -18,6 +18,7 @@ class Drag {
 
   begin(event) {
     if (this.panel.window && event.button === 0) {
+      this.page.release();
       Object.assign(this, { from: this.placeOf(event), to: this.placeOf(event), isPan: event.shiftKey });
       this.panel.plot.setPointerCapture(event.pointerId);
       this.panel.plot.focus({ preventScroll: true });
@@ -44,6 +45,11 @@ class Drag {
 
   stop() {
     this.from = null;
+    this.hide();
+  }
+
+  /** Takes the selection away, and puts moved pictures back. */
+  hide() {
     for (const { plot, selection } of this.page.panels) {
       selection.hidden = true;
       plot.style.removeProperty("--moved");
@@ -57,12 +63,15 @@ class Drag {
     const began = performance.now();
     const { window, w } = this.panel;
     const [left, right] = [this.from, this.placeOf(event)].map((share) => timesOf(window, Math.round(share * w), w).from);
-    if (left !== right) {
+    this.from = null;
+    this.page.held = () => this.hide();
+    if (left === right) {
+      this.page.release();
+    } else {
       const by = left - right;
       const ends = this.isPan ? { t0: window.t0 + by, t1: window.t1 + by } : { t0: least(left, right), t1: greatest(left, right) };
       this.page.move(ends, { began });
     }
-    this.stop();
   }
 }
 

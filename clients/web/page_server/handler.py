@@ -15,6 +15,7 @@ from zurtkvani_client import Ended, page_rules
 from zurtkvani_client.page_rules import BEAT, EDITS, MOST_BYTES, OF_SESSION, REST
 
 from .connections import ANSWER, BODY, HEAD, WAITING, Connections, refuse
+from .program import AT_ONCE
 
 FOLDER = os.path.dirname(os.path.dirname(os.path.realpath(__file__)))
 MOST_STREAMS = 48
@@ -28,7 +29,7 @@ class Handler(http.server.BaseHTTPRequestHandler):
     server_version, sys_version = "chart", ""
     timeout = 60
     # The head and the body of an answer leave at once: apart, the body waits until the browser has acknowledged the head.
-    wbufsize = 1 << 16
+    wbufsize = AT_ONCE
     disable_nagle_algorithm = True
 
     def turn_to(self, state):
