@@ -1,6 +1,6 @@
 //! A load whose input fails in mid-stream.
 
-use crate::worlds::{behind, world_of};
+use crate::worlds::{behind, behind_on, empty_of, world_of};
 use run_ends::status_of;
 use series_book::Name;
 use std::alloc::Global;
@@ -20,11 +20,12 @@ fn rows(alloc: Global, count: u16, value: &str) -> Result<Vec<u8>, Fail> {
     Ok(input)
 }
 
-/// Loads 12,000 rows of 25 bytes where the take of this number fails, each of 262,144 bytes, and checks the store: whether the
+/// Loads 42,500 rows of 25 bytes where the take of this number fails, each of 1,048,576 bytes, and checks the store: whether the
 /// load has this code, and what is sent begins so.
 fn is_loaded(alloc: Global, take: u64, code: u8, text: &[u8]) -> Result<bool, Fail> {
-    let input = rows(alloc, 12_000, "123456789012345.67")?;
-    let world = world_of(alloc, behind(alloc, CREATED)?, input.as_slice(), &[take])?;
+    let input = rows(alloc, 42_500, "123456789012345.67")?;
+    let disk = behind_on(alloc, empty_of(alloc, 512)?, CREATED)?;
+    let world = world_of(alloc, disk, input.as_slice(), &[take])?;
     let name = Name::new(alloc, b"a")?;
     let (end, world) = load_series(alloc, &name, world);
     let (_, world) = check_store(alloc, world);
@@ -36,9 +37,9 @@ fn is_loaded(alloc: Global, take: u64, code: u8, text: &[u8]) -> Result<bool, Fa
 fn an_input_fails_in_mid_stream(rt: HostRuntime) -> Result<(), Fail> {
     let alloc = rt.alloc();
     assert!(rt; is_loaded(alloc, 0, 4, b"series 1\nvalues 0\n")?);
-    assert!(rt; is_loaded(alloc, 1, 4, b"series 1\nvalues 10240\n")?);
-    assert!(rt; is_loaded(alloc, 2, 4, b"series 1\nvalues 11776\n")?);
-    assert!(rt; is_loaded(alloc, 3, 0, b"loaded 12000\nseries 1\nvalues 12000\n")?);
+    assert!(rt; is_loaded(alloc, 1, 4, b"series 1\nvalues 41728\n")?);
+    assert!(rt; is_loaded(alloc, 2, 4, b"series 1\nvalues 42496\n")?);
+    assert!(rt; is_loaded(alloc, 3, 0, b"loaded 42500\nseries 1\nvalues 42500\n")?);
     Ok(())
 }
 

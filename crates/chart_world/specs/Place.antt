@@ -9,8 +9,8 @@ placed Nowhere bytes spill = []
 placed (Piece first end) bytes spill = slice_range bytes first end
 placed (Spill end) bytes spill = take end spill
 
--- the place stands within the piece of 262,144 bytes or within the spill, and is short enough for a line
+-- the place stands within the piece of 1,048,576 bytes or within the spill, and is short enough for a line
 abbrev pub IsPlaced : Place → List ℕ → Type 0
 IsPlaced Nowhere spill = Unit {0}
-IsPlaced (Piece first end) spill = (first ≤ end) × (end ≤ first + 8192) × (end ≤ 262144)
+IsPlaced (Piece first end) spill = (first ≤ end) × (end ≤ first + 8192) × (end ≤ 1048576)
 IsPlaced (Spill end) spill = end ≤ length spill

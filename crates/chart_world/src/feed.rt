@@ -9,7 +9,7 @@ use block_disk::{Failed, Streams};
 use std::alloc::{AllocError, Global};
 
 /// The bytes of a piece.
-const PIECE: usize = 262144;
+const PIECE: usize = 1048576;
 
 /// The most bytes of a line that is not too long.
 pub(crate) const LONGEST: usize = 8192;
@@ -25,12 +25,12 @@ pub(crate) struct Feed {
     pub(crate) spill: Vec<u8>,
     pub(crate) ended: bool,
     pub(crate) limit: u64,
-    ghost sized: { vec_len bytes ≡ 262144 },
+    ghost sized: { vec_len bytes ≡ 1048576 },
     ghost ordered: { start ≤ end },
-    ghost within: { end ≤ 262144 },
+    ghost within: { end ≤ 1048576 },
     ghost counted: { end - start ≤ taken },
     ghost limited: { limit < 2 ^ 63 },
-    ghost bounded: { taken ≤ limit + 262144 },
+    ghost bounded: { taken ≤ limit + 1048576 },
     ghost short: { vec_len spill ≤ 8192 },
     ghost room: { 8192 ≤ vec_capacity spill },
     ghost passed: { IsTrue ended → start ≡ end },

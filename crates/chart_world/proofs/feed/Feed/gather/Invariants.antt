@@ -24,4 +24,4 @@ invariant-loop-self g l =
     }
 
 abbrev pub decreases-loop-self : goal.decreases-loop-self
-decreases-loop-self g l = l.fn.self.limit + 262144 - l.self.taken
+decreases-loop-self g l = l.fn.self.limit + 1048576 - l.self.taken
