@@ -18,7 +18,7 @@ use Rattle.served_lines.specs.Turning.{lines_of}
 
 -- a reader that has given so many bytes, with none pending
 abbrev pub reading_at : ℕ → Reading
-reading_at given = record { given = given; pending = []; taken = given; line = []; offset = 0; usable = true; ended = false }
+reading_at given = record { given = given; pending = []; taken = given; line = []; offset = 0; usable = true; ended = false; limit = 2 ^ 32 }
 
 nothing_behind : (front piece : List ℕ) → front ++ piece ≡ [] → piece ≡ []
 nothing_behind [] piece none = none
