@@ -17,13 +17,13 @@ export async function* readEvents(session, alive, cut) {
   let timer = setTimeout(() => cut.abort(), SILENCE);
   try {
     const response = await post("events", String(session), { signal: cut.signal });
-    const reader = response.body.pipeThrough(new TextDecoderStream()).getReader();
+    const [reader, decoder] = [response.body.getReader(), new TextDecoder()];
     let text = "";
     for (let piece = await reader.read(); !piece.done; piece = await reader.read()) {
       clearTimeout(timer);
       timer = setTimeout(() => cut.abort(), SILENCE);
       alive();
-      const blocks = (text + piece.value).split("\n\n");
+      const blocks = (text + decoder.decode(piece.value, { stream: true })).split("\n\n");
       text = blocks.pop();
       const events = blocks.map(eventOf).filter((event) => event !== null);
       yield* events.map((event, at) => ({ ...event, behind: events.length - 1 - at }));
