@@ -43,9 +43,9 @@ returns-clause-ends g c = λ total book told stands.
     let work = c.run_lines-answer.new.work in
     let e = c.run_lines-answer.ensures in
     let hosted = first_at total book (held_by old) (its.view old) (sent (pages old)) in
-    let none : c.new-2.result.items ≡ [] = search rules in
+    let none : c.new.result.items ≡ [] = search rules in
     let S : List Edit → Type 0 = λ l. SpellEdits [] l in
-    let here : IsHosted hosted c.new-2.result.items (shown.IsTold (its.service old)) (its.view old) (held_by old) (sent (pages old)) =
+    let here : IsHosted hosted c.new.result.items (shown.IsTold (its.service old)) (its.view old) (held_by old) (sent (pages old)) =
     record { told_so = told; stands = stands; sound = c.requires.book total book told stands; held_is = refl; idle = c.requires.idle; spell = subst S (sym none) tt; sent_is = refl; reads_are = refl; syncs_are = refl } in
     let E : End → Type 0 = λ end. EndsOn g.P.Streams total book old new end in
     subst E (sym c.run_end.ensures)
@@ -62,9 +62,9 @@ returns-clause-crash g c = λ total book told stands.
     let work = c.run_lines-answer.new.work in
     let e = c.run_lines-answer.ensures in
     let hosted = first_at total book (held_by old) (its.view old) (sent (pages old)) in
-    let none : c.new-2.result.items ≡ [] = search rules in
+    let none : c.new.result.items ≡ [] = search rules in
     let S : List Edit → Type 0 = λ l. SpellEdits [] l in
-    let here : IsHosted hosted c.new-2.result.items (shown.IsTold (its.service old)) (its.view old) (held_by old) (sent (pages old)) =
+    let here : IsHosted hosted c.new.result.items (shown.IsTold (its.service old)) (its.view old) (held_by old) (sent (pages old)) =
     record { told_so = told; stands = stands; sound = c.requires.book total book told stands; held_is = refl; idle = c.requires.idle; spell = subst S (sym none) tt; sent_is = refl; reads_are = refl; syncs_are = refl } in
     lasts_so total book (held_by old) (its.view old) (sent (pages old)) (its.view new) (held_by new) work.edits.items (shown.IsTold (its.service new)) (left (pages old)) (left (pages new)) (sent (pages new)) (pieces (pages old)) (pieces (pages new))
     (left (pages old)) (sent (pages old)) (λ lasts. e.crash hosted here lasts)
@@ -79,9 +79,9 @@ returns-clause-costs g c = λ total book told stands.
     let work = c.run_lines-answer.new.work in
     let e = c.run_lines-answer.ensures in
     let hosted = first_at total book (held_by old) (its.view old) (sent (pages old)) in
-    let none : c.new-2.result.items ≡ [] = search rules in
+    let none : c.new.result.items ≡ [] = search rules in
     let S : List Edit → Type 0 = λ l. SpellEdits [] l in
-    let here : IsHosted hosted c.new-2.result.items (shown.IsTold (its.service old)) (its.view old) (held_by old) (sent (pages old)) =
+    let here : IsHosted hosted c.new.result.items (shown.IsTold (its.service old)) (its.view old) (held_by old) (sent (pages old)) =
     record { told_so = told; stands = stands; sound = c.requires.book total book told stands; held_is = refl; idle = c.requires.idle; spell = subst S (sym none) tt; sent_is = refl; reads_are = refl; syncs_are = refl } in
     costs_so total book (held_by old) (its.view old) (sent (pages old)) (its.view new) (held_by new) work.edits.items (shown.IsTold (its.service new)) (left (pages old)) (left (pages new)) (sent (pages new)) (pieces (pages old)) (pieces (pages new))
     c.run_lines-answer.result (e.done hosted here) (e.stops hosted here)
