@@ -100,8 +100,8 @@ def rest_unseen(page):
 
 
 def fall_behind(page):
-    """Where a change isn't drawn within a second the page says so, until it is."""
-    page.open("panel=few")
+    """Where a change isn't drawn within a second the page says so, until it is. Of two panels: a view that is alone is soon followed, and pushed."""
+    page.open("panel=few&panel=tide")
     page.browser.run(HOLD)
     page.request("set few 0 5")
     wait_for(lambda: page.read()["state"] == "behind", lambda: f"the page says {page.read()['status']}")
