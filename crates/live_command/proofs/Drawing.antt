@@ -1,5 +1,5 @@
 -- A client follows all frames of a run.
-use Rattle.std.proofs.Common.{◌≡◌, List, [], ◌∷◌, ◌++◌, Option, refl, sym, subst}
+use Rattle.std.proofs.Common.{◌≡◌, ℕ, List, [], ◌∷◌, ◌++◌, Option, refl, sym, subst}
 use Rattle.line_raster.specs.Canvas.{Canvas}
 use Rattle.chart_client.specs.Accepting.{Rejects}
 use Rattle.chart_client.specs.declared.errors.ClientError.{ClientError}
