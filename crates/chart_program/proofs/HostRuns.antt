@@ -11,12 +11,12 @@ use Rattle.chart_service.specs.EditGroups.{RepliesToEdits, SpellEdits, SpellsEdi
 use Rattle.chart_service.specs.State.{State}
 use Rattle.chart_service.specs.Replies.{RepliesTo}
 use Rattle.chart_service.specs.Serving.{told}
-use Rattle.host_lines.specs.Grammar.{before_places, free_places, host_line, last_places, places_fault, rule_fault, rule_named, sum_named, sum_places, tokens_ask, unless, values_named, values_places}
+use Rattle.host_lines.specs.Grammar.{host_line, places_fault, rule_fault, rule_named, sum_named, sum_places, tokens_ask, unless, values_named, values_places}
 use Rattle.host_lines.specs.declared.asked.HostLine.{HostLine}
 use Rattle.host_lines.specs.declared.asked.HostLine.TheVariants.{List as ListLine, Values, Sum, Sweep, Bad, Other}
 use Rattle.host_replies.specs.Replies.{Reported}
 use Rattle.host_sweeps.specs.Sweeping.{SweepReplied, most_clears, step_clears}
-use Rattle.hosted_lines.specs.Hosts.{AnswersLine, DoesGroup, Event, Happens, InRow, IsPassed, MakesPush, Reports, Sweeps, answer, clears_asked, group, lines_in, push, report, sweep}
+use Rattle.hosted_lines.specs.Hosts.{AnswersLine, DoesGroup, Event, Happens, InRow, IsPassed, Reports, Sweeps, answer, clears_asked, group, lines_in, push, report, sweep}
 use Rattle.hosted_lines.specs.Running.{FirstLines}
 use Rattle.live_service.specs.LiveReplies.{LiveState}
 use Rattle.hosted_lines.specs.Begun.{begun_live}

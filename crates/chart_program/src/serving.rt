@@ -3,7 +3,6 @@ ghost use Rattle.chart_client.specs.Accepting.{HasNumber};
 ghost use Rattle.chart_world.specs.Faults.{CountsFault};
 ghost use Rattle.program_words.specs.declared.words.Command.TheVariants.{Run, Serve};
 ghost use Rattle.store_commands.specs.Away.{TurnsAway};
-ghost use Rattle.run_ends.specs.Statuses.{status};
 ghost use Rattle.store_commands.specs.Status.{code_fault};
 ghost use Rattle.store_commands.specs.Traffic.{traffic};
 ghost use Rattle.chart_program.specs.Commands.{EndsSo};

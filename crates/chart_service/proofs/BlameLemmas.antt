@@ -1,5 +1,5 @@
 -- Which page edits that are done together call damaged, and edits that change nothing.
-use Rattle.std.proofs.Common.{◌≡◌, ℕ, zero, suc, ◌<◌, ◌≤◌, List, [], ◌∷◌, take, drop, sym, subst, arith}
+use Rattle.std.proofs.Common.{◌≡◌, ℕ, zero, suc, List, [], ◌∷◌, take, drop, sym, subst, arith}
 use Rattle.block_disk.specs.View.{Image, View}
 use Rattle.page_space.specs.declared.superblock.Superblock.{Superblock}
 use Rattle.series_book.specs.EditLists.{after_edits, book_behind}

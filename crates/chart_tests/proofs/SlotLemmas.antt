@@ -1,5 +1,5 @@
 -- A slot behind slots.
-use Rattle.std.proofs.Common.{◌≡◌, ℤ, [], ◌∷◌, ◌++◌, Option, None, Some, IfSome, subst}
+use Rattle.std.proofs.Common.{◌≡◌, ℤ, Option, None, Some, IfSome, subst}
 use Rattle.whole_number.specs.Range.{IsValue}
 
 same_value : (u v : ℤ) → Some (Some u) ≡ Some (Some v) → u ≡ v

@@ -1,5 +1,5 @@
 -- The frames that answer `values`, put together, are the pieces of the window.
-use Rattle.std.proofs.Common.{◌≡◌, ◌∙◌, ℕ, ℤ, suc, pos, ◌+ℤ◌, ◌+◌, ◌-◌, ◌*◌, ◌<◌, ◌≤◌, ◌<ℤ◌, Bool, true, false, cond, List, [], ◌∷◌, ◌++◌, length, map, Option, None, Some, refl, ap, sym, subst, inl, inr, arith}
+use Rattle.std.proofs.Common.{◌≡◌, ◌∙◌, ℕ, ℤ, suc, pos, ◌+◌, ◌-◌, ◌<◌, ◌≤◌, ◌<ℤ◌, Bool, true, false, cond, List, [], ◌∷◌, ◌++◌, length, map, Option, None, Some, refl, ap, sym, subst, inl, inr, arith}
 use Rattle.std.specs.Prelude.{nat_lt, ◌↔◌}
 use Rattle.std.proofs.lemmas.Bool.{cases_lt, lt-ltb, ltb-true}
 use Rattle.chart_frames.specs.declared.frame.Frame.{Frame}
@@ -9,7 +9,7 @@ use Rattle.chart_frames.specs.declared.reports.Report.TheVariants as report
 use Rattle.chart_frames.specs.declared.reports.ValuesFrame.{ValuesFrame}
 use Rattle.chart_service.specs.State.{State}
 use Rattle.host_replies.specs.Replies.{TellsValues, TellsValuesOf}
-use Rattle.host_reports.specs.Reports.{piece_frame, run_in, time_left, values_of}
+use Rattle.host_reports.specs.Reports.{piece_frame, run_in, values_of}
 use Rattle.host_reports.proofs.RunLemmas.{AreApart, runs_apart}
 use Rattle.retention.specs.Sweeps.{at_id, slot_time, slots_before}
 use Rattle.retention.proofs.TimeLemmas.{before_few}

@@ -1,5 +1,4 @@
 //! Edits that are kept back until they are done together.
-ghost use Rattle.std.specs.Prelude.{◌≡◌, []};
 
 use series_book::Edit;
 use std::alloc::Global;

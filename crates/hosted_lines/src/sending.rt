@@ -1,5 +1,5 @@
 //! Frames are sent one after the other.
-ghost use Rattle.std.specs.Prelude.{◌≡◌, ◌≢◌, ◌≤◌, All, Err, length, IfErr, OnOk};
+ghost use Rattle.std.specs.Prelude.{◌≡◌, ◌≤◌, All, Err, length, IfErr, OnOk};
 ghost use Rattle.block_disk.specs.Counts.{HasRisen};
 ghost use Rattle.block_disk.specs.Streams.{sent_after};
 ghost use Rattle.chart_frames.specs.Frames.{Fits};

@@ -1,10 +1,9 @@
 -- What is done over the store of a disk, in the words of the disk.
-use Rattle.std.proofs.Common.{◌≡◌, ◌≢◌, ◌∙◌, ℕ, ◌≤◌, Bool, List, [], Option, Some, None, IfSome, ap, refl, sym, subst, arith}
+use Rattle.std.proofs.Common.{◌≡◌, ◌≢◌, ◌∙◌, ℕ, ◌≤◌, Bool, List, [], Option, Some, None, IfSome, refl, sym, subst, arith}
 use Rattle.block_disk.specs.View.{Image, View, Honest, sent_now}
 use Rattle.block_disk.specs.SentLaws.{sent_none}
 use Rattle.chart_service.specs.MomentLaws.{since_both, since_none}
 use Rattle.chart_service.specs.Moments.{Since}
-use Rattle.chart_service.specs.Stepping.{state_of}
 use Rattle.chart_service.proofs.DiskKept.{risen_since}
 use Rattle.disk_store.proofs.Lowered.{lowered_is, lowered_readable}
 use Rattle.disk_store.specs.Held.{HoldsBook}
@@ -16,7 +15,6 @@ use Rattle.gate_pages.specs.GateLaws.{goes_none, goes_then}
 use Rattle.gate_pages.specs.GatePages.{IsClosed, PagesOf, pages_view}
 use Rattle.gate_pages.specs.Journal.{page_count, pages_of}
 use Rattle.live_service.specs.LiveReplies.{LiveState}
-use Rattle.live_service.specs.Shown.{live_of}
 use Rattle.run_ends.specs.declared.ending.End.{End}
 use Rattle.run_ends.specs.declared.ending.End.TheVariants.{Done, NoMemory, ReadFault, SendFault, DiskFault, DamagedPage, InputTooLong}
 use Rattle.series_book.specs.declared.one_series.Series.{Series}
@@ -31,8 +29,7 @@ use Rattle.store_commands.specs.Books.{HoldsAgain, OfBook, OfPages, Stands, Hold
 use Rattle.store_commands.specs.Codes.{too_small, unopened}
 use Rattle.store_commands.specs.Status.{opening_end}
 use Rattle.store_commands.specs.Traffic.{IsLong, Traffic, WasRead}
-use Rattle.zoom_session.specs.declared.session.Session.{Session}
-use Rattle.hosted_lines.specs.Doing.{Goes, IsCause, Side}
+use Rattle.hosted_lines.specs.Doing.{Goes, IsCause}
 use Rattle.hosted_lines.specs.Begun.{begun_live}
 use Rattle.hosted_lines.proofs.DiskSides.{disk_side}
 use Rattle.live_command.specs.Ended.{IsLiveCause, LeavesLived, LiveEnds, ReadsFrom, ReadsLiving, SyncsLiving}

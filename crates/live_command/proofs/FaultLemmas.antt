@@ -1,5 +1,5 @@
 -- The failed call that ends a run, by the counts of faults.
-use Rattle.std.proofs.Common.{◌≡◌, ◌∙◌, Result, Err, refl}
+use Rattle.std.proofs.Common.{◌≡◌, Result, Err, refl}
 use Rattle.std.specs.Prelude.{⊤}
 use Rattle.chart_service.specs.Faulting.{serve_fault}
 use Rattle.chart_service.specs.Serving.{end_of}

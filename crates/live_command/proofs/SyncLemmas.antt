@@ -1,5 +1,5 @@
 -- How often the lines so far have synced the disk.
-use Rattle.std.proofs.Common.{◌≡◌, ◌∙◌, ℕ, ◌+◌, ◌*◌, ◌<◌, ◌≤◌, List, [], ◌∷◌, ◌++◌, length, Option, Some, None, IfSome, refl, ap, sym, subst, inl, arith, length-append}
+use Rattle.std.proofs.Common.{◌≡◌, ◌∙◌, ℕ, ◌+◌, ◌*◌, ◌≤◌, List, [], ◌++◌, length, Option, Some, None, IfSome, refl, ap, sym, subst, inl, arith, length-append}
 use Rattle.std.specs.List.{after_first}
 use Rattle.chart_service.proofs.SyncLemmas.{edits_joined}
 use Rattle.chart_service.specs.Serving.{told, unless_empty}

@@ -1,5 +1,5 @@
 //! A series that is to be added is staged.
-ghost use Rattle.std.specs.Prelude.{◌≡◌, ◌≤◌, ◌<◌, length, ◌≢◌, OnOk, IfErr};
+ghost use Rattle.std.specs.Prelude.{◌≡◌, ◌<◌, length, ◌≢◌, OnOk, IfErr};
 ghost use Rattle.page_space.specs.Shown as spaces;
 ghost use Rattle.page_space.specs.Transactions.{held, told_by};
 ghost use Rattle.series_catalog.specs.Shown.{series_in};

@@ -1,5 +1,5 @@
 //! Edits are staged: done in a transaction and in the catalog, and not committed.
-ghost use Rattle.std.specs.Prelude.{◌≡◌, ◌≤◌, ◌+◌, length, IfOk, ◌≢◌, OnOk, IfErr};
+ghost use Rattle.std.specs.Prelude.{◌≡◌, ◌+◌, length, IfOk, ◌≢◌, OnOk, IfErr};
 ghost use Rattle.page_space.specs.Shown as spaces;
 ghost use Rattle.page_space.specs.Transactions.{held};
 ghost use Rattle.series_catalog.specs.Shown.{series_in};

@@ -1,5 +1,5 @@
 -- Lines of an input that a reader gives.
-use Rattle.std.proofs.Common.{ℕ, ◌≤◌, ◌^◌, List, Option, Some, None, IfSome}
+use Rattle.std.proofs.Common.{ℕ, List, Option, Some, None, IfSome}
 
 -- what is so of each input is so of one that is told
 pub any_told : (o : Option (List ℕ)) (P : List ℕ → Type 0) → ((input : List ℕ) → P input) → IfSome o P

@@ -4,7 +4,7 @@ use Rattle.std.specs.Prelude.{FitsSigned}
 use Rattle.std.proofs.lemmas.Int.{ints, by_lt_z}
 use Rattle.std.proofs.lemmas.Bool.{cases_lt}
 use Rattle.std.proofs.Math.Nat.{mul-le-mul_right}
-use Rattle.chart_grid.specs.Projection.{InWindow, column}
+use Rattle.chart_grid.specs.Projection.{InWindow}
 use Rattle.chart_grid.specs.Slots.{slot_time, IsInColumn}
 use Rattle.chart_grid.proofs.Rising.{column-rising}
 use Rattle.om3_coeff.specs.declared.key.Key.{Key}
