@@ -1,5 +1,5 @@
 -- Reports that were read, part by part.
-use Rattle.std.proofs.Common.{◌≡◌, ℕ, ℤ, zero, suc, ◌+◌, ◌-◌, ◌*◌, ◌/◌, ◌%◌, ◌<◌, ◌≤◌, inl, inr, Bool, true, false, cond, leb, eqb, List, [], ◌∷◌, ◌++◌, length, take, drop, Result, Err, refl, sym, ap, ◌∙◌, subst, arith, append_assoc, length-append}
+use Rattle.std.proofs.Common.{◌≡◌, ℕ, ℤ, zero, suc, ◌+◌, ◌-◌, ◌*◌, ◌<◌, ◌≤◌, inl, inr, Bool, true, false, cond, leb, eqb, List, [], ◌∷◌, ◌++◌, length, take, drop, Result, Err, refl, sym, ap, ◌∙◌, subst, arith, append_assoc, length-append}
 use Rattle.std.specs.Prelude.{All}
 use Rattle.std.specs.Bool.{IsTrue}
 use Rattle.std.specs.List.{list_all}
@@ -18,7 +18,7 @@ use Rattle.chart_frames.specs.declared.reports.Run.{Run}
 use Rattle.chart_frames.specs.declared.values_reading.Room.{Room}
 use Rattle.chart_frames.specs.Format.{Format, number_bytes}
 use Rattle.chart_frames.specs.Reading.{read}
-use Rattle.chart_frames.specs.Fields.{is_catalog_length, is_blank, is_padded, padded_field, listed_fields, series_list, are_counts, lesser, run_fields, runs_fields, value_field, values_list}
+use Rattle.chart_frames.specs.Fields.{is_blank, is_padded, padded_field, listed_fields, series_list, are_counts, lesser, run_fields, runs_fields, value_field, values_list}
 use Rattle.chart_frames.specs.Frames.{number_of_flag, name_number, FitsListed, FitRuns}
 use Rattle.chart_frames.specs.Spelled.{signed_bytes, listed_before, series_before, run_before, runs_before, values_before}
 use Rattle.chart_frames.specs.Items.{Fails}
@@ -117,12 +117,6 @@ pub series_failed : (e : ItemStop) (count : ℕ) (all : List ℕ) (series : List
 series_failed e count all series rest below h fails =
     fails_on e (read (series_list count) all) (read (listed_fields (series_list (count - suc (length series)))) rest)
     (h.on ∙ ap (λ (f : Format). read f rest) (series_next (length series) count below)) (fails (series_list (count - suc (length series))))
-
-count_few : (length count : ℕ) → is_catalog_length length ≡ true → 11 + 70 * count ≡ length → count ≤ 512
-count_few length count h e =
-    let long = and_parts (leb 11 length) _ h in
-    let whole = and_parts (eqb ((length - 11) % 70) 0) _ long.1 in
-    omega (arith, e, leb-true ((length - 11) / 70) 512 whole.1)
 
 -- ---- runs
 

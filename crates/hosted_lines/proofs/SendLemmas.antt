@@ -1,5 +1,5 @@
 -- Frames that are sent one after the other.
-use Rattle.std.proofs.Common.{◌≡◌, ◌∙◌, ℕ, ◌+◌, ◌≤◌, List, [], ◌∷◌, length, Option, Result, Ok, Err, refl, ap, sym, arith}
+use Rattle.std.proofs.Common.{◌≡◌, ◌∙◌, ℕ, List, [], ◌∷◌, Option, Result, Ok, Err, refl, ap, sym}
 use Rattle.std.specs.Prelude.{OnOk, IfErr}
 use Rattle.block_disk.specs.Streams.{sent_after}
 use Rattle.block_disk.specs.SentLaws.{sent_none}
@@ -10,7 +10,7 @@ use Rattle.run_ends.specs.declared.ending.End.TheVariants.{NoMemory, SendFault}
 use Rattle.hosted_lines.specs.Doing.{FrameStops}
 use Rattle.hosted_lines.specs.Hosting.{FramesStop}
 use Rattle.hosted_lines.specs.Lives.{spelled}
-use Rattle.hosted_lines.proofs.EventLemmas.{length_more, length_one, sent_then, spelled_one}
+use Rattle.hosted_lines.proofs.EventLemmas.{sent_then, spelled_one}
 
 -- the first of the frames wasn't sent
 pub first_stops : (frames later : List Frame) (frame : Frame) (before now : Option (List ℕ)) (end : End) → frames ≡ frame ∷ later → FrameStops frame before now end → FramesStop frames before now end
@@ -46,20 +46,8 @@ later_error {T} (Ok v) frames later frame before between now is sent s = tt
 later_error {T} (Err end) frames later frame before between now is sent s = later_stops frames later frame before between now end is sent s
 
 -- all of them were
-pub later_whole : {T : Type 0} (result : Result T End) (frames later : List Frame) (frame : Frame) (before between now : Option (List ℕ)) → frames ≡ frame ∷ later → between ≡ sent_after (spelling frame) before → OnOk result (now ≡ sent_after (spelled later) between) → OnOk result (now ≡ sent_after (spelled frames) before)
-later_whole {T} (Err end) frames later frame before between now is sent s = tt
-later_whole {T} (Ok v) frames later frame before between now is sent s =
-    sent_then (frame ∷ []) later before between now (one_sent frame before between sent) s ∙ ap (λ l. sent_after (spelled l) before) (sym is)
-
 pub none_whole : (frames : List Frame) (before : Option (List ℕ)) → frames ≡ [] → before ≡ sent_after (spelled frames) before
 none_whole frames before none = sent_none before ∙ ap (λ l. sent_after (spelled l) before) (sym none)
-
--- how long they are
-pub spelled_sum : (frames later : List Frame) (frame : Frame) → frames ≡ frame ∷ later → length (spelling frame) + length (spelled later) ≤ length (spelled frames)
-spelled_sum frames later frame is = omega (arith, ap (λ l. length (spelled l)) is, length_more (frame ∷ []) later, length_one frame)
-
-pub spelled_part : (frames later : List Frame) (frame : Frame) → frames ≡ frame ∷ later → length (spelling frame) ≤ length (spelled frames)
-spelled_part frames later frame is = omega (arith, spelled_sum frames later frame is)
 
 -- ---- one frame
 pub one_stops : {T : Type 0} (result : Result T End) (frame : Frame) (before now : Option (List ℕ)) → IfErr result (FrameStops frame before now) → IfErr result (FramesStop (frame ∷ []) before now)

@@ -1,9 +1,9 @@
 -- What calls move, whatever the pages are.
-use Rattle.std.proofs.Common.{◌≡◌, ◌∙◌, ℕ, ◌≤◌, List, None, refl, ap, sym, inl, arith}
+use Rattle.std.proofs.Common.{◌≡◌, ◌∙◌, ℕ, ◌≤◌, List, None, refl, ap, sym, arith}
 use Rattle.block_disk.specs.View.{Beside, DiskKept}
 use Rattle.chart_world.specs.Faults.{CountsFault}
 use Rattle.chart_world.specs.FaultLaws.{disk_stays, sends_stay, takes_stay}
-use Rattle.chart_service.specs.Stepping.{GroupSteps, Steps}
+use Rattle.chart_service.specs.Stepping.{Steps}
 use Rattle.chart_service.proofs.DiskKept.{risen_since}
 use Rattle.gate_pages.specs.GateLaws.{goes_none, goes_then as goes_on_then}
 use Rattle.gate_pages.specs.Pages.{GoesOn}
@@ -43,18 +43,6 @@ goes_step old new was are steps on = record {
   sends = omega (arith, sym are.sends_are ∙ ap (λ (b : Beside). b.send_faults) steps.beside ∙ was.sends_are);
 }
 
--- edits that are done together
-pub goes_group : (old new : Side) → IsBeside old → IsBeside new → GroupSteps old.told new.told old.view new.view → GoesOn old.under new.under → Goes old new
-goes_group old new was are steps on = record {
-  is_told = steps.told;
-  was_told = steps.was_told;
-  size = steps.size;
-  faults = steps.faults;
-  goes_on = on;
-  reads = omega (arith, sym are.reads_are ∙ ap (λ (b : Beside). b.read_faults) steps.beside ∙ was.reads_are);
-  sends = omega (arith, sym are.sends_are ∙ ap (λ (b : Beside). b.send_faults) steps.beside ∙ was.sends_are);
-}
-
 -- takes and sends
 pub goes_streams : (old new : Side) → DiskKept old.view new.view → (old.told → new.told) → (new.told → old.told) → GoesOn old.under new.under → old.read_faults ≤ new.read_faults → old.send_faults ≤ new.send_faults → Goes old new
 goes_streams old new kept told was_told on reads sends = record { is_told = told; was_told = was_told; size = kept.size; faults = omega (arith, kept.faults); goes_on = on; reads = reads; sends = sends }
@@ -80,14 +68,6 @@ host_cause_later old mid new InputTooLong was are quiet is = tt
 host_cause_later old mid new end was are quiet is = absurd is
 
 -- and the cause of a live service is one
-pub host_cause : (old new : Side) (end : End) → IsCause end old new → IsHostCause end old new
-host_cause old new NoMemory is = tt
-host_cause old new ReadFault is = is
-host_cause old new SendFault is = is
-host_cause old new DiskFault is = is
-host_cause old new (DamagedPage page) is = (is.0, λ told. inl (is.1 told))
-host_cause old new InputTooLong is = tt
-host_cause old new end is = absurd is
 
 -- what is held beside the pages
 abbrev pub held_of : List Session → List ℕ → List ℕ → Held
