@@ -8,4 +8,5 @@ pub mod PointLemmas
 pub mod TimeLemmas
 pub mod FoundLemmas
 pub mod RowLemmas
+pub mod ReadLemmas
 pub mod OneLemmas

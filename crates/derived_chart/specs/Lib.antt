@@ -1,6 +1,7 @@
 pub mod Sums
 pub mod Bounds
 pub mod Searches
+pub mod Reads
 pub mod Slots
 pub mod Lists
 pub mod Points

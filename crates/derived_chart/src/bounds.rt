@@ -1,7 +1,9 @@
 //! Between which numbers the sums of a range lie.
-ghost use Rattle.std.specs.Prelude.{◌≡◌, ◌≢◌, ℤ, true, false, ◌+◌, ◌^◌, ◌≤◌, List, length, Option, IfOk, IfErr, OnOk};
+ghost use Rattle.std.specs.Prelude.{◌≡◌, ◌≢◌, ℤ, true, false, ◌+◌, ◌*◌, ◌^◌, ◌≤◌, List, length, Option, IfOk, IfErr, OnOk};
+ghost use Rattle.om3_coeff.specs.Keys.{height};
 ghost use Rattle.om3_coeff.specs.Spans.{IsProperIfAny, span_over};
 ghost use Rattle.derived_chart.specs.Bounds.{AreBetween, IsValueOf};
+ghost use Rattle.derived_chart.specs.Reads.{bounds_reads, levels};
 ghost use Rattle.derived_chart.specs.Sums.{AreSums, IsSmall, one_of};
 
 use crate::beside::beside;
@@ -24,6 +26,7 @@ fn span_in<T: TwoTrees>(
     ensures proper { IfOk result IsProperIfAny }
     ensures fit { (T.view trees.new).fit }
     ensures goes { T.goes trees.old trees.new }
+    ensures reads { (T.view trees.new).reads ≤ (T.view trees.old).reads + 2 * height (T.count second trees.old) }
     ensures cause { IfErr result (T.causes trees.old trees.new) }
     ensures quiet { OnOk result ((T.view trees.new).faults ≡ (T.view trees.old).faults) }
     ensures quiet_err { IfErr result (λ e. e ≢ NodeError.DiskFault → (T.view trees.new).faults ≡ (T.view trees.old).faults) }
@@ -48,6 +51,7 @@ pub(crate) fn bounds<T: TwoTrees>(
     ensures one { (xs ys sums : List (Option ℤ)) → T.are trees.old xs ys → AreSums sum xs ys sums → q ≡ p + 1 → IfOk result (IsValueOf sums p) }
     ensures fit { (T.view trees.new).fit }
     ensures goes { T.goes trees.old trees.new }
+    ensures reads { (T.view trees.new).reads ≤ (T.view trees.old).reads + bounds_reads (levels (T.count false trees.old) (T.count true trees.old)) }
     ensures cause { IfErr result (T.causes trees.old trees.new) }
     ensures quiet { OnOk result ((T.view trees.new).faults ≡ (T.view trees.old).faults) }
     ensures quiet_err { IfErr result (λ e. e ≢ NodeError.DiskFault → (T.view trees.new).faults ≡ (T.view trees.old).faults) }
@@ -73,6 +77,7 @@ fn slots_of_second<T: TwoTrees>(trees: &mut T) -> u64
     ensures length { (xs ys : List (Option ℤ)) → T.are trees.old xs ys → result ≡ length ys }
     ensures fit { (T.view trees.new).fit }
     ensures goes { T.goes trees.old trees.new }
+    ensures reads { (T.view trees.new).reads ≡ (T.view trees.old).reads }
     ensures quiet { (T.view trees.new).faults ≡ (T.view trees.old).faults }
 {
     trees.turn(true);

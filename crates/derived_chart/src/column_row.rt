@@ -1,7 +1,8 @@
 //! The row of a column.
-ghost use Rattle.std.specs.Prelude.{◌≡◌, ◌≢◌, ℤ, ◌+◌, ◌<◌, ◌≤◌, ◌^◌, List, Option, IfOk, IfErr, OnOk, IfSome, ℕ, false, ◌≤ℤ◌};
+ghost use Rattle.std.specs.Prelude.{◌≡◌, ◌≢◌, ℤ, ◌+◌, ◌-◌, ◌<◌, ◌≤◌, ◌^◌, List, Option, IfOk, IfErr, OnOk, IfSome, ℕ, false, true, ◌≤ℤ◌};
 ghost use Rattle.whole_number.specs.Range.{IsValue};
 ghost use Rattle.m4_groups.specs.Heights.{IsDrawable};
+ghost use Rattle.derived_chart.specs.Reads.{levels, row_reads};
 ghost use Rattle.derived_chart.specs.Rows.{AreFound, AreValues, IsOrdered, IsRowIn, IsRowIfAny};
 ghost use Rattle.derived_chart.specs.Sums.{AreSums, IsSmall};
 
@@ -32,6 +33,7 @@ pub(crate) fn row_of_column<T: TwoTrees>(
     ensures ordered { IfOk result (λ row. IfSome row IsOrdered) }
     ensures fit { (T.view trees.new).fit }
     ensures goes { T.goes trees.old trees.new }
+    ensures reads { (T.view trees.new).reads ≤ (T.view trees.old).reads + row_reads (q - p) (levels (T.count false trees.old) (T.count true trees.old)) }
     ensures cause { IfErr result (T.causes trees.old trees.new) }
     ensures quiet { OnOk result ((T.view trees.new).faults ≡ (T.view trees.old).faults) }
     ensures quiet_err { IfErr result (λ e. e ≢ NodeError.DiskFault → (T.view trees.new).faults ≡ (T.view trees.old).faults) }

@@ -1,7 +1,8 @@
 //! The ends of the sums of a range.
-ghost use Rattle.std.specs.Prelude.{◌≡◌, ◌≢◌, ℤ, true, false, ◌+◌, ◌<◌, ◌^◌, ◌≤◌, List, Option, IfOk, IfErr, OnOk, unsigned_abs};
+ghost use Rattle.std.specs.Prelude.{◌≡◌, ◌≢◌, ℤ, true, false, ◌+◌, ◌-◌, ◌<◌, ◌^◌, ◌≤◌, List, Option, IfOk, IfErr, OnOk, unsigned_abs};
 ghost use Rattle.derived_chart.specs.Bounds.{AreInLimits};
 ghost use Rattle.om3_coeff.specs.Walks.{IsFirstStored, IsLastStored};
+ghost use Rattle.derived_chart.specs.Reads.{end_reads, levels};
 ghost use Rattle.derived_chart.specs.Searches.{AreHalves, AreShorter, IsEndOf, IsFirstLarge, IsOneFound};
 ghost use Rattle.derived_chart.specs.Sums.{AreSums, IsSmall};
 
@@ -68,6 +69,7 @@ pub(crate) fn end_from<T: TwoTrees>(
     ensures end { (xs ys sums : List (Option ℤ)) → T.are trees.old xs ys → AreSums sum xs ys sums → IfOk result (IsEndOf side large sums p q) }
     ensures fit { (T.view trees.new).fit }
     ensures goes { T.goes trees.old trees.new }
+    ensures reads { (T.view trees.new).reads ≤ (T.view trees.old).reads + end_reads (q - p) (levels (T.count false trees.old) (T.count true trees.old)) }
     ensures cause { IfErr result (T.causes trees.old trees.new) }
     ensures quiet { OnOk result ((T.view trees.new).faults ≡ (T.view trees.old).faults) }
     ensures quiet_err { IfErr result (λ e. e ≢ NodeError.DiskFault → (T.view trees.new).faults ≡ (T.view trees.old).faults) }
@@ -106,6 +108,7 @@ pub fn first_sum<T: TwoTrees>(
     ensures first { (xs ys sums : List (Option ℤ)) → T.are trees.old xs ys → AreSums sum xs ys sums → IfOk result (IsFirstStored sums p q) }
     ensures fit { (T.view trees.new).fit }
     ensures goes { T.goes trees.old trees.new }
+    ensures reads { (T.view trees.new).reads ≤ (T.view trees.old).reads + end_reads (q - p) (levels (T.count false trees.old) (T.count true trees.old)) }
     ensures cause { IfErr result (T.causes trees.old trees.new) }
     ensures quiet { OnOk result ((T.view trees.new).faults ≡ (T.view trees.old).faults) }
     ensures quiet_err { IfErr result (λ e. e ≢ NodeError.DiskFault → (T.view trees.new).faults ≡ (T.view trees.old).faults) }
@@ -128,6 +131,7 @@ pub fn last_sum<T: TwoTrees>(
     ensures last { (xs ys sums : List (Option ℤ)) → T.are trees.old xs ys → AreSums sum xs ys sums → IfOk result (IsLastStored sums p q) }
     ensures fit { (T.view trees.new).fit }
     ensures goes { T.goes trees.old trees.new }
+    ensures reads { (T.view trees.new).reads ≤ (T.view trees.old).reads + end_reads (q - p) (levels (T.count false trees.old) (T.count true trees.old)) }
     ensures cause { IfErr result (T.causes trees.old trees.new) }
     ensures quiet { OnOk result ((T.view trees.new).faults ≡ (T.view trees.old).faults) }
     ensures quiet_err { IfErr result (λ e. e ≢ NodeError.DiskFault → (T.view trees.new).faults ≡ (T.view trees.old).faults) }
@@ -151,6 +155,7 @@ pub fn first_large_sum<T: TwoTrees>(
     ensures large { (xs ys sums : List (Option ℤ)) → T.are trees.old xs ys → AreSums sum xs ys sums → IfOk result (IsFirstLarge sums p q) }
     ensures fit { (T.view trees.new).fit }
     ensures goes { T.goes trees.old trees.new }
+    ensures reads { (T.view trees.new).reads ≤ (T.view trees.old).reads + end_reads (q - p) (levels (T.count false trees.old) (T.count true trees.old)) }
     ensures cause { IfErr result (T.causes trees.old trees.new) }
     ensures quiet { OnOk result ((T.view trees.new).faults ≡ (T.view trees.old).faults) }
     ensures quiet_err { IfErr result (λ e. e ≢ NodeError.DiskFault → (T.view trees.new).faults ≡ (T.view trees.old).faults) }

@@ -1,9 +1,11 @@
 //! The rows of a sum of two series.
-ghost use Rattle.std.specs.Prelude.{◌≡◌, ◌≢◌, ℤ, ◌+◌, ◌<◌, ◌≤◌, ◌^◌, List, Option, IfOk, IfErr, OnOk, All, false, length};
+ghost use Rattle.std.specs.Prelude.{◌≡◌, ◌≢◌, ℕ, ℤ, ◌+◌, ◌-◌, ◌<◌, ◌≤◌, ◌^◌, List, Option, IfOk, IfErr, OnOk, All, false, true, length};
+ghost use Rattle.chart_grid.specs.Slots.{AreSlotsBefore, border};
 ghost use Rattle.m4_groups.specs.Heights.{IsDrawable};
 ghost use Rattle.m4_groups.specs.Rows.{AreRising};
 ghost use Rattle.plain_chart.specs.Samples.{kept};
 ghost use Rattle.derived_chart.specs.Lists.{sums_of};
+ghost use Rattle.derived_chart.specs.Reads.{ReadsBefore, ReadsInWindow, levels, row_reads};
 ghost use Rattle.derived_chart.specs.Rows.{IsAnswer, IsCause, IsRowCause, AreShown, AreRowsBelow, ForColumnSums, IsOrdered};
 ghost use Rattle.derived_chart.specs.Sums.{IsSmall};
 ghost use Rattle.derived_chart.specs.declared.derived_error.DerivedError.TheVariants.{Node};
@@ -41,6 +43,7 @@ pub fn derived_rows<T: TwoTrees>(
     ensures ordered { IfOk result (All IsOrdered) }
     ensures fit { (T.view trees.new).fit }
     ensures goes { T.goes trees.old trees.new }
+    ensures reads { ReadsInWindow axis grid (levels (T.count false trees.old) (T.count true trees.old)) (T.view trees.old).reads (T.view trees.new).reads }
     ensures cause { IfErr result (IsCause (T.causes trees.old trees.new)) }
     ensures quiet { OnOk result ((T.view trees.new).faults ≡ (T.view trees.old).faults) }
     ensures quiet_err { IfErr result (λ e. e ≢ Node DiskFault → (T.view trees.new).faults ≡ (T.view trees.old).faults) }
@@ -64,6 +67,7 @@ fn slots_of_first<T: TwoTrees>(trees: &mut T) -> u64
     ensures length { (xs ys : List (Option ℤ)) → T.are trees.old xs ys → result ≡ length xs }
     ensures fit { (T.view trees.new).fit }
     ensures goes { T.goes trees.old trees.new }
+    ensures reads { (T.view trees.new).reads ≡ (T.view trees.old).reads }
     ensures quiet { (T.view trees.new).faults ≡ (T.view trees.old).faults }
 {
     trees.turn(false);
@@ -87,6 +91,7 @@ fn rows_of_columns<T: TwoTrees>(
     ensures shown { IfOk result (λ rows. AreShown grid.w grid.w rows.items) }
     ensures fit { (T.view trees.new).fit }
     ensures goes { T.goes trees.old trees.new }
+    ensures reads { ReadsBefore 18 axis grid grid.t1 (levels (T.count false trees.old) (T.count true trees.old)) (T.view trees.old).reads (T.view trees.new).reads }
     ensures cause { IfErr result (IsRowCause (T.causes trees.old trees.new)) }
     ensures quiet { OnOk result ((T.view trees.new).faults ≡ (T.view trees.old).faults) }
     ensures quiet_err { IfErr result (λ e. e ≢ Node DiskFault → (T.view trees.new).faults ≡ (T.view trees.old).faults) }
@@ -117,6 +122,7 @@ fn add_column<T: TwoTrees>(
     ensures shown { AreShown grid.w column rows.old.items → OnOk result (AreShown grid.w (column + 1) rows.new.items) }
     ensures fit { (T.view trees.new).fit }
     ensures goes { T.goes trees.old trees.new }
+    ensures reads { (from to : ℕ) → AreSlotsBefore axis (border grid column) from → AreSlotsBefore axis (border grid (column + 1)) to → (T.view trees.new).reads ≤ (T.view trees.old).reads + row_reads (to - from) (levels (T.count false trees.old) (T.count true trees.old)) }
     ensures cause { IfErr result (IsRowCause (T.causes trees.old trees.new)) }
     ensures quiet { OnOk result ((T.view trees.new).faults ≡ (T.view trees.old).faults) }
     ensures quiet_err { IfErr result (λ e. e ≢ Node DiskFault → (T.view trees.new).faults ≡ (T.view trees.old).faults) }

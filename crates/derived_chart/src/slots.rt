@@ -1,8 +1,9 @@
 //! The values of a few slots in a row, read by one walk.
-ghost use Rattle.std.specs.Prelude.{◌≡◌, ◌≢◌, ℤ, true, false, ◌+◌, ◌^◌, ◌*◌, ◌<◌, ◌≤◌, ◌≤ℤ◌, ◌<ℤ◌, ◌+ℤ◌, pos, List, Option, Some, IfErr, OnOk, length, unsigned_abs};
-ghost use Rattle.om3_coeff.specs.Keys.{end_slot};
-ghost use Rattle.om3_coeff.specs.View.{Agrees, HasCause};
-ghost use Rattle.om3_coeff.specs.Walks.{IsReached};
+ghost use Rattle.std.specs.Prelude.{◌≡◌, ◌≢◌, ℤ, true, false, ◌+◌, ◌^◌, ◌*◌, ◌<◌, ◌≤◌, ◌≤ℤ◌, ◌<ℤ◌, ◌+ℤ◌, pos, List, Option, Some, IfErr, OnOk, ℕ, length, unsigned_abs};
+ghost use Rattle.om3_coeff.specs.Keys.{end_slot, height};
+ghost use Rattle.om3_coeff.specs.View.{Agrees, HasCause, MayAsk};
+ghost use Rattle.om3_coeff.specs.Walks.{IsReached, StaysBelow};
+ghost use Rattle.derived_chart.specs.Reads.{StartsAt, slots_in};
 ghost use Rattle.derived_chart.specs.Slots.{AreRead, AreReadBefore, AreReadThrough, HasValues, IsApart, IsEmpty, IsPut, Meets};
 ghost use Rattle.derived_chart.specs.Sums.{one_of};
 
@@ -57,6 +58,8 @@ fn read_below<N: Nodes>(
 ) -> Result<(), NodeError>
     requires fit { (N.view nodes.old).fit }
     requires reached { IsReached (N.view nodes.old) key span }
+    requires follows { MayAsk (N.view nodes.old) key }
+    requires some { 0 < count }
     requires few { count ≤ 128 }
     requires base { unsigned_abs base.now ≤ 5 * 10 ^ 18 }
     requires room { count ≤ length slots.old }
@@ -65,6 +68,8 @@ fn read_below<N: Nodes>(
     ensures room { length slots.new ≡ length slots.old }
     ensures fit { (N.view nodes.new).fit }
     ensures kept { N.keeps nodes.old nodes.new }
+    ensures below { OnOk result (StaysBelow key (N.view nodes.old).asked (N.view nodes.new).asked) }
+    ensures reads { (from : ℕ) → StartsAt base.now from → (N.view nodes.new).reads ≤ (N.view nodes.old).reads + key.level * slots_in from count key }
     ensures faults { (N.view nodes.old).faults ≤ (N.view nodes.new).faults }
     ensures cause { IfErr result (HasCause (N.view nodes.old) (N.view nodes.new)) }
     ensures quiet { OnOk result ((N.view nodes.new).faults ≡ (N.view nodes.old).faults) }
@@ -95,6 +100,7 @@ pub(crate) fn read_slots<T: TwoTrees>(
     slots: &mut [Option<i64>],
 ) -> Result<(), NodeError>
     requires fit { (T.view trees.old).fit }
+    requires some { 0 < count }
     requires few { count ≤ 128 }
     requires base { unsigned_abs base.now ≤ 5 * 10 ^ 18 }
     requires room { count ≤ length slots.old }
@@ -104,6 +110,7 @@ pub(crate) fn read_slots<T: TwoTrees>(
     ensures room { length slots.new ≡ length slots.old }
     ensures fit { (T.view trees.new).fit }
     ensures goes { T.goes trees.old trees.new }
+    ensures reads { (T.view trees.new).reads ≤ (T.view trees.old).reads + count * height (T.count second trees.old) }
     ensures cause { IfErr result (T.causes trees.old trees.new) }
     ensures quiet { OnOk result ((T.view trees.new).faults ≡ (T.view trees.old).faults) }
     ensures quiet_err { IfErr result (λ e. e ≢ NodeError.DiskFault → (T.view trees.new).faults ≡ (T.view trees.old).faults) }

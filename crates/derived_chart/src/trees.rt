@@ -29,6 +29,7 @@ pub trait TwoTrees: Nodes {
         ensures fit { (Self.view self.new).fit }
         ensures turned { asks_second self.new ≡ second }
         ensures quiet { (Self.view self.new).faults ≡ (Self.view self.old).faults }
+        ensures reads { (Self.view self.new).reads ≡ (Self.view self.old).reads }
         ensures goes { goes self.old self.new };
 
     /// No step changes nothing, and steps after steps are steps.

@@ -1,4 +1,5 @@
-use Rattle.std.proofs.Common.{true, arith, sym, ◌∙◌, subst}
+use Rattle.std.proofs.Common.{true, ◌*◌, ap, arith, sym, ◌∙◌, subst}
+use Rattle.om3_coeff.specs.Keys.{height}
 use Rattle.om3_coeff.specs.Spans.{IsClear, IsProperIfAny}
 use Rattle.derived_chart.proofs.SumLemmas.{first_clear, second_clear, between, here, beside_as, passed_on}
 use Rattle.derived_chart.proofs.ProductLemmas.{products_as}
@@ -69,3 +70,24 @@ both-requires-clause-second g c = c.products-second.ensures.small
 
 pub span_in-requires-2-clause-within : goal.span_in-requires-2-clause-within
 span_in-requires-2-clause-within g c = omega (arith, c.beside-from.ensures.within, c.slots_of_second-count.ensures.count, g.met.T.TwoTrees.still_count true _ _ c.slots_of_second-count.ensures.goes)
+
+pub returns-in_err-x-clause-reads : goal.returns-in_err-x-clause-reads
+returns-in_err-x-clause-reads g c = omega (arith, c.in_err-x.ensures.reads)
+
+pub returns-in_default-clause-reads : goal.returns-in_default-clause-reads
+returns-in_default-clause-reads g c = omega (arith, c.in_ok-x.ensures.reads)
+
+pub returns-in_err-y-clause-reads : goal.returns-in_err-y-clause-reads
+returns-in_err-y-clause-reads g c =
+    let second = g.met.T.TwoTrees.still_count true _ _ (g.met.T.TwoTrees.goes_on _ _ _ c.in_ok-x.ensures.goes c.slots_of_second-count.ensures.goes) in
+    omega (arith, c.in_ok-x.ensures.reads, c.slots_of_second-count.ensures.reads, c.in_err-y.ensures.reads, ap (λ n. 2 * height n) second)
+
+pub returns-in_default-2-clause-reads : goal.returns-in_default-2-clause-reads
+returns-in_default-2-clause-reads g c =
+    let second = g.met.T.TwoTrees.still_count true _ _ (g.met.T.TwoTrees.goes_on _ _ _ c.in_ok-x.ensures.goes c.slots_of_second-count.ensures.goes) in
+    omega (arith, c.in_ok-x.ensures.reads, c.slots_of_second-count.ensures.reads, c.in_ok-y.ensures.reads, ap (λ n. 2 * height n) second)
+
+pub returns-clause-reads : goal.returns-clause-reads
+returns-clause-reads g c =
+    let second = g.met.T.TwoTrees.still_count true _ _ (g.met.T.TwoTrees.goes_on _ _ _ c.in_ok-x.ensures.goes c.slots_of_second-count.ensures.goes) in
+    omega (arith, c.in_ok-x.ensures.reads, c.slots_of_second-count.ensures.reads, c.in_ok-y.ensures.reads, ap (λ n. 2 * height n) second)

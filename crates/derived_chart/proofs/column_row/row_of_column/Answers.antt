@@ -1,5 +1,7 @@
-use Rattle.std.proofs.Common.{◌+◌, arith, false, subst, ◌∙◌}
+use Rattle.std.proofs.Common.{◌+◌, ◌-◌, ◌*◌, ap₂, arith, false, true, subst, ◌∙◌}
 use Rattle.om3_coeff.specs.Walks.{IsFirstStored}
+use Rattle.derived_chart.specs.Reads.{levels}
+use Rattle.derived_chart.proofs.ReadLemmas.{both, more}
 use Rattle.derived_chart.proofs.FoundLemmas.{ordered_in}
 use Rattle.derived_chart.proofs.SumLemmas.{passed_on}
 use Rattle.derived_chart.proofs.column_row.row_of_column.Goals as goal
@@ -65,3 +67,27 @@ returns-clause-drawable g c = c.ordered.ensures.drawable (c.args.column + 1) c.r
 
 pub returns-clause-ordered : goal.returns-clause-ordered
 returns-clause-ordered g c = c.ordered.ensures.ordered c.row_of-row.ensures.drawable.order
+
+pub returns-in_err-first-clause-reads : goal.returns-in_err-first-clause-reads
+returns-in_err-first-clause-reads g c =
+    more (4 * (c.args.q - c.args.p) - 2) (18 * (c.args.q - c.args.p)) (levels (g.T.TwoTrees.count false c.args.trees.now) (g.T.TwoTrees.count true c.args.trees.now)) _ _ (omega arith) c.in_err-first.ensures.reads
+
+pub returns-in_default-clause-reads : goal.returns-in_default-clause-reads
+returns-in_default-clause-reads g c =
+    more (4 * (c.args.q - c.args.p) - 2) (18 * (c.args.q - c.args.p)) (levels (g.T.TwoTrees.count false c.args.trees.now) (g.T.TwoTrees.count true c.args.trees.now)) _ _ (omega arith) c.in_ok-first.ensures.reads
+
+pub returns-in_err-last-clause-reads : goal.returns-in_err-last-clause-reads
+returns-in_err-last-clause-reads g c =
+    both (4 * (c.args.q - c.args.p) - 2) (4 * (c.args.q - c.args.p) - 2) (18 * (c.args.q - c.args.p)) (levels (g.T.TwoTrees.count false c.args.trees.now) (g.T.TwoTrees.count true c.args.trees.now)) _ _ _ _ (omega arith) (ap₂ levels (g.met.T.TwoTrees.still_count false _ _ c.in_ok-first.ensures.goes) (g.met.T.TwoTrees.still_count true _ _ c.in_ok-first.ensures.goes)) c.in_ok-first.ensures.reads c.in_err-last.ensures.reads
+
+pub returns-in_err-least-clause-reads : goal.returns-in_err-least-clause-reads
+returns-in_err-least-clause-reads g c =
+    both ((4 * (c.args.q - c.args.p) - 2) + (4 * (c.args.q - c.args.p) - 2)) (5 * (c.args.q - c.args.p) - 2) (18 * (c.args.q - c.args.p)) (levels (g.T.TwoTrees.count false c.args.trees.now) (g.T.TwoTrees.count true c.args.trees.now)) _ _ _ _ (omega arith) (ap₂ levels (g.met.T.TwoTrees.still_count false _ _ (g.met.T.TwoTrees.goes_on _ _ _ c.in_ok-first.ensures.goes c.in_ok-last.ensures.goes)) (g.met.T.TwoTrees.still_count true _ _ (g.met.T.TwoTrees.goes_on _ _ _ c.in_ok-first.ensures.goes c.in_ok-last.ensures.goes))) (both (4 * (c.args.q - c.args.p) - 2) (4 * (c.args.q - c.args.p) - 2) ((4 * (c.args.q - c.args.p) - 2) + (4 * (c.args.q - c.args.p) - 2)) (levels (g.T.TwoTrees.count false c.args.trees.now) (g.T.TwoTrees.count true c.args.trees.now)) _ _ _ _ (omega arith) (ap₂ levels (g.met.T.TwoTrees.still_count false _ _ c.in_ok-first.ensures.goes) (g.met.T.TwoTrees.still_count true _ _ c.in_ok-first.ensures.goes)) c.in_ok-first.ensures.reads c.in_ok-last.ensures.reads) c.in_err-least.ensures.reads
+
+pub returns-in_err-greatest-clause-reads : goal.returns-in_err-greatest-clause-reads
+returns-in_err-greatest-clause-reads g c =
+    both (((4 * (c.args.q - c.args.p) - 2) + (4 * (c.args.q - c.args.p) - 2)) + (5 * (c.args.q - c.args.p) - 2)) (5 * (c.args.q - c.args.p) - 2) (18 * (c.args.q - c.args.p)) (levels (g.T.TwoTrees.count false c.args.trees.now) (g.T.TwoTrees.count true c.args.trees.now)) _ _ _ _ (omega arith) (ap₂ levels (g.met.T.TwoTrees.still_count false _ _ (g.met.T.TwoTrees.goes_on _ _ _ c.in_ok-first.ensures.goes (g.met.T.TwoTrees.goes_on _ _ _ c.in_ok-last.ensures.goes c.in_ok-least.ensures.goes))) (g.met.T.TwoTrees.still_count true _ _ (g.met.T.TwoTrees.goes_on _ _ _ c.in_ok-first.ensures.goes (g.met.T.TwoTrees.goes_on _ _ _ c.in_ok-last.ensures.goes c.in_ok-least.ensures.goes)))) (both ((4 * (c.args.q - c.args.p) - 2) + (4 * (c.args.q - c.args.p) - 2)) (5 * (c.args.q - c.args.p) - 2) (((4 * (c.args.q - c.args.p) - 2) + (4 * (c.args.q - c.args.p) - 2)) + (5 * (c.args.q - c.args.p) - 2)) (levels (g.T.TwoTrees.count false c.args.trees.now) (g.T.TwoTrees.count true c.args.trees.now)) _ _ _ _ (omega arith) (ap₂ levels (g.met.T.TwoTrees.still_count false _ _ (g.met.T.TwoTrees.goes_on _ _ _ c.in_ok-first.ensures.goes c.in_ok-last.ensures.goes)) (g.met.T.TwoTrees.still_count true _ _ (g.met.T.TwoTrees.goes_on _ _ _ c.in_ok-first.ensures.goes c.in_ok-last.ensures.goes))) (both (4 * (c.args.q - c.args.p) - 2) (4 * (c.args.q - c.args.p) - 2) ((4 * (c.args.q - c.args.p) - 2) + (4 * (c.args.q - c.args.p) - 2)) (levels (g.T.TwoTrees.count false c.args.trees.now) (g.T.TwoTrees.count true c.args.trees.now)) _ _ _ _ (omega arith) (ap₂ levels (g.met.T.TwoTrees.still_count false _ _ c.in_ok-first.ensures.goes) (g.met.T.TwoTrees.still_count true _ _ c.in_ok-first.ensures.goes)) c.in_ok-first.ensures.reads c.in_ok-last.ensures.reads) c.in_ok-least.ensures.reads) c.in_err-greatest.ensures.reads
+
+pub returns-clause-reads : goal.returns-clause-reads
+returns-clause-reads g c =
+    both (((4 * (c.args.q - c.args.p) - 2) + (4 * (c.args.q - c.args.p) - 2)) + (5 * (c.args.q - c.args.p) - 2)) (5 * (c.args.q - c.args.p) - 2) (18 * (c.args.q - c.args.p)) (levels (g.T.TwoTrees.count false c.args.trees.now) (g.T.TwoTrees.count true c.args.trees.now)) _ _ _ _ (omega arith) (ap₂ levels (g.met.T.TwoTrees.still_count false _ _ (g.met.T.TwoTrees.goes_on _ _ _ c.in_ok-first.ensures.goes (g.met.T.TwoTrees.goes_on _ _ _ c.in_ok-last.ensures.goes c.in_ok-least.ensures.goes))) (g.met.T.TwoTrees.still_count true _ _ (g.met.T.TwoTrees.goes_on _ _ _ c.in_ok-first.ensures.goes (g.met.T.TwoTrees.goes_on _ _ _ c.in_ok-last.ensures.goes c.in_ok-least.ensures.goes)))) (both ((4 * (c.args.q - c.args.p) - 2) + (4 * (c.args.q - c.args.p) - 2)) (5 * (c.args.q - c.args.p) - 2) (((4 * (c.args.q - c.args.p) - 2) + (4 * (c.args.q - c.args.p) - 2)) + (5 * (c.args.q - c.args.p) - 2)) (levels (g.T.TwoTrees.count false c.args.trees.now) (g.T.TwoTrees.count true c.args.trees.now)) _ _ _ _ (omega arith) (ap₂ levels (g.met.T.TwoTrees.still_count false _ _ (g.met.T.TwoTrees.goes_on _ _ _ c.in_ok-first.ensures.goes c.in_ok-last.ensures.goes)) (g.met.T.TwoTrees.still_count true _ _ (g.met.T.TwoTrees.goes_on _ _ _ c.in_ok-first.ensures.goes c.in_ok-last.ensures.goes))) (both (4 * (c.args.q - c.args.p) - 2) (4 * (c.args.q - c.args.p) - 2) ((4 * (c.args.q - c.args.p) - 2) + (4 * (c.args.q - c.args.p) - 2)) (levels (g.T.TwoTrees.count false c.args.trees.now) (g.T.TwoTrees.count true c.args.trees.now)) _ _ _ _ (omega arith) (ap₂ levels (g.met.T.TwoTrees.still_count false _ _ c.in_ok-first.ensures.goes) (g.met.T.TwoTrees.still_count true _ _ c.in_ok-first.ensures.goes)) c.in_ok-first.ensures.reads c.in_ok-last.ensures.reads) c.in_ok-least.ensures.reads) c.in_ok-greatest.ensures.reads

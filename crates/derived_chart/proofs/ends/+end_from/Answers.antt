@@ -1,8 +1,10 @@
-use Rattle.std.proofs.Common.{false, rules, arith, subst, ◌+◌, ◌≡◌, ◌∙◌}
+use Rattle.std.proofs.Common.{false, true, rules, ap₂, arith, subst, ◌+◌, ◌-◌, ◌*◌, ◌≡◌, ◌∙◌}
 use Rattle.std.proofs.lemmas.Result.{IfOk-weaker, IfErr-weaker}
 use Rattle.derived_chart.specs.Bounds.{AreBetween, IsValueOf}
+use Rattle.derived_chart.specs.Reads.{levels}
 use Rattle.derived_chart.specs.Searches.{IsEndOf}
 use Rattle.derived_chart.proofs.SumLemmas.{value_between, passed_on}
+use Rattle.derived_chart.proofs.ReadLemmas.{both, halves_len, more}
 use Rattle.derived_chart.proofs.EndLemmas.{none_empty, none_clear, none_large, one_end, end_near, end_far}
 use Rattle.derived_chart.proofs.ends.+end_from.Goals as goal
 
@@ -73,3 +75,34 @@ returns-then-q-p-eq1-clause-end g t c = λ xs ys sums trees are.
     let single : c.args.q ≡ c.args.p + 1 = omega arith in
     one_end c.args.side c.args.large sums c.args.p c.args.q c.in-Some.range c.one_found.result single
     (subst (IsValueOf sums c.args.p) c.in-Some.is (c.in_ok-range.ensures.one xs ys sums trees are single)).0 c.one_found.ensures
+
+pub returns-in_err-range-clause-reads : goal.returns-in_err-range-clause-reads
+returns-in_err-range-clause-reads g t c =
+    more 2 (4 * (c.args.q - c.args.p) - 2) (levels (g.T.TwoTrees.count false c.args.trees.now) (g.T.TwoTrees.count true c.args.trees.now)) _ _ (omega (arith, c.requires.order, c.if-p-q.false)) c.in_err-range.ensures.reads
+
+pub returns-in_default-clause-reads : goal.returns-in_default-clause-reads
+returns-in_default-clause-reads g t c =
+    more 2 (4 * (c.args.q - c.args.p) - 2) (levels (g.T.TwoTrees.count false c.args.trees.now) (g.T.TwoTrees.count true c.args.trees.now)) _ _ (omega (arith, c.requires.order, c.if-p-q.false)) c.in_ok-range.ensures.reads
+
+pub returns-then-are_in_limits-clause-reads : goal.returns-then-are_in_limits-clause-reads
+returns-then-are_in_limits-clause-reads g t c =
+    more 2 (4 * (c.args.q - c.args.p) - 2) (levels (g.T.TwoTrees.count false c.args.trees.now) (g.T.TwoTrees.count true c.args.trees.now)) _ _ (omega (arith, c.requires.order, c.if-p-q.false)) c.in_ok-range.ensures.reads
+
+pub returns-then-q-p-eq1-clause-reads : goal.returns-then-q-p-eq1-clause-reads
+returns-then-q-p-eq1-clause-reads g t c =
+    more 2 (4 * (c.args.q - c.args.p) - 2) (levels (g.T.TwoTrees.count false c.args.trees.now) (g.T.TwoTrees.count true c.args.trees.now)) _ _ (omega (arith, c.requires.order, c.if-p-q.false)) c.in_ok-range.ensures.reads
+
+pub returns-in_err-found-clause-reads : goal.returns-in_err-found-clause-reads
+returns-in_err-found-clause-reads g t c =
+    let parts = c.halves.ensures.shorter in
+    both 2 (4 * (c.halves.result.0.1 - c.halves.result.0.0) - 2) (4 * (c.args.q - c.args.p) - 2) (levels (g.T.TwoTrees.count false c.args.trees.now) (g.T.TwoTrees.count true c.args.trees.now)) _ _ _ _ (omega (arith, parts.near, parts.near_short)) (ap₂ levels (g.met.T.TwoTrees.still_count false _ _ c.in_ok-range.ensures.goes) (g.met.T.TwoTrees.still_count true _ _ c.in_ok-range.ensures.goes)) c.in_ok-range.ensures.reads c.in_err-found.ensures.reads
+
+pub returns-in-Some-2-clause-reads : goal.returns-in-Some-2-clause-reads
+returns-in-Some-2-clause-reads g t c =
+    let parts = c.halves.ensures.shorter in
+    both 2 (4 * (c.halves.result.0.1 - c.halves.result.0.0) - 2) (4 * (c.args.q - c.args.p) - 2) (levels (g.T.TwoTrees.count false c.args.trees.now) (g.T.TwoTrees.count true c.args.trees.now)) _ _ _ _ (omega (arith, parts.near, parts.near_short)) (ap₂ levels (g.met.T.TwoTrees.still_count false _ _ c.in_ok-range.ensures.goes) (g.met.T.TwoTrees.still_count true _ _ c.in_ok-range.ensures.goes)) c.in_ok-range.ensures.reads c.in_ok-found.ensures.reads
+
+pub returns-in-None-clause-reads : goal.returns-in-None-clause-reads
+returns-in-None-clause-reads g t c =
+    let parts = c.halves.ensures.shorter in
+    both (2 + (4 * (c.halves.result.0.1 - c.halves.result.0.0) - 2)) (4 * (c.halves.result.1.1 - c.halves.result.1.0) - 2) (4 * (c.args.q - c.args.p) - 2) (levels (g.T.TwoTrees.count false c.args.trees.now) (g.T.TwoTrees.count true c.args.trees.now)) _ _ _ _ (omega (arith, parts.near, parts.far, halves_len c.args.side c.args.p c.args.q c.halves.result c.halves.ensures.halves)) (ap₂ levels (g.met.T.TwoTrees.still_count false _ _ (g.met.T.TwoTrees.goes_on _ _ _ c.in_ok-range.ensures.goes c.in_ok-found.ensures.goes)) (g.met.T.TwoTrees.still_count true _ _ (g.met.T.TwoTrees.goes_on _ _ _ c.in_ok-range.ensures.goes c.in_ok-found.ensures.goes))) (both 2 (4 * (c.halves.result.0.1 - c.halves.result.0.0) - 2) (2 + (4 * (c.halves.result.0.1 - c.halves.result.0.0) - 2)) (levels (g.T.TwoTrees.count false c.args.trees.now) (g.T.TwoTrees.count true c.args.trees.now)) _ _ _ _ (omega arith) (ap₂ levels (g.met.T.TwoTrees.still_count false _ _ c.in_ok-range.ensures.goes) (g.met.T.TwoTrees.still_count true _ _ c.in_ok-range.ensures.goes)) c.in_ok-range.ensures.reads c.in_ok-found.ensures.reads) c.end_from-in-None.ensures.reads

@@ -1,14 +1,16 @@
-use Rattle.std.proofs.Common.{arith, false, sym, subst, rules, w64, ◌∙◌, None, List}
+use Rattle.std.proofs.Common.{ap₂, arith, false, true, sym, subst, rules, w64, ◌∙◌, None, List}
 use Rattle.std.proofs.lemmas.Int.{to_z-of_z}
 use Rattle.m4_groups.specs.declared.row.Row.{Row}
 use Rattle.std.specs.Prelude.{All}
 use Rattle.m4_groups.specs.Heights.{IsDrawable}
-use Rattle.m4_groups.specs.Rows.{AreRowsOf}
+use Rattle.m4_groups.specs.Rows.{AreRising, AreRowsOf}
 use Rattle.derived_chart.specs.declared.derived_error.DerivedError.TheVariants.{Node}
+use Rattle.derived_chart.specs.Reads.{levels}
 use Rattle.derived_chart.specs.Rows.{IsCause, IsFirstTooLarge, IsOrdered}
 use Rattle.plain_chart.specs.Samples.{kept, sample_points}
 use Rattle.derived_chart.specs.Lists.{sums_of}
 use Rattle.derived_chart.specs.Searches.{IsFirstLarge}
+use Rattle.derived_chart.proofs.ReadLemmas.{rows_reads, search_reads}
 use Rattle.derived_chart.proofs.ListLemmas.{sums_are}
 use Rattle.derived_chart.proofs.RowLemmas.{rows_are, column_small, samples_small, first_too_large, passed_error, error_answer, later_cause}
 use Rattle.derived_chart.proofs.rows.derived_rows.Goals as goal
@@ -78,3 +80,22 @@ returns-in_err-large-clause-cause g c =
 
 pub returns-clause-ordered : goal.returns-clause-ordered
 returns-clause-ordered g c = let P : List Row → Type 0 = λ rows. All IsOrdered rows in subst P (sym c.from_vec.ensures) c.in_ok-rows.ensures.shown.ordered
+
+pub returns-in_err-large-clause-reads : goal.returns-in_err-large-clause-reads
+returns-in_err-large-clause-reads g c = search_reads c.args.axis c.args.grid c.window_slots-from.result.0 c.window_slots-from.result.1 (levels (g.T.TwoTrees.count false c.args.trees.now) (g.T.TwoTrees.count true c.args.trees.now)) _ _ _ _ c.window_slots-from.ensures.from c.window_slots-from.ensures.to (ap₂ levels (g.met.T.TwoTrees.still_count false _ _ c.slots_of_first-slots.ensures.goes) (g.met.T.TwoTrees.still_count true _ _ c.slots_of_first-slots.ensures.goes)) c.slots_of_first-slots.ensures.reads c.in_err-large.ensures.reads
+
+pub returns-in-Some-clause-reads : goal.returns-in-Some-clause-reads
+returns-in-Some-clause-reads g c = search_reads c.args.axis c.args.grid c.window_slots-from.result.0 c.window_slots-from.result.1 (levels (g.T.TwoTrees.count false c.args.trees.now) (g.T.TwoTrees.count true c.args.trees.now)) _ _ _ _ c.window_slots-from.ensures.from c.window_slots-from.ensures.to (ap₂ levels (g.met.T.TwoTrees.still_count false _ _ c.slots_of_first-slots.ensures.goes) (g.met.T.TwoTrees.still_count true _ _ c.slots_of_first-slots.ensures.goes)) c.slots_of_first-slots.ensures.reads c.in_ok-large.ensures.reads
+
+pub returns-in_err-rows-clause-reads : goal.returns-in_err-rows-clause-reads
+returns-in_err-rows-clause-reads g c =
+    rows_reads c.args.axis c.args.grid c.window_slots-from.result.0 c.window_slots-from.result.1 (levels (g.T.TwoTrees.count false c.args.trees.now) (g.T.TwoTrees.count true c.args.trees.now)) _ _ _ _ _ _ c.window_slots-from.ensures.from c.window_slots-from.ensures.to (ap₂ levels (g.met.T.TwoTrees.still_count false _ _ c.slots_of_first-slots.ensures.goes) (g.met.T.TwoTrees.still_count true _ _ c.slots_of_first-slots.ensures.goes))
+    (ap₂ levels (g.met.T.TwoTrees.still_count false _ _ (g.met.T.TwoTrees.goes_on _ _ _ c.slots_of_first-slots.ensures.goes c.in_ok-large.ensures.goes)) (g.met.T.TwoTrees.still_count true _ _ (g.met.T.TwoTrees.goes_on _ _ _ c.slots_of_first-slots.ensures.goes c.in_ok-large.ensures.goes))) c.slots_of_first-slots.ensures.reads c.in_ok-large.ensures.reads c.in_err-rows.ensures.reads
+
+pub returns-clause-reads : goal.returns-clause-reads
+returns-clause-reads g c =
+    rows_reads c.args.axis c.args.grid c.window_slots-from.result.0 c.window_slots-from.result.1 (levels (g.T.TwoTrees.count false c.args.trees.now) (g.T.TwoTrees.count true c.args.trees.now)) _ _ _ _ _ _ c.window_slots-from.ensures.from c.window_slots-from.ensures.to (ap₂ levels (g.met.T.TwoTrees.still_count false _ _ c.slots_of_first-slots.ensures.goes) (g.met.T.TwoTrees.still_count true _ _ c.slots_of_first-slots.ensures.goes))
+    (ap₂ levels (g.met.T.TwoTrees.still_count false _ _ (g.met.T.TwoTrees.goes_on _ _ _ c.slots_of_first-slots.ensures.goes c.in_ok-large.ensures.goes)) (g.met.T.TwoTrees.still_count true _ _ (g.met.T.TwoTrees.goes_on _ _ _ c.slots_of_first-slots.ensures.goes c.in_ok-large.ensures.goes))) c.slots_of_first-slots.ensures.reads c.in_ok-large.ensures.reads c.in_ok-rows.ensures.reads
+
+pub returns-clause-rising : goal.returns-clause-rising
+returns-clause-rising g c = let P : List Row → Type 0 = λ rows. AreRising rows in subst P (sym c.from_vec.ensures) c.in_ok-rows.ensures.shown.rising

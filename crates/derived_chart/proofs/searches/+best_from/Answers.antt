@@ -1,7 +1,9 @@
-use Rattle.std.proofs.Common.{rules, arith, false, ◌+◌, ◌-◌, ◌/◌, ◌∙◌}
+use Rattle.std.proofs.Common.{rules, ap₂, arith, false, true, ◌+◌, ◌-◌, ◌*◌, ◌/◌, ◌∙◌}
 use Rattle.std.proofs.lemmas.Result.{IfOk-weaker, IfErr-weaker}
+use Rattle.derived_chart.specs.Reads.{levels}
 use Rattle.derived_chart.specs.Searches.{IsBestWith}
 use Rattle.derived_chart.proofs.BestLemmas.{best_none, best_worse, best_left, best_right}
+use Rattle.derived_chart.proofs.ReadLemmas.{both, more}
 use Rattle.derived_chart.proofs.SumLemmas.{passed_on}
 use Rattle.derived_chart.proofs.searches.+best_from.Goals as goal
 
@@ -128,3 +130,31 @@ best_from-requires-2 g t c κs within =
         (c.in_ok-right.ensures.fit, (omega (arith, c.requires.some, c.are_few.ensures.no c.if-are_few.false), (omega (arith, c.requires.some, c.requires.within, one, two), (omega (arith, c.requires.some, c.requires.few), c.requires.small)))),
       ),
     )
+
+pub returns-then-are_few-clause-reads : goal.returns-then-are_few-clause-reads
+returns-then-are_few-clause-reads g t c =
+    more (c.args.q - c.args.p) (5 * (c.args.q - c.args.p) - 4) (levels (g.T.TwoTrees.count false c.args.trees.now) (g.T.TwoTrees.count true c.args.trees.now)) _ _ (omega (arith, c.requires.some)) c.best_of_few.ensures.reads
+
+pub returns-in_err-left-clause-reads : goal.returns-in_err-left-clause-reads
+returns-in_err-left-clause-reads g t c =
+    more 2 (5 * (c.args.q - c.args.p) - 4) (levels (g.T.TwoTrees.count false c.args.trees.now) (g.T.TwoTrees.count true c.args.trees.now)) _ _ (omega (arith, c.requires.some, c.are_few.ensures.no c.if-are_few.false)) c.in_err-left.ensures.reads
+
+pub returns-in_err-right-clause-reads : goal.returns-in_err-right-clause-reads
+returns-in_err-right-clause-reads g t c =
+    both 2 2 (5 * (c.args.q - c.args.p) - 4) (levels (g.T.TwoTrees.count false c.args.trees.now) (g.T.TwoTrees.count true c.args.trees.now)) _ _ _ _ (omega (arith, c.requires.some, c.are_few.ensures.no c.if-are_few.false)) (ap₂ levels (g.met.T.TwoTrees.still_count false _ _ c.in_ok-left.ensures.goes) (g.met.T.TwoTrees.still_count true _ _ c.in_ok-left.ensures.goes)) c.in_ok-left.ensures.reads c.in_err-right.ensures.reads
+
+pub returns-in_err-first-clause-reads : goal.returns-in_err-first-clause-reads
+returns-in_err-first-clause-reads g t c =
+    both (2 + 2) (5 * (c.args.q - (c.args.p + (c.args.q - c.args.p) / 2)) - 4) (5 * (c.args.q - c.args.p) - 4) (levels (g.T.TwoTrees.count false c.args.trees.now) (g.T.TwoTrees.count true c.args.trees.now)) _ _ _ _ (omega (arith, c.requires.some, c.are_few.ensures.no c.if-are_few.false)) (ap₂ levels (g.met.T.TwoTrees.still_count false _ _ (g.met.T.TwoTrees.goes_on _ _ _ c.in_ok-left.ensures.goes c.in_ok-right.ensures.goes)) (g.met.T.TwoTrees.still_count true _ _ (g.met.T.TwoTrees.goes_on _ _ _ c.in_ok-left.ensures.goes c.in_ok-right.ensures.goes))) (both 2 2 (2 + 2) (levels (g.T.TwoTrees.count false c.args.trees.now) (g.T.TwoTrees.count true c.args.trees.now)) _ _ _ _ (omega arith) (ap₂ levels (g.met.T.TwoTrees.still_count false _ _ c.in_ok-left.ensures.goes) (g.met.T.TwoTrees.still_count true _ _ c.in_ok-left.ensures.goes)) c.in_ok-left.ensures.reads c.in_ok-right.ensures.reads) c.in_err-first.ensures.reads
+
+pub returns-then-is_second_better-clause-reads : goal.returns-then-is_second_better-clause-reads
+returns-then-is_second_better-clause-reads g t c =
+    both ((2 + 2) + (5 * (c.args.q - (c.args.p + (c.args.q - c.args.p) / 2)) - 4)) (5 * ((c.args.p + (c.args.q - c.args.p) / 2) - c.args.p) - 4) (5 * (c.args.q - c.args.p) - 4) (levels (g.T.TwoTrees.count false c.args.trees.now) (g.T.TwoTrees.count true c.args.trees.now)) _ _ _ _ (omega (arith, c.requires.some, c.are_few.ensures.no c.if-are_few.false)) (ap₂ levels (g.met.T.TwoTrees.still_count false _ _ (g.met.T.TwoTrees.goes_on _ _ _ c.in_ok-left.ensures.goes (g.met.T.TwoTrees.goes_on _ _ _ c.in_ok-right.ensures.goes c.in_ok-first.ensures.goes))) (g.met.T.TwoTrees.still_count true _ _ (g.met.T.TwoTrees.goes_on _ _ _ c.in_ok-left.ensures.goes (g.met.T.TwoTrees.goes_on _ _ _ c.in_ok-right.ensures.goes c.in_ok-first.ensures.goes)))) (both (2 + 2) (5 * (c.args.q - (c.args.p + (c.args.q - c.args.p) / 2)) - 4) ((2 + 2) + (5 * (c.args.q - (c.args.p + (c.args.q - c.args.p) / 2)) - 4)) (levels (g.T.TwoTrees.count false c.args.trees.now) (g.T.TwoTrees.count true c.args.trees.now)) _ _ _ _ (omega arith) (ap₂ levels (g.met.T.TwoTrees.still_count false _ _ (g.met.T.TwoTrees.goes_on _ _ _ c.in_ok-left.ensures.goes c.in_ok-right.ensures.goes)) (g.met.T.TwoTrees.still_count true _ _ (g.met.T.TwoTrees.goes_on _ _ _ c.in_ok-left.ensures.goes c.in_ok-right.ensures.goes))) (both 2 2 (2 + 2) (levels (g.T.TwoTrees.count false c.args.trees.now) (g.T.TwoTrees.count true c.args.trees.now)) _ _ _ _ (omega arith) (ap₂ levels (g.met.T.TwoTrees.still_count false _ _ c.in_ok-left.ensures.goes) (g.met.T.TwoTrees.still_count true _ _ c.in_ok-left.ensures.goes)) c.in_ok-left.ensures.reads c.in_ok-right.ensures.reads) c.in_ok-first.ensures.reads) c.best_from-then-is_second_better.ensures.reads
+
+pub returns-in_err-first-2-clause-reads : goal.returns-in_err-first-2-clause-reads
+returns-in_err-first-2-clause-reads g t c =
+    both (2 + 2) (5 * ((c.args.p + (c.args.q - c.args.p) / 2) - c.args.p) - 4) (5 * (c.args.q - c.args.p) - 4) (levels (g.T.TwoTrees.count false c.args.trees.now) (g.T.TwoTrees.count true c.args.trees.now)) _ _ _ _ (omega (arith, c.requires.some, c.are_few.ensures.no c.if-are_few.false)) (ap₂ levels (g.met.T.TwoTrees.still_count false _ _ (g.met.T.TwoTrees.goes_on _ _ _ c.in_ok-left.ensures.goes c.in_ok-right.ensures.goes)) (g.met.T.TwoTrees.still_count true _ _ (g.met.T.TwoTrees.goes_on _ _ _ c.in_ok-left.ensures.goes c.in_ok-right.ensures.goes))) (both 2 2 (2 + 2) (levels (g.T.TwoTrees.count false c.args.trees.now) (g.T.TwoTrees.count true c.args.trees.now)) _ _ _ _ (omega arith) (ap₂ levels (g.met.T.TwoTrees.still_count false _ _ c.in_ok-left.ensures.goes) (g.met.T.TwoTrees.still_count true _ _ c.in_ok-left.ensures.goes)) c.in_ok-left.ensures.reads c.in_ok-right.ensures.reads) c.in_err-first-2.ensures.reads
+
+pub returns-clause-reads : goal.returns-clause-reads
+returns-clause-reads g t c =
+    both ((2 + 2) + (5 * ((c.args.p + (c.args.q - c.args.p) / 2) - c.args.p) - 4)) (5 * (c.args.q - (c.args.p + (c.args.q - c.args.p) / 2)) - 4) (5 * (c.args.q - c.args.p) - 4) (levels (g.T.TwoTrees.count false c.args.trees.now) (g.T.TwoTrees.count true c.args.trees.now)) _ _ _ _ (omega (arith, c.requires.some, c.are_few.ensures.no c.if-are_few.false)) (ap₂ levels (g.met.T.TwoTrees.still_count false _ _ (g.met.T.TwoTrees.goes_on _ _ _ c.in_ok-left.ensures.goes (g.met.T.TwoTrees.goes_on _ _ _ c.in_ok-right.ensures.goes c.in_ok-first-2.ensures.goes))) (g.met.T.TwoTrees.still_count true _ _ (g.met.T.TwoTrees.goes_on _ _ _ c.in_ok-left.ensures.goes (g.met.T.TwoTrees.goes_on _ _ _ c.in_ok-right.ensures.goes c.in_ok-first-2.ensures.goes)))) (both (2 + 2) (5 * ((c.args.p + (c.args.q - c.args.p) / 2) - c.args.p) - 4) ((2 + 2) + (5 * ((c.args.p + (c.args.q - c.args.p) / 2) - c.args.p) - 4)) (levels (g.T.TwoTrees.count false c.args.trees.now) (g.T.TwoTrees.count true c.args.trees.now)) _ _ _ _ (omega arith) (ap₂ levels (g.met.T.TwoTrees.still_count false _ _ (g.met.T.TwoTrees.goes_on _ _ _ c.in_ok-left.ensures.goes c.in_ok-right.ensures.goes)) (g.met.T.TwoTrees.still_count true _ _ (g.met.T.TwoTrees.goes_on _ _ _ c.in_ok-left.ensures.goes c.in_ok-right.ensures.goes))) (both 2 2 (2 + 2) (levels (g.T.TwoTrees.count false c.args.trees.now) (g.T.TwoTrees.count true c.args.trees.now)) _ _ _ _ (omega arith) (ap₂ levels (g.met.T.TwoTrees.still_count false _ _ c.in_ok-left.ensures.goes) (g.met.T.TwoTrees.still_count true _ _ c.in_ok-left.ensures.goes)) c.in_ok-left.ensures.reads c.in_ok-right.ensures.reads) c.in_ok-first-2.ensures.reads) c.best_from-3.ensures.reads

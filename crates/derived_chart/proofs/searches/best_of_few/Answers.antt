@@ -1,7 +1,9 @@
-use Rattle.std.proofs.Common.{ℕ, ◌+◌, ◌-◌, ◌≡◌, arith, subst, to_z, of_z}
+use Rattle.std.proofs.Common.{ℕ, false, true, ◌+◌, ◌-◌, ◌≡◌, ap, arith, subst, to_z, of_z}
 use mir.Syntax.{w128}
+use Rattle.om3_coeff.specs.Keys.{height}
 use Rattle.derived_chart.specs.Searches.{IsBestWith}
 use Rattle.derived_chart.proofs.SumLemmas.{passed_on}
+use Rattle.derived_chart.proofs.ReadLemmas.{one_side, two_sides}
 use Rattle.derived_chart.proofs.SlotLemmas.{arrays_are, held_from, held_place}
 use Rattle.derived_chart.proofs.searches.best_of_few.Goals as goal
 
@@ -26,3 +28,14 @@ pub returns-in_err-read_slots-2-clause-cause : goal.returns-in_err-read_slots-2-
 returns-in_err-read_slots-2-clause-cause g c =
     passed_on c.from_residual-in_err-read_slots-2.result c.in_err-read_slots-2.field-0.0 (g.T.TwoTrees.causes c.args.trees.now c.read_slots-2.new.trees) c.from_residual-in_err-read_slots-2.ensures.1
     (g.met.T.TwoTrees.causes_behind _ _ _ c.in_err-read_slots-2.field-0.0 c.in_ok-read_slots.ensures.goes c.in_ok-read_slots.ensures.quiet c.in_err-read_slots-2.ensures.cause)
+
+pub returns-in_err-read_slots-clause-reads : goal.returns-in_err-read_slots-clause-reads
+returns-in_err-read_slots-clause-reads g c = one_side (c.args.q - c.args.p) (height (g.T.TwoTrees.count false c.args.trees.now)) (height (g.T.TwoTrees.count true c.args.trees.now)) _ _ c.in_err-read_slots.ensures.reads
+
+pub returns-in_err-read_slots-2-clause-reads : goal.returns-in_err-read_slots-2-clause-reads
+returns-in_err-read_slots-2-clause-reads g c =
+    two_sides (c.args.q - c.args.p) (height (g.T.TwoTrees.count false c.args.trees.now)) (height (g.T.TwoTrees.count true c.args.trees.now)) _ _ _ _ (ap height (g.met.T.TwoTrees.still_count true _ _ c.in_ok-read_slots.ensures.goes)) c.in_ok-read_slots.ensures.reads c.in_err-read_slots-2.ensures.reads
+
+pub returns-clause-reads : goal.returns-clause-reads
+returns-clause-reads g c =
+    two_sides (c.args.q - c.args.p) (height (g.T.TwoTrees.count false c.args.trees.now)) (height (g.T.TwoTrees.count true c.args.trees.now)) _ _ _ _ (ap height (g.met.T.TwoTrees.still_count true _ _ c.in_ok-read_slots.ensures.goes)) c.in_ok-read_slots.ensures.reads c.in_ok-read_slots-2.ensures.reads

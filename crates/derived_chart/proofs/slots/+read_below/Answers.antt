@@ -1,12 +1,15 @@
-use Rattle.std.proofs.Common.{rules, arith, ◌≤◌, ◌∙◌}
+use Rattle.std.proofs.Common.{rules, arith, refl, ◌*◌, ◌≤◌, ◌∙◌, ap}
 use Rattle.std.proofs.lemmas.Int.{ints}
 use Rattle.std.proofs.lemmas.Result.{IfErr-weaker}
 use Rattle.om3_coeff.specs.Keys.{left_of, right_of}
 use Rattle.om3_coeff.specs.View.{Agrees, HasCause, StaysSame}
-use Rattle.om3_coeff.proofs.WalkLemmas.{key_small, go_to, still_agrees}
+use Rattle.om3_coeff.proofs.WalkLemmas.{ask_at, ask_left, both_below_at, go_to, key_small, right_follows_at, still_agrees}
 use Rattle.om3_coeff.proofs.CauseLemmas.{passed_on, later_cause}
 use Rattle.om3_coeff.specs.Keys.{end_slot}
+use Rattle.om3_coeff.specs.Walks.{StaysBelow}
 use Rattle.derived_chart.specs.Slots.{AreReadBelow}
+use Rattle.derived_chart.specs.Reads.{slots_in}
+use Rattle.derived_chart.proofs.ReadLemmas.{slots_part, some_in, walk_both, walk_left, walk_once}
 use Rattle.derived_chart.proofs.SlotLemmas.{read_missing, read_apart, slot_end, slot_first, read_here, here_values, read_left, read_middle, read_right, on_ok}
 use Rattle.derived_chart.proofs.slots.+read_below.Goals as goal
 
@@ -46,7 +49,10 @@ read_below-requires g t c κs within =
           c.in_ok-left.ensures.fit,
           (
             go_to (g.N.Nodes.view c.args.nodes.now) (g.N.Nodes.view c.ask.new.nodes) c.left.result (left_of c.args.key) c.in_ok-left.left c.left.ensures same c.in_ok-left.ensures.left,
-            (c.requires.few, (c.requires.base, c.requires.room)),
+            (
+              ask_at (g.N.Nodes.view c.ask.new.nodes) c.left.result (left_of c.args.key) c.left.ensures (ask_left (g.N.Nodes.view c.ask.new.nodes) c.args.key (omega (arith, c.if-key-eq0.false)) c.in_ok-left.ensures.asked),
+              (c.requires.some, (c.requires.few, (c.requires.base, c.requires.room))),
+            ),
           ),
         ),
       ),
@@ -64,7 +70,10 @@ read_below-requires-2 g t c κs within =
           c.in_ok-read_below.ensures.fit,
           (
             go_to (g.N.Nodes.view c.args.nodes.now) (g.N.Nodes.view c.read_below.new.nodes) c.right.result (right_of c.args.key) c.in_ok-left.right c.right.ensures same c.in_ok-left.ensures.right,
-            (c.requires.few, (c.requires.base, omega (arith, c.requires.room, c.in_ok-read_below.ensures.room))),
+            (
+              right_follows_at (g.N.Nodes.view c.read_below.new.nodes) c.args.key c.left.result c.right.result (g.N.Nodes.view c.ask.new.nodes).asked (omega (arith, c.if-key-eq0.false)) c.left.ensures c.right.ensures c.in_ok-left.ensures.asked c.in_ok-read_below.ensures.below,
+              (c.requires.some, (c.requires.few, (c.requires.base, omega (arith, c.requires.room, c.in_ok-read_below.ensures.room)))),
+            ),
           ),
         ),
       ),
@@ -127,3 +136,31 @@ returns-clause-cause g t c =
     IfErr-weaker c.read_below-2.result (HasCause (g.N.Nodes.view c.read_below.new.nodes) (g.N.Nodes.view c.read_below-2.new.nodes)) (HasCause (g.N.Nodes.view c.args.nodes.now) (g.N.Nodes.view c.read_below-2.new.nodes))
     (λ e. later_cause (g.N.Nodes.view c.args.nodes.now) (g.N.Nodes.view c.read_below.new.nodes) (g.N.Nodes.view c.read_below-2.new.nodes) e same (c.in_ok-read_below.ensures.quiet ∙ c.in_ok-left.ensures.quiet))
     c.read_below-2.ensures.cause
+
+pub returns-clause-below : goal.returns-clause-below
+returns-clause-below g t c =
+    on_ok c.read_below-2.result (StaysBelow c.right.result (g.N.Nodes.view c.read_below.new.nodes).asked (g.N.Nodes.view c.read_below-2.new.nodes).asked)
+    (StaysBelow c.args.key (g.N.Nodes.view c.args.nodes.now).asked (g.N.Nodes.view c.read_below-2.new.nodes).asked)
+    (both_below_at c.args.key c.left.result c.right.result _ _ _ _ (omega (arith, c.if-key-eq0.false)) c.left.ensures c.right.ensures c.in_ok-left.ensures.asked c.in_ok-read_below.ensures.below) c.read_below-2.ensures.below
+
+pub returns-in_err-left-clause-reads : goal.returns-in_err-left-clause-reads
+returns-in_err-left-clause-reads g t c = λ from starts.
+    let low : 1 ≤ c.args.key.level = omega (arith, c.if-key-eq0.false) in
+    walk_once c.args.key.level (slots_in from c.args.count c.args.key) _ _ low (some_in c.args.base.now c.args.count from c.args.key low c.requires.some (c.is_apart.ensures.no c.if-is_apart.false) starts)
+    (c.in_err-left.ensures.one_read c.requires.follows)
+
+pub returns-in_err-read_below-clause-reads : goal.returns-in_err-read_below-clause-reads
+returns-in_err-read_below-clause-reads g t c = λ from starts.
+    let low : 1 ≤ c.args.key.level = omega (arith, c.if-key-eq0.false) in
+    let some = some_in c.args.base.now c.args.count from c.args.key low c.requires.some (c.is_apart.ensures.no c.if-is_apart.false) starts in
+    walk_left c.args.key.level c.left.result.level (slots_in from c.args.count c.args.key) (slots_in from c.args.count c.left.result) (slots_in from c.args.count (right_of c.args.key)) _ _ _ (omega (arith, low, ap (λ k. k.level) c.left.ensures)) some
+    (slots_part from c.args.count c.args.key c.left.result (right_of c.args.key) low c.left.ensures refl) (c.in_ok-left.ensures.one_read c.requires.follows) (c.in_err-read_below.ensures.reads from starts)
+
+pub returns-clause-reads : goal.returns-clause-reads
+returns-clause-reads g t c = λ from starts.
+    let low : 1 ≤ c.args.key.level = omega (arith, c.if-key-eq0.false) in
+    let some = some_in c.args.base.now c.args.count from c.args.key low c.requires.some (c.is_apart.ensures.no c.if-is_apart.false) starts in
+    let second = c.read_below-2.ensures.reads from starts in
+    walk_both c.args.key.level c.left.result.level (slots_in from c.args.count c.args.key) (slots_in from c.args.count c.left.result) (slots_in from c.args.count c.right.result) _ _ _ _ (omega (arith, low, ap (λ k. k.level) c.left.ensures)) some
+    (slots_part from c.args.count c.args.key c.left.result c.right.result low c.left.ensures c.right.ensures) (c.in_ok-left.ensures.one_read c.requires.follows) (c.in_ok-read_below.ensures.reads from starts)
+    (omega (arith, second, ap (λ k. k.level * slots_in from c.args.count c.right.result) c.right.ensures, ap (λ k. k.level * slots_in from c.args.count c.right.result) c.left.ensures))

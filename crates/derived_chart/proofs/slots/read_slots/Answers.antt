@@ -1,9 +1,10 @@
-use Rattle.std.proofs.Common.{ℤ, Bool, List, Option, subst}
-use Rattle.om3_coeff.specs.Keys.{first_slot, end_slot}
+use Rattle.std.proofs.Common.{ℤ, arith, ◌∙◌, ap, Bool, List, Option, subst}
+use Rattle.om3_coeff.specs.Keys.{end_slot, first_slot, height}
 use Rattle.om3_coeff.specs.View.{Agrees}
 use Rattle.om3_coeff.proofs.WalkLemmas.{at_top}
 use Rattle.derived_chart.specs.Slots.{AreRead, AreReadBelow}
 use Rattle.derived_chart.specs.Sums.{one_of}
+use Rattle.derived_chart.proofs.ReadLemmas.{walk_reads}
 use Rattle.derived_chart.proofs.SlotLemmas.{on_ok, read_series, read_start, top_zero, empty_values}
 use Rattle.derived_chart.proofs.slots.read_slots.Goals as goal
 
@@ -23,3 +24,8 @@ returns-clause-list g c = λ xs ys trees.
 
 pub returns-clause-values : goal.returns-clause-values
 returns-clause-values g c = c.read_below.ensures.values (empty_values c.args.slots.now c.requires.empty)
+
+pub returns-clause-reads : goal.returns-clause-reads
+returns-clause-reads g c =
+    let slots = c.slots.ensures.slots ∙ g.met.T.TwoTrees.counts c.turn.new.self ∙ ap (λ s. g.T.TwoTrees.count s c.turn.new.self) c.turn.ensures.turned ∙ g.met.T.TwoTrees.still_count c.args.second _ _ c.turn.ensures.goes in
+    omega (arith, c.turn.ensures.reads, walk_reads c.args.base.now c.args.count c.slots.result (g.T.TwoTrees.count c.args.second c.args.trees.now) c.top_key-top.result _ _ slots c.top_key-top.ensures c.read_below.ensures.reads)
