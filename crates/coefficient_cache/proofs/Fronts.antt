@@ -193,6 +193,16 @@ has-among (e ∷ es) k = has-cons (key_eq k) e es ∙ ap (λ b. key_eq k e.0 || 
 has-alike : (es fs : List (SeriesKey × Coef)) → keys_of es ≡ keys_of fs → (k : SeriesKey) → has es k ≡ has fs k
 has-alike es fs same k = has-among es k ∙ ap (λ l. among l k) same ∙ sym (has-among fs k)
 
+-- the pairs behind them are those of the other keys
+pub front-others : (old new : List (SeriesKey × Coef)) (series : ℕ) (needed : List (Key × Coef)) → IsDistinct key_eq (keys_of old) → (front : RenewsFront old new series needed)
+    → others old (in_series series needed) ≡ front.rest
+front-others old new series needed apart front =
+    let all : List (SeriesKey × Coef) = in_series series needed in
+    let has_all : (k : SeriesKey) → has all k ≡ has front.front k = has-alike all front.front (sym front.keys) in
+    (λ i. filter (λ e. not (has_all e.0 i)) old)
+    ∙ ap (λ l. others l front.front) front.was
+    ∙ rest-others front.front front.rest (subst (λ l. IsDistinct key_eq (keys_of l)) front.was apart)
+
 -- the list after the view has the pairs in front
 pub renewed-front : (capacity : ℕ) (old new : List (SeriesKey × Coef)) (series : ℕ) (needed : List (Key × Coef)) → IsDistinct key_eq (keys_of old) → length old ≤ capacity
     → RenewsFront old new series needed → renewed capacity old (in_series series needed) ≡ new
@@ -206,14 +216,10 @@ renewed-front capacity old new series needed apart fits front =
     ∙ ap keys_of (sym front.was) in
     let now : IsDistinct key_eq (keys_of new) = subst (λ l. IsDistinct key_eq l) (sym heads) apart in
     let has_old : (k : SeriesKey) → has old k ≡ has new k = has-alike old new (sym heads) in
-    let has_all : (k : SeriesKey) → has all k ≡ has front.front k = has-alike all front.front (sym front.keys) in
     let long : length new ≡ length old = sym (length-map new (λ e. e.0)) ∙ ap length heads ∙ length-map old (λ e. e.0) in
     let first : news old all ≡ [] = (λ i. filter (λ e. not (has_old e.0 i)) all) ∙ no-news new now all front.rest front.is in
     let second : hits old all ≡ all = (λ i. filter (λ e. has_old e.0 i) all) ∙ all-hits new now all front.rest front.is in
-    let third : others old all ≡ front.rest =
-    (λ i. filter (λ e. not (has_all e.0 i)) old)
-    ∙ ap (λ l. others l front.front) front.was
-    ∙ rest-others front.front front.rest (subst (λ l. IsDistinct key_eq (keys_of l)) front.was apart) in
+    let third : others old all ≡ front.rest = front-others old new series needed apart front in
     (λ i. take capacity (reverse (first i) ++ reverse (second i) ++ third i))
     ∙ ap (take capacity) (sym front.is)
     ∙ take_all capacity new (omega (arith, long, fits))

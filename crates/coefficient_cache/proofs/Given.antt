@@ -1,6 +1,6 @@
 -- What is sent and what is held give the needed list; needed keys are held afterwards.
 use Rattle.std.proofs.Common.{◌≡◌, ℕ, ◌<◌, ◌≤◌, Bool, true, false, cond, not, List, [], ◌∷◌, ◌++◌, length, map, get_or, reverse, Option, Some, None, refl, sym, ap, ◌∙◌, subst, arith, length-append, pos}
-use Rattle.std.specs.List.{filter, IsDistinct, All, Contains}
+use Rattle.std.specs.List.{filter, IsDistinct, Contains}
 use Rattle.std.specs.Map.{keys_of, lookup}
 use Rattle.std.specs.Option.{option_map, option_map_or}
 use Rattle.std.proofs.lemmas.List.{length-map, length-reverse, get_or-map}

@@ -11,3 +11,4 @@ pub mod Putting
 pub mod Apart
 pub mod Fronts
 pub mod Found
+pub mod InLine

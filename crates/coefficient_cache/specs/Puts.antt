@@ -1,5 +1,5 @@
 -- Pairs in the order in which they were put into a list, and which of them are held.
-use Rattle.std.specs.Prelude.{ℕ, ◌≡◌, ◌-◌, ◌<◌, ◌≤◌, Bool, List, [], ◌∷◌, length, map, take, drop, get_or, Option, None, Some}
+use Rattle.std.specs.Prelude.{ℕ, ◌≡◌, ◌+◌, ◌-◌, ◌<◌, ◌≤◌, Bool, true, false, List, [], ◌∷◌, length, map, take, drop, get_or, Option, None, Some}
 use Rattle.std.specs.Option.{option_map_or}
 use Rattle.std.specs.Map.{lookup, lookup_entry, remove_entry}
 use Rattle.om3_coeff.specs.declared.coef.Coef.{Coef}
@@ -76,3 +76,29 @@ put_in series needed = map (λ e. Some (series_key series e.0, e.1)) needed
 pub record HasKeys (puts : List (Option (SeriesKey × Coef))) (series : ℕ) (needed : List (Key × Coef)) : Type 0 where
   pub fits : length needed ≤ length puts
   pub alike : AreAlike (drop (length puts - length needed) puts) (put_in series needed)
+
+-- the needed pairs whose flag isn't set, in order
+abbrev pub held_of : List (Key × Coef) → List Bool → List (Key × Coef)
+held_of [] flags = []
+held_of (e ∷ es) [] = []
+held_of (e ∷ es) (true ∷ flags) = held_of es flags
+held_of (e ∷ es) (false ∷ flags) = e ∷ held_of es flags
+
+-- of the needed keys whose flag is set none has a number
+abbrev pub AreGone : List (SeriesKey × ℕ) → ℕ → List (Key × Coef) → List Bool → Type 0
+AreGone numbers series [] flags = Unit {0}
+AreGone numbers series (e ∷ es) [] = Unit {0}
+AreGone numbers series (e ∷ es) (true ∷ flags) = (lookup (key_eq (series_key series e.0)) numbers ≡ None) × AreGone numbers series es flags
+AreGone numbers series (e ∷ es) (false ∷ flags) = AreGone numbers series es flags
+
+-- the key stands at the place, and the next one is to stand behind it, or it has no number
+abbrev pub IsStep : List (Option (SeriesKey × Coef)) → List (SeriesKey × ℕ) → ℕ → SeriesKey → Bool → ℕ → Type 0
+IsStep puts numbers place key true next = (next ≡ place + 1) × ((v : Coef) × (get_or puts place None ≡ Some (key, v)))
+IsStep puts numbers place key false next = (next ≡ place) × (lookup (key_eq key) numbers ≡ None)
+
+-- the needed keys whose flag isn't set are those of the places from the start to the end, in order; no other has a number
+pub record IsInLine (puts : List (Option (SeriesKey × Coef))) (numbers : List (SeriesKey × ℕ)) (start series : ℕ) (needed : List (Key × Coef)) (flags : List Bool) : Type 0 where
+  pub long : length flags ≡ length needed
+  pub fits : start + length (held_of needed flags) ≡ length puts
+  pub alike : AreAlike (drop start puts) (put_in series (held_of needed flags))
+  pub gone : AreGone numbers series needed flags

@@ -120,6 +120,9 @@ impl CoefficientCache {
     fn holds(&self, from: usize, series: u16, key: Key, coef: Coef) -> (bool, usize)
         ensures { result.0 ≡ holds self.now.pairs (series_key series key, coef) }
     {
+        if self.list.is_at(from, SeriesKey::new(series, key), coef) {
+            return (true, from.saturating_add(1));
+        }
         let (found, next) = self.find_near(from, series, key);
         match found {
             Some(held) => (coef == held, next),

@@ -13,6 +13,7 @@
 #![tactic(auto)]
 
 mod cache;
+mod in_line;
 pub mod laws;
 mod pair_list;
 mod renewal;

@@ -1,15 +1,16 @@
 //! A list of pairs, the one that was put last before the others.
 
-ghost use Rattle.std.specs.Prelude.{◌≡◌, ◌==◌, ◌<◌, ◌≤◌, ◌+◌, ◌-◌, ◌∷◌, ◌++◌, ◌&&◌, ℕ, [], false, length, take, set, reverse, get_or, if◌then◌else◌, None, Some, IfSome, IfNone, IfOk, OnOk, OnErr, IsTrue, IsFalse};
+ghost use Rattle.std.specs.Prelude.{◌≡◌, ◌==◌, ◌<◌, ◌≤◌, ◌+◌, ◌-◌, ◌∷◌, ◌++◌, ◌&&◌, ℕ, [], true, false, length, take, set, reverse, get_or, if◌then◌else◌, None, Some, IfSome, IfNone, IfOk, OnOk, OnErr, IsTrue, IsFalse};
 ghost use Rattle.std.specs.List.{IsDistinct};
 ghost use Rattle.std.specs.Option.{option_map};
 ghost use Rattle.std.specs.Map.{keys_of, lookup};
-ghost use Rattle.coefficient_cache.specs.Pairs.{key_eq, coefficient_eq, coefficient_at, has};
-ghost use Rattle.coefficient_cache.specs.Views.{IsInFront, RenewsFront};
+ghost use Rattle.coefficient_cache.specs.Pairs.{key_eq, coefficient_eq, coefficient_at, has, holds, in_series};
+ghost use Rattle.coefficient_cache.specs.Views.{IsInFront, RenewsFront, hits, others, are_new};
 ghost use Rattle.coefficient_cache.specs.Caches.{IsCapacity, IsValid};
 ghost use Rattle.om3_coeff.specs.declared.coef.Coef.{Coef};
 ghost use Rattle.coefficient_cache.specs.Puts.{shown, AreFound, IsTold, IsFirstHeld, HasKeys, put_entries, put_in};
 
+use crate::in_line::{flags_in_line, set_in_line};
 use crate::series_key::SeriesKey;
 use om3_coeff::{Coef, Key};
 use std::alloc::{AllocError, Global};
@@ -142,6 +143,58 @@ impl PairList {
         }
         set_coefs(&mut self.puts, series, needed);
         true
+    }
+
+    /// Gives the needed pairs that the list holds their needed coefficients, where they stand in front of
+    /// all others, in the order in which a view leaves them. Whether they do, and of each needed key
+    /// whether it is new; where they don't, nothing changes, and the flags are of no use.
+    pub(crate) fn renew_in_line(
+        &mut self,
+        alloc: Global,
+        series: u16,
+        needed: &[(Key, Coef)],
+    ) -> Result<(bool, Vec<bool>), AllocError>
+        ensures hits { let all = in_series series needed.now in IfOk result (λ told. IsTrue told.0 →
+            self.new.pairs ≡ reverse (hits self.old.pairs all) ++ others self.old.pairs all) }
+        ensures news { IfOk result (λ told. IsTrue told.0 →
+            told.1.items ≡ are_new self.old.pairs (in_series series needed.now)) }
+        ensures other { IfOk result (λ told. IsFalse told.0 → self.new ≡ self.old) }
+        ensures capacity { self.new.capacity ≡ self.old.capacity }
+    {
+        let start = self.line_start(series, needed);
+        let puts = self.puts.as_slice();
+        let (is_in_line, is_new) = flags_in_line(
+            alloc,
+            puts,
+            &self.numbers,
+            start,
+            series,
+            needed,
+        )?;
+        if !is_in_line {
+            return Ok((false, is_new));
+        }
+        set_in_line(&mut self.puts, start, series, needed, &is_new);
+        Ok((true, is_new))
+    }
+
+    // Where the needed pairs start, if the first of them is held. Any place is right.
+    fn line_start(&self, series: u16, needed: &[(Key, Coef)]) -> usize {
+        let puts = self.puts.as_slice();
+        let Some((key, _)) = needed.first() else {
+            return puts.len();
+        };
+        let key = SeriesKey::new(series, *key);
+        let places = self.places.as_slice();
+        place_of(puts, places, &self.numbers, self.start, key).unwrap_or(puts.len())
+    }
+
+    /// Whether the pair stands at this place.
+    pub(crate) fn is_at(&self, place: usize, key: SeriesKey, coef: Coef) -> bool
+        ensures { IsTrue result → holds self.now.pairs (key, coef) ≡ true }
+    {
+        let puts = self.puts.as_slice();
+        is_put_at(puts, place, key, coef)
     }
 
     /// Makes room for so many pairs more, and for as many that are put again.
@@ -278,13 +331,23 @@ fn place_of(
 }
 
 // Whether a pair of this key is held at the place.
-fn stands_at(puts: &[Option<(SeriesKey, Coef)>], place: usize, key: SeriesKey) -> bool
+pub(crate) fn stands_at(puts: &[Option<(SeriesKey, Coef)>], place: usize, key: SeriesKey) -> bool
     ensures { IsTrue result → (v : Coef) × (get_or puts.now place None ≡ Some (key, v)) }
 {
     if puts.len() <= place {
         return false;
     }
     is_of(puts[place], key)
+}
+
+// Whether this pair is held at the place.
+fn is_put_at(puts: &[Option<(SeriesKey, Coef)>], place: usize, key: SeriesKey, coef: Coef) -> bool
+    ensures { IsTrue result → get_or puts.now place None ≡ Some (key, coef) }
+{
+    if puts.len() <= place {
+        return false;
+    }
+    is_put(puts[place], key, coef)
 }
 
 // The same; it is looked for at some places from this one on, and looked up where it isn't there.

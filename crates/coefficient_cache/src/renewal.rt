@@ -9,9 +9,30 @@ use crate::series_key::SeriesKey;
 use om3_coeff::{Coef, Key};
 use std::alloc::{AllocError, Global};
 
-// Moves the needed keys that are in the list to its front, in order and with their present
+// Brings the needed keys that are in the list to its front, in order and with their present
 // coefficients, and says of each needed key whether it is new.
 pub(crate) fn renew_hits(
+    list: &mut PairList,
+    alloc: Global,
+    series: u16,
+    needed: &[(Key, Coef)],
+) -> Result<Vec<bool>, AllocError>
+    requires { AreDistinct needed.now }
+    ensures hits { let all = in_series series needed.now in OnOk result
+        (list.new.pairs ≡ reverse (hits list.old.pairs all) ++ others list.old.pairs all) }
+    ensures news { IfOk result
+        (λ is_new. is_new.items ≡ are_new list.old.pairs (in_series series needed.now)) }
+    ensures capacity { list.new.capacity ≡ list.old.capacity }
+{
+    let (is_done, is_new) = list.renew_in_line(alloc, series, needed)?;
+    if is_done {
+        return Ok(is_new);
+    }
+    move_hits(list, alloc, series, needed)
+}
+
+// The same; each of them is moved.
+fn move_hits(
     list: &mut PairList,
     alloc: Global,
     series: u16,

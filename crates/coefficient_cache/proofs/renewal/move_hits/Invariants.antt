@@ -1,7 +1,7 @@
 use Rattle.std.proofs.Common.{◌≡◌, ◌++◌, reverse, take}
 use Rattle.coefficient_cache.specs.Pairs.{in_series}
 use Rattle.coefficient_cache.specs.Views.{hits, are_new, others}
-use Rattle.coefficient_cache.proofs.renewal.renew_hits.Given as goal
+use Rattle.coefficient_cache.proofs.renewal.move_hits.Given as goal
 
 abbrev pub invariant-loop-key : goal.invariant-loop-key
 invariant-loop-key l = record {

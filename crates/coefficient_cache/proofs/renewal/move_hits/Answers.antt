@@ -8,7 +8,7 @@ use Rattle.coefficient_cache.specs.Views.{hits, others, are_new}
 use Rattle.coefficient_cache.proofs.Empty.{no-hits, all-new}
 use Rattle.coefficient_cache.proofs.Steps.{hits-step, flags-step}
 use Rattle.coefficient_cache.proofs.Moves.{others-none}
-use Rattle.coefficient_cache.proofs.renewal.renew_hits.Goals as goal
+use Rattle.coefficient_cache.proofs.renewal.move_hits.Goals as goal
 
 empty : (es : List (SeriesKey × Coef)) (r : Bool) → r ≡ true → r ≡ (length es == 0) → es ≡ []
 empty es r is told = nil_from_length es ((Decides-eqb (length es) 0).0 (sym told ∙ is))
