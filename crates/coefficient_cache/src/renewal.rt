@@ -24,6 +24,9 @@ pub(crate) fn renew_hits(
         (λ is_new. is_new.items ≡ are_new list.old.pairs (in_series series needed.now)) }
     ensures capacity { list.new.capacity ≡ list.old.capacity }
 {
+    if list.is_empty() {
+        return move_hits(list, alloc, series, needed);
+    }
     let (is_done, is_new) = list.renew_in_line(alloc, series, needed)?;
     if is_done {
         return Ok(is_new);
