@@ -1,6 +1,7 @@
 // What the page's modules reckon: addresses, windows, ticks and values. Run by `node --test clients/web/page_test.js`.
 import assert from "node:assert";
 import { test } from "node:test";
+import { refusalOf } from "./chart_client.js";
 import { factorOf, readAddress, spellAddress } from "./page/address.js";
 import { beginOf, summaryOf, wordsOf } from "./page/alarms.js";
 import { curvesOf, titleOf } from "./page/curves.js";
@@ -59,12 +60,12 @@ test("a sum is asked in the decimals of the finer series", () => {
   const [large] = curvesOf({ names: ["a", "b"], factors: [10 ** 9, 1], filter: "" }, catalog);
   assert.strictEqual(large.fault(catalog), "with 3 decimals a factor is more than 10^9");
   assert.strictEqual(sum.fault({ ...catalog, hasSums: false }), "this server answers no sums");
-  const told = (number) => sum.told({ message: "its own", frame: { number, a: 0, b: 0 } });
-  assert.deepStrictEqual([8, 11, 13, 17].map(told), [
+  const told = (number) => sum.told({ message: refusalOf(number, 0, 0).meaning, frame: { number } });
+  assert.deepStrictEqual([8, 17, 23, 24].map(told), [
     "the two series aren't of one store",
+    "the window is empty, or an end of it too far from 0",
     "the steps of the two series differ, or their starts by no multiple of the step",
     "a sum in the window is more than 10^18 in size",
-    "its own",
   ]);
   const [series] = curvesOf({ names: ["a"], factors: null, filter: "v > 0" }, catalog);
   assert.strictEqual(series.line(7, ...placed, null), "view 7 a 10 5 -4 4 auto where v > 0");

@@ -1,10 +1,8 @@
 /** What a panel draws: each of its series, or the sum of two, each times a factor; and the lines that ask for it. */
-import { refusalOf } from "../chart_client.js";
 import { MOST_FACTOR } from "./address.js";
 import { sizeOf } from "./numbers.js";
 
 const UNKNOWN_SERIES = 8;
-const OF_SUMS = new Map([[11, 23], [13, 24]]); // prettier-ignore
 
 /** Of a view or a sum what its line has in common: the canvas, the window and the range. */
 const placed = ({ w, h }, { t0, t1 }, range) => `${w} ${h} ${t0} ${t1} ${range ? `${range.lo}..${range.hi}` : "auto"}`;
@@ -49,10 +47,9 @@ class Sum {
     return isTooLarge ? `with ${this.scale} decimals a factor is more than 10^9` : null;
   }
 
-  /** Why it was refused, where both series are listed. Two causes of a sum have numbers of their own, which no frame has. */
-  told({ message, frame: { number, a, b } }) {
-    const own = OF_SUMS.get(number);
-    return number === UNKNOWN_SERIES ? "the two series aren't of one store" : own ? refusalOf(own, a, b).meaning : message;
+  /** Why it was refused, where both series are listed. */
+  told({ message, frame: { number } }) {
+    return number === UNKNOWN_SERIES ? "the two series aren't of one store" : message;
   }
 
   line(session, size, window, range) {

@@ -1,5 +1,6 @@
 -- What a request is answered over a book: the picture of its chart, or why it is refused.
 use Rattle.std.specs.Prelude.{◌≡◌, ◌⊎◌, ℕ, ℤ, List, Option, None, Some}
+use Rattle.chart_frames.specs.declared.refusals.TheConstants.{OTHER_GRID, SUM_TOO_LARGE}
 use Rattle.chart_grid.specs.Limits.{IsWindow, IsSide, IsBadWindow, IsBadSide}
 use Rattle.chart_grid.specs.Projection.{ShowsWindow, HasCanvas}
 use Rattle.chart_grid.specs.declared.grid.Grid.{Grid}
@@ -79,11 +80,11 @@ IsRefused book r TooLarge = HasLarge book r
 -- the number of a refusal: those of a view have the numbers that `serve` gives them
 abbrev pub number_of : DeriveRefusal → ℕ
 number_of UnknownSeries = number_for_lines line.UnknownSeries
-number_of NotOneGrid = 23
+number_of NotOneGrid = OTHER_GRID
 number_of BadWindow = number_for_lines line.BadWindow
 number_of BadCanvas = number_for_lines line.BadCanvas
 number_of BadRange = number_for_lines line.BadRange
-number_of TooLarge = 24
+number_of TooLarge = SUM_TOO_LARGE
 
 -- ---- lines
 

@@ -2,6 +2,7 @@
 ghost use Rattle.std.specs.Prelude.{◌≡◌};
 ghost use Rattle.derive_command.specs.Answers.{number_of};
 
+use chart_frames::refusals::{OTHER_GRID, SUM_TOO_LARGE};
 use series_book::Refusal;
 use thiserror::Error;
 
@@ -35,11 +36,11 @@ impl DeriveRefusal {
     {
         match self {
             DeriveRefusal::UnknownSeries => Refusal::UnknownSeries.number(),
-            DeriveRefusal::NotOneGrid => 23,
+            DeriveRefusal::NotOneGrid => OTHER_GRID,
             DeriveRefusal::BadWindow => Refusal::BadWindow.number(),
             DeriveRefusal::BadCanvas => Refusal::BadCanvas.number(),
             DeriveRefusal::BadRange => Refusal::BadRange.number(),
-            DeriveRefusal::TooLarge => 24,
+            DeriveRefusal::TooLarge => SUM_TOO_LARGE,
         }
     }
 }

@@ -2,8 +2,9 @@
 use Rattle.std.proofs.Common.{◌≡◌, ℕ, ℤ, ◌≤◌, List, length, Option, IfOk, IfErr, refl, sym, subst, arith, inl, inr}
 use Rattle.std.specs.Prelude.{All}
 use Rattle.block_disk.specs.View.{View}
-use Rattle.chart_frames.specs.Frames.{FitsRow, FitsRows, IsRange, IsSession}
+use Rattle.chart_frames.specs.Frames.{Fits, FitsRefused, FitsRow, FitsRows, IsRange, IsSession}
 use Rattle.chart_frames.specs.declared.frame.RowsFrame.{RowsFrame}
+use Rattle.chart_frames.specs.declared.refusals.TheConstants.{SUM_TOO_LARGE}
 use Rattle.chart_grid.specs.Limits as window
 use Rattle.chart_grid.specs.declared.grid.Grid.{Grid}
 use Rattle.chart_service.proofs.Filtered.{few_rows}
@@ -69,6 +70,17 @@ fields_fit session g lo hi rows named wide tall range rising drawable ordered = 
 }
 
 -- ---- refusals
+
+plain : (number : ℕ) → 1 ≤ number → number ≤ SUM_TOO_LARGE → FitsRefused number 0 0
+plain number low high = record { low = low; high = high; first = omega arith; second = omega arith; no_first = λ none. refl; no_second = λ none. refl }
+
+pub refusal_fits : (refusal : DeriveRefusal) → Fits (refused refusal)
+refusal_fits why.UnknownSeries = plain 8 (omega arith) (omega arith)
+refusal_fits why.NotOneGrid = plain 23 (omega arith) (omega arith)
+refusal_fits why.BadWindow = plain 17 (omega arith) (omega arith)
+refusal_fits why.BadCanvas = plain 18 (omega arith) (omega arith)
+refusal_fits why.BadRange = plain 19 (omega arith) (omega arith)
+refusal_fits why.TooLarge = plain 24 (omega arith) (omega arith)
 
 pub refuses : (book : List Series) (r : Request) (session : ℕ) (why : DeriveRefusal) → IsRefused book r why → AnswersSum book r session (refused why)
 refuses book r session why is = record { why = why; refused_for = is; frame_is = refl }

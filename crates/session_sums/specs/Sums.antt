@@ -3,41 +3,28 @@ use Rattle.std.specs.Prelude.{◌≡◌, ℕ, List, length, Option, Result, Ok, 
 use Rattle.block_disk.specs.Counts.{HasRisen}
 use Rattle.block_disk.specs.View.{View}
 use Rattle.chart_frames.specs.declared.frame.Frame.{Frame}
-use Rattle.chart_frames.specs.declared.frame.Frame.TheVariants.{Rows}
+use Rattle.chart_frames.specs.declared.frame.Frame.TheVariants.{Refused, Rows}
 use Rattle.chart_frames.specs.declared.frame.RowsFrame.{RowsFrame}
 use Rattle.chart_grid.specs.declared.grid.Grid.{Grid}
-use Rattle.chart_service.specs.Replies as replies
 use Rattle.chart_service.specs.declared.failure.ServiceError.{ServiceError}
 use Rattle.chart_service.specs.declared.failure.ServiceError.TheVariants.{DiskFault, Damaged, NoMemory}
-use Rattle.derive_command.specs.Answers.{AreOnOneGrid, IsGridOf, IsRefused, asked_range}
+use Rattle.derive_command.specs.Answers.{AreOnOneGrid, IsGridOf, IsRefused, asked_range, number_of}
 use Rattle.derive_command.specs.declared.derive_refusal.DeriveRefusal.{DeriveRefusal}
-use Rattle.derive_command.specs.declared.derive_refusal.DeriveRefusal.TheVariants.{UnknownSeries, NotOneGrid, BadWindow, BadCanvas, BadRange, TooLarge}
+use Rattle.derive_command.specs.declared.derive_refusal.DeriveRefusal.TheVariants.{TooLarge}
 use Rattle.derive_command.specs.declared.request.Request.{Request}
 use Rattle.m4_groups.specs.declared.row.Row.{Row}
 use Rattle.plain_chart.specs.Samples.{kept, values_of}
 use Rattle.plain_chart.specs.declared.sample.Sample.{Sample}
 use Rattle.plain_chart.specs.declared.value_range.ValueRange.{ValueRange}
 use Rattle.series_book.specs.declared.one_series.Series.{Series}
-use Rattle.series_book.specs.declared.refusals.Refusal.{Refusal}
-use Rattle.series_book.specs.declared.refusals.Refusal.TheVariants as line
 use Rattle.series_pair.specs.Derived.{AreSumRows, ShowsRange}
 use Rattle.series_pair.specs.declared.sum_error.SumError.{SumError}
 use Rattle.series_pair.specs.declared.sum_error.SumError.TheVariants as sum
 use Rattle.series_pair.specs.Damage.{IsBadOnWay}
 
--- The refusal of a request line that says the same: two series on no common grid are off the grid, and a sum that is too
--- large is such a value.
-abbrev pub line_refusal : DeriveRefusal → Refusal
-line_refusal UnknownSeries = line.UnknownSeries
-line_refusal NotOneGrid = line.OffGrid
-line_refusal BadWindow = line.BadWindow
-line_refusal BadCanvas = line.BadCanvas
-line_refusal BadRange = line.BadRange
-line_refusal TooLarge = line.ValueTooLarge
-
--- its frame
+-- the frame of a refusal: it has the number that `derive` gives it, and carries no others
 abbrev pub refused : DeriveRefusal → Frame
-refused why = replies.refused (line_refusal why)
+refused why = Refused (number_of why) 0 0
 
 -- a frame of rows
 abbrev pub SumRows : RowsFrame → Frame

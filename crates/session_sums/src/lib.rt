@@ -1,9 +1,8 @@
 //! What `host` answers of its store for a line of its own.
 //!
 //! The reply to a request of `derive` for a session is one frame: the rows of `a * x + b * y`, as those of a filtered view,
-//! or the refusal that stands against it, as a request line is refused for the same reason. specs/Sums.antt says of the plain
-//! book which. Pages are read, and
-//! nothing else changes: a session keeps what it was answered last.
+//! or the refusal that stands against it, with the number that `derive` tells. specs/Sums.antt says of the plain book which.
+//! Pages are read, and nothing else changes: a session keeps what it was answered last.
 //!
 //! That a session is open, and the lines, are left to the layer above.
 #![tactic(auto)]

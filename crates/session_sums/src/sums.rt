@@ -14,40 +14,29 @@ ghost use Rattle.plain_chart.specs.declared.sample.Sample.{Sample};
 ghost use Rattle.retention.specs.Moving.{LooksOnly};
 ghost use Rattle.series_pair.specs.Derived.{MayShow};
 ghost use Rattle.series_store.specs.Shown as shown;
-ghost use Rattle.session_sums.specs.Sums.{AnswersSum, IsSumCause, ShowsRows, SumRows, error_reply, line_refusal, refused};
+ghost use Rattle.session_sums.specs.Sums.{AnswersSum, IsSumCause, ShowsRows, SumRows, error_reply, refused};
 
 use chart_frames::{Frame, RowsFrame};
 use chart_grid::Grid;
-use chart_service::{ServiceError, refused};
+use chart_service::ServiceError;
 use derive_command::{DeriveRefusal, Request, asked_of};
 use gate_pages::Pages;
 use m4_groups::Rows;
 use plain_chart::ValueRange;
-use series_book::Refusal;
 use series_pair::{SumError, rows_of_sum, shown_range};
 use series_store::Store;
 use std::alloc::Global;
-
-/// The refusal of a request line that says the same.
-fn line_refusal(refusal: DeriveRefusal) -> Refusal
-    ensures { result ≡ line_refusal refusal }
-{
-    match refusal {
-        DeriveRefusal::UnknownSeries => Refusal::UnknownSeries,
-        DeriveRefusal::NotOneGrid => Refusal::OffGrid,
-        DeriveRefusal::BadWindow => Refusal::BadWindow,
-        DeriveRefusal::BadCanvas => Refusal::BadCanvas,
-        DeriveRefusal::BadRange => Refusal::BadRange,
-        DeriveRefusal::TooLarge => Refusal::ValueTooLarge,
-    }
-}
 
 /// The frame of a refusal.
 fn refusal_frame(refusal: DeriveRefusal) -> Frame
     ensures frame { result ≡ refused refusal }
     ensures fits { Fits result }
 {
-    refused(line_refusal(refusal))
+    Frame::Refused {
+        number: refusal.number(),
+        a: 0,
+        b: 0,
+    }
 }
 
 /// What is answered where the rows weren't found.
