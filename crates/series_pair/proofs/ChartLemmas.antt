@@ -1,5 +1,5 @@
--- The chart of a sum: its samples, and what errors of its rows are for it.
-use Rattle.std.proofs.Common.{◌≡◌, ◌≢◌, ◌∙◌, ℕ, ℤ, ◌<◌, false, List, length, Option, None, Some, refl, sym, ap, subst}
+-- The chart of a sum: its samples, what it reads, and what errors of its rows are for it.
+use Rattle.std.proofs.Common.{◌≡◌, ◌≢◌, ◌∙◌, ℕ, ℤ, ◌<◌, false, true, List, length, Option, None, Some, refl, sym, ap, ap₂, subst}
 use Rattle.std.specs.Prelude.{Result, Err, IfNone, IfSome, MatchOption, slice_get}
 use Rattle.std.specs.Option.{unwrap_or}
 use Rattle.chart_grid.specs.declared.axis.Axis.{Axis}
@@ -8,6 +8,7 @@ use Rattle.chart_world.specs.FaultLaws.{counts_disk, counts_no_disk}
 use Rattle.chart_world.specs.Faults.{CountsFault}
 use Rattle.derived_chart.specs.Lists.{sums_of}
 use Rattle.derived_chart.specs.Points.{IsShift, AreSumSamples}
+use Rattle.derived_chart.specs.Reads.{ReadsInWindow, levels}
 use Rattle.derived_chart.specs.Rows.{IsAnswer, IsCause}
 use Rattle.derived_chart.specs.declared.derived_error.DerivedError.{DerivedError}
 use Rattle.derived_chart.specs.declared.derived_error.DerivedError.TheVariants as derived
@@ -25,11 +26,14 @@ use Rattle.series_book.specs.declared.one_series.Series.{Series}
 use Rattle.series_store.specs.Shown as shown
 use Rattle.series_store.specs.declared.store.Store.{Store}
 use Rattle.stored_book.specs.Standing.{StandsForBook}
-use Rattle.series_store.proofs.SelectedLemmas.{book_there}
-use Rattle.series_pair.specs.AskLaws.{causes_later, pair_agrees, still_are_pair}
-use Rattle.series_pair.specs.Asking.{ArePair, Causes, GoesPair, IsReady}
+use Rattle.series_store.proofs.AskLemmas.{kept_as, there}
+use Rattle.series_store.proofs.SelectedLemmas.{book_there, own}
+use Rattle.series_pair.specs.AskLaws.{causes_later, count_is, pair_agrees, still_are_pair}
+use Rattle.series_pair.specs.Asking.{ArePair, Causes, GoesPair, IsReady, count}
+use Rattle.series_pair.specs.Costs.{ReadsSum}
 use Rattle.series_pair.specs.Derived.{AreRowsAnswer, AreSamplesOf, AreShifted, AreUnlike, IsChartCause, IsSumError, axis_of, sum_fault}
 use Rattle.series_pair.specs.Drawing.{error_of}
+use Rattle.series_pair.specs.Pairs.{slots_at, slots_of}
 use Rattle.series_pair.specs.declared.store_pair.StorePair.{StorePair}
 use Rattle.series_pair.specs.declared.sum_error.SumError.{SumError}
 
@@ -158,3 +162,33 @@ module _ {P : Type 0} {g : Ghosts P} where
   error_answer (derived.Node (node.Missing key)) old new total book x y a b grid samples ready told stands cause are first = tt
   error_answer (derived.Node (node.BadCoefficient key)) old new total book x y a b grid samples ready told stands cause are first = tt
   error_answer derived.NoMemory old new total book x y a b grid samples ready told stands cause are first = tt
+
+  -- the catalog tells how many slots a series of the book has
+  catalog_slots : (at : Store P g) (total : ℕ) (book : List Series) (id : ℕ) (series : Series) → shown.IsSound at → shown.IsTold at → StandsForBook (shown.image at) total book → id < length (shown.catalog at) → slice_get book id ≡ Some series
+      → slots_at (shown.catalog at) id ≡ length series.slots
+  catalog_slots at total book id series sound told stands low is =
+      let one = there (shown.catalog at) id low in
+      let kept = kept_as (shown.image at) (shown.numbers at) book (shown.catalog at) id one.0 series (own at total book sound told stands) (at.told sound told) one.1 is in
+      ap slots_of one.1 ∙ kept.tree.slots
+
+  -- the rows read no more than by the slots in the window
+  pub rows_costs : (old mid : StorePair P g) (total : ℕ) (book : List Series) (grid : Grid) (axis : Axis) (new : ℕ) (one other : Series) → IsReady old → shown.IsTold old.store.now → StandsForBook (shown.image old.store.now) total book → GoesPair old mid
+      → (shown.view mid.store.now).reads ≡ (shown.view old.store.now).reads → axis ≡ axis_of one → slice_get book old.x ≡ Some one → slice_get book old.y ≡ Some other → ReadsInWindow axis grid (levels (count false mid) (count true mid)) (shown.view mid.store.now).reads new
+      → ReadsInWindow (axis_of one) grid (levels (length one.slots) (length other.slots)) (shown.view old.store.now).reads new
+  rows_costs old mid total book grid axis new one other ready told stands going still same first second reads =
+      let here = going.counts false ∙ count_is false old ready.1 ∙ catalog_slots old.store.now total book old.x one ready.0 told stands ready.1.first first in
+      let there = going.counts true ∙ count_is true old ready.1 ∙ catalog_slots old.store.now total book old.y other ready.0 told stands ready.1.second second in
+      let A : Axis → Type 0 = λ a. ReadsInWindow a grid (levels (length one.slots) (length other.slots)) (shown.view old.store.now).reads new in
+      let R : ℕ → Type 0 = λ n. ReadsInWindow axis grid (levels (length one.slots) (length other.slots)) n new in
+      let L : ℕ → Type 0 = λ n. ReadsInWindow axis grid n (shown.view mid.store.now).reads new in
+      subst A same (subst R still (subst L (ap₂ levels here there) reads))
+
+  pub reads_of : (store : Store P g) (pair : StorePair P g) (x y : ℕ) (grid : Grid) (new : ℕ) → pair.store.now.space ≡ store.space → pair.x ≡ x → pair.y ≡ y
+      → shown.ForBook pair.store.now (λ total book. ReadsSum book pair.x pair.y grid (shown.view pair.store.now).reads new) → shown.ForBook store (λ total book. ReadsSum book x y grid (shown.view store).reads new)
+  reads_of store pair x y grid new same first second reads = λ total book told stands.
+      let T : Space P g → Type 0 = λ s. spaces.IsTold s in
+      let B : Space P g → Type 0 = λ s. StandsForBook (spaces.image s) total book in
+      let R : Space P g → Type 0 = λ s. ReadsSum book x y grid (spaces.view s).reads new in
+      let X : ℕ → Type 0 = λ n. ReadsSum book n pair.y grid (shown.view pair.store.now).reads new in
+      let Y : ℕ → Type 0 = λ n. ReadsSum book x n grid (shown.view pair.store.now).reads new in
+      subst R same (subst Y second (subst X first (reads total book (subst T (sym same) told) (subst B (sym same) stands))))

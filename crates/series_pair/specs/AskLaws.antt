@@ -96,7 +96,7 @@ module _ {P : Type 0} {g : Ghosts P} where
       λ i. counted side (kept.side i) (slots i) (slots_at (series_in (catalog i)) (side_of side (kept.first i) (kept.second i)))
 
   -- of a pair the catalog tells it of each
-  count_is : (side : Bool) (at : StorePair P g) → IsPair at → count side at ≡ slots_at (shown.catalog at.store.now) (side_of side at.x at.y)
+  pub count_is : (side : Bool) (at : StorePair P g) → IsPair at → count side at ≡ slots_at (shown.catalog at.store.now) (side_of side at.x at.y)
   count_is side at pair =
       let store = at.store.now in
       let here = slots_there (shown.catalog store) (side_of at.is_second at.x at.y) (shown.selected store)

@@ -1,5 +1,6 @@
 pub mod Damage
 pub mod Derived
+pub mod Costs
 pub mod Pairs
 pub mod DamageLaws
 pub mod Asking

@@ -13,6 +13,7 @@ ghost use Rattle.retention.specs.Sweeping.{IsOfPages};
 ghost use Rattle.series_book.specs.declared.limits.TheConstants.{MOST_SLOTS};
 ghost use Rattle.series_store.specs.Shown as shown;
 ghost use Rattle.series_pair.specs.Asking.{GoesPair, IsReady, count, pair_view};
+ghost use Rattle.series_pair.specs.Costs.{ReadsSum};
 ghost use Rattle.series_pair.specs.Derived.{AreRowsAnswer, AreShifted, IsChartAnswer, IsChartCause, MayShow, ShowsRange, axis_of, sum_fault};
 ghost use Rattle.series_pair.specs.Drawing.{error_of, node_error};
 
@@ -41,6 +42,7 @@ fn first_axis<P: Pages>(pair: &mut StorePair<'_, P>) -> Axis
     ensures axis { shown.ForSeries pair.old.store.now pair.old.x (λ total book series. result ≡ axis_of series) }
     ensures goes { GoesPair pair.old pair.new }
     ensures quiet { (shown.view pair.new.store.now).faults ≡ (shown.view pair.old.store.now).faults }
+    ensures reads { (shown.view pair.new.store.now).reads ≡ (shown.view pair.old.store.now).reads }
 {
     sound_stores_are_fit(&*pair.store);
     let info = pair.store.info(pair.x);
@@ -92,6 +94,7 @@ fn rows_of_pair<P: Pages>(
     ensures cause { IfErr result (λ e. IsChartCause e (shown.IsTold pair.new.store.now) (shown.total pair.old.store.now) (shown.view pair.old.store.now) (shown.view pair.new.store.now)) }
     ensures same_reference { pair.new.store.ghost_name ≡ pair.old.store.ghost_name }
     ensures goes { GoesPair pair.old pair.new }
+    ensures reads { shown.ForBook pair.old.store.now (λ total book. ReadsSum book pair.old.x pair.old.y grid (shown.view pair.old.store.now).reads (shown.view pair.new.store.now).reads) }
     ensures faults { CountsFault (fault_in sum_fault result) (shown.view pair.old.store.now) (shown.view pair.new.store.now) }
 {
     kept_sums_are_the_samples();
@@ -126,6 +129,7 @@ pub fn rows_of_sum<P: Pages>(
     ensures ordered { IfOk result (All IsOrdered) }
     ensures cause { IfErr result (λ e. IsChartCause e (shown.IsTold store.new) (shown.total store.old) (shown.view store.old) (shown.view store.new)) }
     ensures looks { LooksOnly store.old store.new }
+    ensures reads { shown.ForBook store.old (λ total book. ReadsSum book x y grid (shown.view store.old).reads (shown.view store.new).reads) }
     ensures faults { CountsFault (fault_in sum_fault result) (shown.view store.old) (shown.view store.new) }
 {
     let mut pair = StorePair::new(store, x, y);
@@ -163,6 +167,7 @@ pub fn chart_of_sum<P: Pages>(
     ensures answer { shown.ForBook store.old (λ total book. AreShifted book x y sum.shift → IsChartAnswer book x y sum.a sum.b grid range result) }
     ensures cause { IfErr result (λ e. IsChartCause e (shown.IsTold store.new) (shown.total store.old) (shown.view store.old) (shown.view store.new)) }
     ensures looks { LooksOnly store.old store.new }
+    ensures reads { shown.ForBook store.old (λ total book. ReadsSum book x y grid (shown.view store.old).reads (shown.view store.new).reads) }
     ensures faults { CountsFault (fault_in sum_fault result) (shown.view store.old) (shown.view store.new) }
 {
     let rows = match rows_of_sum(alloc, store, x, y, sum, grid) {

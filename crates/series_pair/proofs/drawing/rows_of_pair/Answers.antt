@@ -7,7 +7,7 @@ use Rattle.series_store.specs.Shown as shown
 use Rattle.series_pair.specs.AskLaws.{pair_goes_on, still_are_pair}
 use Rattle.series_pair.specs.Derived.{IsSumError, sum_fault}
 use Rattle.series_pair.specs.declared.sum_error.SumError.{SumError}
-use Rattle.series_pair.proofs.ChartLemmas.{cause_later, error_answer, error_faults, pair_is, samples_are}
+use Rattle.series_pair.proofs.ChartLemmas.{cause_later, error_answer, error_faults, pair_is, rows_costs, samples_are}
 use Rattle.series_pair.proofs.drawing.rows_of_pair.Goals as goal
 
 pub returns-in-Err-clause-answer : goal.returns-in-Err-clause-answer
@@ -58,3 +58,13 @@ returns-in-Err-clause-same_reference g c = (pair_goes_on c.first_axis-axis.ensur
 
 pub returns-in-Ok-clause-same_reference : goal.returns-in-Ok-clause-same_reference
 returns-in-Ok-clause-same_reference g c = (pair_goes_on c.first_axis-axis.ensures.goes c.derived_rows.ensures.goes).reference
+
+pub returns-in-Err-clause-reads : goal.returns-in-Err-clause-reads
+returns-in-Err-clause-reads g c = λ total book told stands one other first second.
+    let axis = c.first_axis-axis.ensures in
+    rows_costs c.args.pair.now c.first_axis-axis.new.pair total book c.args.grid c.first_axis-axis.result _ one other c.requires.ready told stands axis.goes axis.reads (axis.axis total book one told stands first) first second c.in-Err.ensures.reads
+
+pub returns-in-Ok-clause-reads : goal.returns-in-Ok-clause-reads
+returns-in-Ok-clause-reads g c = λ total book told stands one other first second.
+    let axis = c.first_axis-axis.ensures in
+    rows_costs c.args.pair.now c.first_axis-axis.new.pair total book c.args.grid c.first_axis-axis.result _ one other c.requires.ready told stands axis.goes axis.reads (axis.axis total book one told stands first) first second c.in-Ok.ensures.reads
