@@ -1,4 +1,4 @@
-use Rattle.std.proofs.Common.{ℕ, suc, ◌≡◌, ◌-◌, ◌*◌, ◌<◌, ◌≤◌, ◌≤ℤ◌, inl, inr, ◌∙◌, ap, arith, le_refl}
+use Rattle.std.proofs.Common.{ℕ, suc, ◌≡◌, ◌-◌, ◌*◌, ◌<◌, ◌≤◌, ◌≤ℤ◌, inl, inr, ◌∙◌, ap, sym, subst, arith, le_refl}
 use Rattle.std.proofs.Math.Nat.{mul-le-mul_right}
 use Rattle.std.proofs.lemmas.Int.{ints, by_lt_z}
 use Rattle.std.proofs.lemmas.Bool.Decides.{nat_tests}
@@ -10,8 +10,9 @@ use Rattle.om3_coeff.specs.declared.key.Key.{Key}
 use Rattle.om3_coeff.specs.Keys.{first_slot, end_slot, height, IsKey}
 use Rattle.om3_coeff.proofs.KeyLemmas.{by_lt}
 use Rattle.view_keys.specs.Ranges.{IsInRange, IsWithin, IsCut}
+use Rattle.needed_nodes.specs.declared.window.Ranks.{Ranks}
 use Rattle.needed_nodes.specs.declared.window.Window.{Window}
-use Rattle.needed_nodes.specs.Ranks.{rank, first_rank, last_rank, IsCutKey, IsInside, IsOutside, IsBelow, IsTopmost}
+use Rattle.needed_nodes.specs.Ranks.{rank, first_rank, last_rank, AreRanksOf, IsCutKey, IsInside, IsOutside, IsBelow, IsTopmost}
 use Rattle.needed_nodes.proofs.Nesting.{some_slot, nests}
 
 -- the three cases of a rank
@@ -104,6 +105,9 @@ rank_to w k i less = rank_rises w i (end_slot k - 1) (omega arith)
 
 pub rank_order : (w : Window) (k : Key) → first_rank w k ≤ last_rank w k
 rank_order w k = rank_from w k (end_slot k - 1) (omega (arith, some_slot k))
+
+pub ranks_at : (w : Window) (k half : Key) (r : Ranks) → half ≡ k → AreRanksOf w k r → AreRanksOf w half r
+ranks_at w k half r is ranks = let P : Key → Type 0 = λ k. AreRanksOf w k r in subst P (sym is) ranks
 
 pub below_from : (w : Window) (k b : Key) → IsBelow k b → first_rank w k ≤ first_rank w b
 below_from w k b h = rank_from w k (first_slot b) h.from

@@ -5,6 +5,7 @@ use Rattle.chart_grid.specs.Slots.{slot_time}
 use Rattle.om3_coeff.specs.declared.key.Key.{Key}
 use Rattle.om3_coeff.specs.Keys.{first_slot, end_slot, height}
 use Rattle.needed_nodes.specs.declared.window.Window.{Window}
+use Rattle.needed_nodes.specs.declared.window.Ranks.{Ranks}
 use Rattle.needed_nodes.specs.declared.window.Place.{Place}
 use Rattle.needed_nodes.specs.declared.window.Place.TheVariants.{Outside, Within, Cut}
 
@@ -21,6 +22,10 @@ first_rank w k = rank w (first_slot k)
 
 abbrev pub last_rank : Window → Key → ℕ
 last_rank w k = rank w (end_slot k - 1)
+
+pub record AreRanksOf (w : Window) (k : Key) (r : Ranks) : Type 0 where
+  pub first : r.first ≡ first_rank w k
+  pub last : r.last ≡ last_rank w k
 
 -- a border of a column, or an end of the window, lies inside the key's range
 abbrev pub IsCutKey : Window → Key → Type 0

@@ -217,6 +217,7 @@ fn explore_window<N: Nodes>(
 {
     let root = nodes.root();
     let top = top_key(nodes.slots());
-    find_blocks(nodes, window, top, root, keys, table)?;
+    let ranks = window.ranks_of(top);
+    find_blocks(nodes, window, top, ranks, root, keys, table)?;
     rows_of_columns(alloc, nodes, window, table, keys)
 }

@@ -23,6 +23,14 @@ pub(crate) struct Window {
     ghost some: { from < end },
 }
 
+/// How many columns begin at or before the first and the last slot of a range, as `Window::rank`
+/// counts them.
+#[derive(Clone, Copy)]
+pub(crate) struct Ranks {
+    pub(crate) first: u16,
+    pub(crate) last: u16,
+}
+
 /// How a key's range lies to the columns of a window: it meets none, or it is within one, or a border
 /// of a column or an end of the window lies inside it.
 #[derive(Clone, Copy)]
@@ -36,9 +44,10 @@ impl Window {
     ghost use Rattle.std.specs.Prelude.{◌≡◌, ℕ, ◌<◌, ◌≤◌, ◌≤ℤ◌, ◌^◌, ◌↔◌, IfSome, IfNone, IsTrue};
     ghost use Rattle.chart_grid.specs.Projection.{InWindow};
     ghost use Rattle.chart_grid.specs.Slots.{IsInColumn, slot_time};
-    ghost use Rattle.om3_coeff.specs.Keys.{end_slot};
+    ghost use Rattle.om3_coeff.specs.declared.key.Key.{Key};
+    ghost use Rattle.om3_coeff.specs.Keys.{end_slot, left_of, right_of};
     ghost use Rattle.view_keys.specs.Flat.{IsFlat};
-    ghost use Rattle.needed_nodes.specs.Ranks.{rank, IsPlace};
+    ghost use Rattle.needed_nodes.specs.Ranks.{rank, AreRanksOf, IsPlace};
 
     /// The window of a view, or nothing where it shows no slot.
     pub(crate) fn of(axis: Axis, grid: Grid, lo: i64, hi: i64) -> Option<Window>
@@ -99,19 +108,48 @@ impl Window {
         is_flat(span, self.lo, self.hi, self.grid.h())
     }
 
-    /// The place of a key's range.
-    pub(crate) fn place_of(&self, key: Key) -> Place
+    /// The ranks of a key's range.
+    pub(crate) fn ranks_of(&self, key: Key) -> Ranks
         requires { end_slot key < 2 ^ 63 }
-        ensures { IsPlace self.now key result }
+        ensures { AreRanksOf self.now key result }
     {
-        let first = self.rank(key.first());
-        let last = self.rank(key.end() - 1);
-        if first != last {
+        Ranks {
+            first: self.rank(key.first()),
+            last: self.rank(key.end() - 1),
+        }
+    }
+
+    /// The ranks of the two halves of a key's range, whose own are known. A rank costs a division, and two
+    /// of the four are those of the whole.
+    pub(crate) fn ranks_of_halves(&self, key: Key, ranks: Ranks) -> (Ranks, Ranks)
+        requires low { 1 ≤ key.level }
+        requires fits { end_slot key < 2 ^ 63 }
+        requires ranks { AreRanksOf self.now key ranks }
+        ensures left { AreRanksOf self.now (left_of key) result.0 }
+        ensures right { AreRanksOf self.now (right_of key) result.1 }
+    {
+        let middle = key.right().first();
+        let left = Ranks {
+            first: ranks.first,
+            last: self.rank(middle - 1),
+        };
+        let right = Ranks {
+            first: self.rank(middle),
+            last: ranks.last,
+        };
+        (left, right)
+    }
+
+    /// The place of each range that has these ranks.
+    pub(crate) fn place_of(&self, ranks: Ranks) -> Place
+        ensures { (key : Key) → AreRanksOf self.now key ranks → IsPlace self.now key result }
+    {
+        if ranks.first != ranks.last {
             return Place::Cut;
         }
-        if first == 0 || first > self.grid.w() {
+        if ranks.first == 0 || ranks.first > self.grid.w() {
             return Place::Outside;
         }
-        Place::Within(first - 1)
+        Place::Within(ranks.first - 1)
     }
 }

@@ -7,6 +7,7 @@ use Rattle.needed_nodes.proofs.ServeLaws.{ready_as, ready_at, ready_on}
 use Rattle.needed_nodes.specs.declared.window.Window.{Window}
 use Rattle.needed_nodes.specs.declared.scan_of.ScanOf.TheVariants.{Node, NoMemory}
 use Rattle.needed_nodes.proofs.StepLaws.{cause_earlier, err_cause}
+use Rattle.needed_nodes.proofs.RankLaws.{ranks_at}
 use Rattle.needed_nodes.proofs.FindLaws.{cut_low, cut_wanted_as, top_left, top_right, finds_none, finds_outside, finds_inside, finds_halves, reads_asked, reads_first, reads_both}
 use Rattle.needed_nodes.proofs.finding.+find_blocks.Goals as goal
 
@@ -14,36 +15,39 @@ pub returns-in_default-clause-found : goal.returns-in_default-clause-found
 returns-in_default-clause-found g t c = finds_none _ c.args.window.now c.args.key c.args.span _ _ c.in_default.is c.requires.ready
 
 pub returns-in-Outside-clause-found : goal.returns-in-Outside-clause-found
-returns-in-Outside-clause-found g t c = finds_outside _ c.args.window.now c.args.key _ _ c.in-Outside.ensures
+returns-in-Outside-clause-found g t c = finds_outside _ c.args.window.now c.args.key _ _ (c.in-Outside.ensures c.args.key c.requires.ranked)
 
 pub returns-in-Within-clause-found : goal.returns-in-Within-clause-found
 returns-in-Within-clause-found g t c =
     finds_inside _ c.args.window.now c.in-Within.column c.args.key c.in-Some.span c.args.span _ c.args.table.now _ c.in-Some.is c.requires.ready c.requires.top
-    c.in-Within.ensures c.requires.sized c.enter.ensures
+    (c.in-Within.ensures c.args.key c.requires.ranked) c.requires.sized c.enter.ensures
 
-pub place_of-requires : goal.place_of-requires
-place_of-requires g t c = key_small c.args.window.now.axis.slots c.args.key c.requires.ready.key
+pub ranks_of_halves-requires-clause-low : goal.ranks_of_halves-requires-clause-low
+ranks_of_halves-requires-clause-low g t c = cut_low c.args.window.now c.args.key (c.in-Cut.ensures c.args.key c.requires.ranked)
+
+pub ranks_of_halves-requires-clause-fits : goal.ranks_of_halves-requires-clause-fits
+ranks_of_halves-requires-clause-fits g t c = key_small c.args.window.now.axis.slots c.args.key c.requires.ready.key
 
 pub enter-requires : goal.enter-requires
-enter-requires g t c = omega (arith, c.in-Within.ensures.shown, c.requires.sized)
+enter-requires g t c = let own = c.in-Within.ensures c.args.key c.requires.ranked in omega (arith, own.shown, c.requires.sized)
 
 pub ask-requires-clause-ready : goal.ask-requires-clause-ready
 ask-requires-clause-ready g t c = ready_as _ c.args.window.now c.args.key c.args.span _ c.in-Some.is c.requires.ready
 
 pub ask-requires-clause-low : goal.ask-requires-clause-low
-ask-requires-clause-low g t c = cut_low c.args.window.now c.args.key c.in-Cut.ensures
+ask-requires-clause-low g t c = cut_low c.args.window.now c.args.key (c.in-Cut.ensures c.args.key c.requires.ranked)
 
 pub ask-requires-clause-wanted : goal.ask-requires-clause-wanted
-ask-requires-clause-wanted g t c = cut_wanted_as _ c.args.window.now c.args.key c.in-Some.span c.args.span c.in-Some.is c.requires.ready c.in-Cut.ensures
+ask-requires-clause-wanted g t c = cut_wanted_as _ c.args.window.now c.args.key c.in-Some.span c.args.span c.in-Some.is c.requires.ready (c.in-Cut.ensures c.args.key c.requires.ranked)
 
 pub left-requires-clause-low : goal.left-requires-clause-low
-left-requires-clause-low g t c = cut_low c.args.window.now c.args.key c.in-Cut.ensures
+left-requires-clause-low g t c = cut_low c.args.window.now c.args.key (c.in-Cut.ensures c.args.key c.requires.ranked)
 
 pub left-requires-clause-fits : goal.left-requires-clause-fits
 left-requires-clause-fits g t c = key_small c.args.window.now.axis.slots c.args.key c.requires.ready.key
 
 pub right-requires-clause-low : goal.right-requires-clause-low
-right-requires-clause-low g t c = cut_low c.args.window.now c.args.key c.in-Cut.ensures
+right-requires-clause-low g t c = cut_low c.args.window.now c.args.key (c.in-Cut.ensures c.args.key c.requires.ranked)
 
 pub right-requires-clause-fits : goal.right-requires-clause-fits
 right-requires-clause-fits g t c = key_small c.args.window.now.axis.slots c.args.key c.requires.ready.key
@@ -51,7 +55,7 @@ right-requires-clause-fits g t c = key_small c.args.window.now.axis.slots c.args
 pub find_blocks-requires : goal.find_blocks-requires
 find_blocks-requires g t c κs within =
     let w : Window = c.args.window.now in
-    let low : 1 ≤ c.args.key.level = cut_low w c.args.key c.in-Cut.ensures in (
+    let low : 1 ≤ c.args.key.level = cut_low w c.args.key (c.in-Cut.ensures c.args.key c.requires.ranked) in (
       search rules,
       (
         search rules,
@@ -60,7 +64,7 @@ find_blocks-requires g t c κs within =
           (
             ask_at (g.N.Nodes.view c.ask.new.nodes) c.left.result (left_of c.args.key) c.left.ensures
                 (ask_left (g.N.Nodes.view c.ask.new.nodes) c.args.key low c.in_ok-node-in-Cut.ensures.asked),
-            (top_left w c.args.key c.left.result low c.left.ensures c.in-Cut.ensures, c.requires.sized),
+            (top_left w c.args.key c.left.result low c.left.ensures (c.in-Cut.ensures c.args.key c.requires.ranked), (c.requires.sized, ranks_at w (left_of c.args.key) c.left.result c.ranks_of_halves.result.0 c.left.ensures c.ranks_of_halves.ensures.left)),
           ),
         ),
       ),
@@ -69,7 +73,7 @@ find_blocks-requires g t c κs within =
 pub find_blocks-requires-in-Cut : goal.find_blocks-requires-in-Cut
 find_blocks-requires-in-Cut g t c κs within =
     let w : Window = c.args.window.now in
-    let low : 1 ≤ c.args.key.level = cut_low w c.args.key c.in-Cut.ensures in
+    let low : 1 ≤ c.args.key.level = cut_low w c.args.key (c.in-Cut.ensures c.args.key c.requires.ranked) in
     let same : StaysSame (g.N.Nodes.view c.ask.new.nodes) (g.N.Nodes.view c.find_blocks.new.nodes) =
     g.met.N.Nodes.keeps_same c.ask.new.nodes c.find_blocks.new.nodes c.in_ok-find_blocks-in-Cut.ensures.kept in (
       search rules,
@@ -80,7 +84,7 @@ find_blocks-requires-in-Cut g t c κs within =
           (
             right_follows_at (g.N.Nodes.view c.find_blocks.new.nodes) c.args.key c.left.result c.right.result (g.N.Nodes.view c.ask.new.nodes).asked low c.left.ensures c.right.ensures
                 c.in_ok-node-in-Cut.ensures.asked c.in_ok-find_blocks-in-Cut.ensures.found.below,
-            (top_right w c.args.key c.right.result low c.right.ensures c.in-Cut.ensures, search rules),
+            (top_right w c.args.key c.right.result low c.right.ensures (c.in-Cut.ensures c.args.key c.requires.ranked), (search rules, ranks_at w (right_of c.args.key) c.right.result c.ranks_of_halves.result.1 c.right.ensures c.ranks_of_halves.ensures.right)),
           ),
         ),
       ),
@@ -108,31 +112,31 @@ returns-in_err-find_blocks-in-Cut-2-clause-cause g t c =
 
 pub returns-in_err-node-in-Cut-clause-reads : goal.returns-in_err-node-in-Cut-clause-reads
 returns-in_err-node-in-Cut-clause-reads g t c =
-    reads_asked c.args.window.now c.args.key _ _ c.in-Cut.ensures (c.in_err-node-in-Cut.ensures.one_read c.requires.follows)
+    reads_asked c.args.window.now c.args.key _ _ (c.in-Cut.ensures c.args.key c.requires.ranked) (c.in_err-node-in-Cut.ensures.one_read c.requires.follows)
 
 pub returns-in_err-push-in-Cut-clause-reads : goal.returns-in_err-push-in-Cut-clause-reads
 returns-in_err-push-in-Cut-clause-reads g t c =
-    reads_asked c.args.window.now c.args.key _ _ c.in-Cut.ensures (c.in_ok-node-in-Cut.ensures.one_read c.requires.follows)
+    reads_asked c.args.window.now c.args.key _ _ (c.in-Cut.ensures c.args.key c.requires.ranked) (c.in_ok-node-in-Cut.ensures.one_read c.requires.follows)
 
 pub returns-in_err-find_blocks-in-Cut-clause-reads : goal.returns-in_err-find_blocks-in-Cut-clause-reads
 returns-in_err-find_blocks-in-Cut-clause-reads g t c =
-    reads_first c.args.window.now c.args.key c.left.result _ _ _ c.in-Cut.ensures c.left.ensures (c.in_ok-node-in-Cut.ensures.one_read c.requires.follows)
+    reads_first c.args.window.now c.args.key c.left.result _ _ _ (c.in-Cut.ensures c.args.key c.requires.ranked) c.left.ensures (c.in_ok-node-in-Cut.ensures.one_read c.requires.follows)
     c.in_err-find_blocks-in-Cut.ensures.reads
 
 pub returns-in_err-find_blocks-in-Cut-2-clause-reads : goal.returns-in_err-find_blocks-in-Cut-2-clause-reads
 returns-in_err-find_blocks-in-Cut-2-clause-reads g t c =
-    reads_both c.args.window.now c.args.key c.left.result c.right.result _ _ _ _ c.in-Cut.ensures c.left.ensures c.right.ensures
+    reads_both c.args.window.now c.args.key c.left.result c.right.result _ _ _ _ (c.in-Cut.ensures c.args.key c.requires.ranked) c.left.ensures c.right.ensures
     (c.in_ok-node-in-Cut.ensures.one_read c.requires.follows) c.in_ok-find_blocks-in-Cut.ensures.reads c.in_err-find_blocks-in-Cut-2.ensures.reads
 
 pub returns-in_ok-find_blocks-in-Cut-2-clause-reads : goal.returns-in_ok-find_blocks-in-Cut-2-clause-reads
 returns-in_ok-find_blocks-in-Cut-2-clause-reads g t c =
-    reads_both c.args.window.now c.args.key c.left.result c.right.result _ _ _ _ c.in-Cut.ensures c.left.ensures c.right.ensures
+    reads_both c.args.window.now c.args.key c.left.result c.right.result _ _ _ _ (c.in-Cut.ensures c.args.key c.requires.ranked) c.left.ensures c.right.ensures
     (c.in_ok-node-in-Cut.ensures.one_read c.requires.follows) c.in_ok-find_blocks-in-Cut.ensures.reads c.in_ok-find_blocks-in-Cut-2.ensures.reads
 
 pub returns-in_ok-find_blocks-in-Cut-2-clause-found : goal.returns-in_ok-find_blocks-in-Cut-2-clause-found
 returns-in_ok-find_blocks-in-Cut-2-clause-found g t c =
     finds_halves _ _ _ _ c.args.window.now c.args.key c.left.result c.right.result c.in-Some.span c.args.span c.in_ok-node-in-Cut.node.coef _ _ _ _ _ _ _
-    c.left.ensures c.right.ensures c.in-Cut.ensures c.in-Some.is c.requires.ready c.in_ok-node-in-Cut.ensures.told c.in_ok-node-in-Cut.ensures.splits
+    c.left.ensures c.right.ensures (c.in-Cut.ensures c.args.key c.requires.ranked) c.in-Some.is c.requires.ready c.in_ok-node-in-Cut.ensures.told c.in_ok-node-in-Cut.ensures.splits
     c.in_ok-push-in-Cut.ensures.items c.in_ok-node-in-Cut.ensures.asked
     (g.met.N.Nodes.keeps_same c.args.nodes.now c.ask.new.nodes c.in_ok-node-in-Cut.ensures.kept) c.in_ok-find_blocks-in-Cut.ensures.found
     (g.met.N.Nodes.keeps_same c.args.nodes.now c.find_blocks.new.nodes

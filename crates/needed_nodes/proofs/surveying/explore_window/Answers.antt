@@ -1,6 +1,7 @@
 use Rattle.std.proofs.Common.{◌∙◌}
 use Rattle.std.proofs.lemmas.Result.{IfOk-weaker, IfErr-weaker}
 use Rattle.om3_coeff.specs.View.{StaysSame}
+use Rattle.om3_coeff.proofs.WalkLemmas.{key_small}
 use Rattle.needed_nodes.proofs.ServeLaws.{serves_earlier, serves_list_earlier}
 use Rattle.needed_nodes.proofs.StepLaws.{cause_earlier, err_cause}
 use Rattle.needed_nodes.proofs.ExploreLaws.{top_ready, top_follows, top_topmost, found_blocks, found_ends, found_spans, reads_found, reads_all, explores_window}
@@ -8,6 +9,12 @@ use Rattle.needed_nodes.proofs.surveying.explore_window.Goals as goal
 
 pub top_key-top-requires : goal.top_key-top-requires
 top_key-top-requires g c = c.slots.ensures.few c.requires.fit
+
+pub ranks_of-ranks-requires : goal.ranks_of-ranks-requires
+ranks_of-ranks-requires g c =
+    let ready = top_ready (g.N.Nodes.view c.args.nodes.now) c.args.window.now c.top_key-top.result c.root-root.result c.slots.result c.requires.fit c.requires.slots c.slots.ensures.slots c.top_key-top.ensures
+    c.root-root.ensures.root (c.root-root.ensures.proper c.requires.fit) in
+    key_small c.args.window.now.axis.slots c.top_key-top.result ready.key
 
 pub find_blocks-requires-clause-ready : goal.find_blocks-requires-clause-ready
 find_blocks-requires-clause-ready g c =
