@@ -3,6 +3,7 @@ use Rattle.std.specs.Prelude.{◌≡◌, ℕ, ◌+◌, ◌*◌, Bool, true, fals
 use Rattle.series_book.specs.declared.refusals.Refusal.{Refusal}
 use Rattle.series_book.specs.declared.refusals.Refusal.TheVariants.{UnknownSession, NoView}
 use Rattle.series_book.specs.Refusals.{number_of, pair_of}
+use Rattle.chart_frames.specs.declared.refusals.TheConstants.{LIVE_TOO_LARGE}
 use Rattle.chart_frames.specs.declared.frame.Frame.{Frame}
 use Rattle.chart_frames.specs.declared.frame.Frame.TheVariants.{Done, Refused, Opened, Closed, View as ViewOf, Rows, Live, Report}
 use Rattle.zoom_session.specs.declared.session.Session.{Session}
@@ -19,7 +20,7 @@ refused refusal = Refused (number_of refusal) (pair_of refusal).0 (pair_of refus
 -- The refusal to follow a view that may need so many coefficients, which is more than its cache holds. It has a number
 -- of its own, as no request is refused by it.
 abbrev pub too_large : ℕ → ℕ → Frame
-too_large needed cache = Refused 22 needed cache
+too_large needed cache = Refused LIVE_TOO_LARGE needed cache
 
 -- the most coefficients that a view of so many columns may need: on each of 35 levels one for each border between
 -- columns, and two for each column

@@ -10,12 +10,10 @@ use crate::numbers::{take_out, with_number};
 use crate::passing::is_open;
 use crate::stepper::Stepper;
 use chart_frames::Frame;
+use chart_frames::refusals::LIVE_TOO_LARGE;
 use series_book::Refusal;
 use std::alloc::AllocError;
 use zoom_session::ViewSpec;
-
-/// The number of the refusal to follow a view that may need more coefficients than its cache holds.
-pub const TOO_LARGE: u8 = 22;
 
 impl<S: Stepper> Live<S> {
     ghost use Rattle.live_view.specs.Live as live;
@@ -90,7 +88,7 @@ fn too_large(needed: u64, cache: u64) -> Frame
     ensures fits { Fits result }
 {
     Frame::Refused {
-        number: TOO_LARGE,
+        number: LIVE_TOO_LARGE,
         a: needed,
         b: cache,
     }
