@@ -1,11 +1,11 @@
 -- How many blocks searches read, one after the other.
-use Rattle.std.proofs.Common.{◌≡◌, ℕ, ℤ, pos, negsuc, ◌+◌, ◌-◌, ◌*◌, ◌<◌, ◌≤◌, ◌+ℤ◌, ◌<ℤ◌, ◌≤ℤ◌, ◌⊎◌, inl, inr, max, min, arith, refl, sym, ◌∙◌, ap, subst}
+use Rattle.std.proofs.Common.{◌≡◌, ℕ, ℤ, pos, negsuc, ◌+◌, ◌-◌, ◌*◌, ◌<◌, ◌≤◌, ◌+ℤ◌, ◌<ℤ◌, inl, inr, max, min, arith, refl, sym, ap, subst}
 use Rattle.std.proofs.Math.Nat.{mul-le-mul_left, mul-le-mul_right}
 use Rattle.std.proofs.lemmas.Int.{ints, by_lt_z}
 use Rattle.std.specs.Int.{div_ceil}
 use Rattle.chart_grid.proofs.Slots.{AreSlotsBefore-rising, border-from, border-rising, border-to, some-before}
 use Rattle.chart_grid.specs.Numbers.{distance}
-use Rattle.chart_grid.specs.Slots.{AreSlotsBefore, border, slot_time}
+use Rattle.chart_grid.specs.Slots.{AreSlotsBefore, border}
 use Rattle.chart_grid.specs.declared.axis.Axis.{Axis}
 use Rattle.chart_grid.specs.declared.grid.Grid.{Grid}
 use Rattle.om3_coeff.specs.Keys.{end_slot, first_slot, height, left_of, right_of, top_key}

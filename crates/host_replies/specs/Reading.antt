@@ -15,7 +15,7 @@ use Rattle.series_store.specs.Shown as stored
 use Rattle.series_store.specs.declared.errors.StoreError.{StoreError}
 use Rattle.series_store.specs.declared.errors.StoreError.TheVariants as store
 use Rattle.series_store.specs.declared.store.Store.{Store}
-use Rattle.host_replies.specs.Replies.{AsksReport, IsReportCause, MayReport, ReadsReport, Tells}
+use Rattle.host_replies.specs.Replies.{AsksReport, IsReportCause, MayReport, ReadsReport, ReadsReportOver, Tells}
 
 -- what an error of a read is for a line; the others come from no read
 abbrev pub read_error : StoreError → ServiceError
@@ -40,5 +40,6 @@ module _ {P : Type 0} {g : Ghosts P} where
     pub may : IfOk result (MayReport asked)
     pub looks : LooksOnly old new
     pub reads : ReadsReport asked (stored.view old).reads (stored.view new).reads
+    pub reads_over : stored.ForBook old (λ total book. ReadsReportOver book asked (stored.view old).reads (stored.view new).reads)
     pub cause : IfErr result (λ e. IsReportCause asked e (stored.IsTold new) (stored.view old) (stored.view new))
     pub faults : CountsFault (fault_in step_fault result) (stored.view old) (stored.view new)

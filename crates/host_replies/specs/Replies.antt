@@ -18,6 +18,7 @@ use Rattle.series_book.specs.Edits.{id_of}
 use Rattle.series_book.specs.declared.one_series.Series.{Series}
 use Rattle.series_book.specs.declared.refusals.Refusal.TheVariants.{BadLine, BadWindow, UnknownSeries, UnknownSession}
 use Rattle.series_pair.specs.Damage.{IsBadForChart}
+use Rattle.session_sums.specs.Costs.{ReadsAnswer}
 use Rattle.session_sums.specs.Sums.{AnswersSum}
 use Rattle.store_commands.specs.Exported.{IsBadForExport}
 use Rattle.zoom_session.specs.Sessions.{is_open}
@@ -92,7 +93,7 @@ MayReport (Sweep rule) frame = ⊥
 MayReport (Bad at) frame = frame ≡ refused (BadLine at)
 MayReport Other frame = ⊥
 
--- how many blocks a line reads at most, where there is a bound
+-- how many blocks a line reads at most; a sum is bounded over a book alone
 abbrev pub ReadsReport : HostLine → ℕ → ℕ → Type 0
 ReadsReport ListLine old new = new ≡ old
 ReadsReport (Values name t0 t1) old new = new ≤ old + 36
@@ -100,6 +101,15 @@ ReadsReport (Sum session request) old new = ⊤
 ReadsReport (Sweep rule) old new = ⊥
 ReadsReport (Bad at) old new = new ≡ old
 ReadsReport Other old new = ⊥
+
+-- and over a book
+abbrev pub ReadsReportOver : List Series → HostLine → ℕ → ℕ → Type 0
+ReadsReportOver book ListLine old new = new ≡ old
+ReadsReportOver book (Values name t0 t1) old new = new ≤ old + 36
+ReadsReportOver book (Sum session request) old new = ReadsAnswer book request old new
+ReadsReportOver book (Sweep rule) old new = ⊥
+ReadsReportOver book (Bad at) old new = new ≡ old
+ReadsReportOver book Other old new = ⊥
 
 -- a page that a line calls damaged is so: in the tree of the series that it names, or on the way to a key of some tree
 abbrev pub IsBadForReport : HostLine → ℕ → Image → ℕ → Type 0

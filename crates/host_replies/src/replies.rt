@@ -8,7 +8,7 @@ ghost use Rattle.chart_service.specs.Shown as shown;
 ghost use Rattle.chart_service.specs.Stepping.{IsOutside};
 ghost use Rattle.chart_world.specs.Faults.{CountsFault, fault_in};
 ghost use Rattle.host_lines.specs.Grammar.{IsInRange};
-ghost use Rattle.host_replies.specs.Replies.{AsksReport, IsReportCause, MayReport, ReadsReport, Reported, has_session};
+ghost use Rattle.host_replies.specs.Replies.{AsksReport, IsReportCause, MayReport, ReadsReport, ReadsReportOver, Reported, has_session};
 
 use crate::report_work::ReportWork;
 use chart_frames::Frame;
@@ -51,6 +51,7 @@ pub fn answer_report<P: Pages>(
     ensures sessions { shown.sessions service.new ≡ shown.sessions service.old }
     ensures looks { LooksOnly service.old service.new }
     ensures reads { ReadsReport asked.now (shown.view service.old).reads (shown.view service.new).reads }
+    ensures reads_over { shown.ForBook service.old (λ total book. ReadsReportOver book asked.now (shown.view service.old).reads (shown.view service.new).reads) }
     ensures cause { IfErr result (λ e. IsReportCause asked.now e (shown.IsTold service.new) (shown.view service.old) (shown.view service.new)) }
     ensures faults { CountsFault (fault_in step_fault result) (shown.view service.old) (shown.view service.new) }
 {

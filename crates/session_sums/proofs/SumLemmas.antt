@@ -30,9 +30,11 @@ use Rattle.std.specs.Int.{w64}
 use Rattle.std.proofs.Common.{to_z, of_z}
 use Rattle.std.proofs.lemmas.Int.{to_z-of_z, fits_signed_from_abs}
 use Rattle.whole_number.specs.Range.{IsValue}
+use Rattle.series_pair.specs.Costs.{ReadsSum}
 use Rattle.series_pair.specs.Derived.{AreSamplesOf, AreSumRows, IsChartCause, IsSumError, MayShow, ShowsRange, sum_fault}
 use Rattle.series_pair.specs.declared.sum_error.SumError.{SumError}
 use Rattle.series_pair.specs.declared.sum_error.SumError.TheVariants as sum
+use Rattle.session_sums.specs.Costs.{ReadsAnswer}
 use Rattle.session_sums.specs.Sums.{AnswersSum, HasSumRows, IsSumCause, ShowsRows, error_reply, refused}
 
 -- ---- the fields
@@ -143,6 +145,10 @@ has_rows book r session asked rows frame is are shows =
       };
       fields = subst S is.range_is shows;
     }
+
+-- they read no more than by the slots in the window
+pub rows_read : (book : List Series) (r : Request) (asked : Asked) (old new : ℕ) → IsAsked book r asked → ReadsSum book asked.x asked.y asked.grid old new → ReadsAnswer book r old new
+rows_read book r asked old new is few = inr (record { series = asked_series book r asked is; grid = asked.grid; grid_is = is.grid_is; few = few })
 
 -- a range as it is passed
 passed : (v : ℤ) → IsValue v → to_z w64 (of_z w64 v) ≡ v

@@ -14,6 +14,7 @@ ghost use Rattle.plain_chart.specs.declared.sample.Sample.{Sample};
 ghost use Rattle.retention.specs.Moving.{LooksOnly};
 ghost use Rattle.series_pair.specs.Derived.{MayShow};
 ghost use Rattle.series_store.specs.Shown as shown;
+ghost use Rattle.session_sums.specs.Costs.{ReadsAnswer};
 ghost use Rattle.session_sums.specs.Sums.{AnswersSum, IsSumCause, ShowsRows, SumRows, error_reply, refused};
 
 use chart_frames::{Frame, RowsFrame};
@@ -93,6 +94,7 @@ pub fn sum_frame<P: Pages>(
     ensures outside { shown.ForBook store.old (λ total book. IfErr result IsOutside) }
     ensures cause { IfErr result (λ e. IsSumCause e (shown.IsTold store.new) (shown.total store.old) (shown.view store.old) (shown.view store.new)) }
     ensures looks { LooksOnly store.old store.new }
+    ensures reads { shown.ForBook store.old (λ total book. ReadsAnswer book request.now (shown.view store.old).reads (shown.view store.new).reads) }
     ensures faults { CountsFault (fault_in step_fault result) (shown.view store.old) (shown.view store.new) }
     // whatever the pages are, the frame may be sent, and rows are in the session
     ensures fits { IfOk result Fits }

@@ -1,5 +1,5 @@
 use Rattle.std.proofs.Common.{ℤ, arith, ◌∙◌, ap, Bool, List, Option, subst}
-use Rattle.om3_coeff.specs.Keys.{end_slot, first_slot, height}
+use Rattle.om3_coeff.specs.Keys.{end_slot, first_slot}
 use Rattle.om3_coeff.specs.View.{Agrees}
 use Rattle.om3_coeff.proofs.WalkLemmas.{at_top}
 use Rattle.derived_chart.specs.Slots.{AreRead, AreReadBelow}

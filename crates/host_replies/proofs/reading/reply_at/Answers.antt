@@ -24,6 +24,7 @@ returns-in-Values g c =
       may = said.may;
       looks = said.looks;
       reads = said.reads;
+      reads_over = λ total book told stands. said.reads;
       cause = said.cause;
       faults = said.faults;
     })
@@ -41,6 +42,7 @@ returns-in-Sum g c =
       may = said.may;
       looks = said.looks;
       reads = tt;
+      reads_over = said.reads;
       cause = sum_why (stored.IsTold at) (stored.IsTold later) (stored.view at) (stored.view later) (stored.under at) (stored.under later) (stored.numbers at) (stored.numbers later) (stored.kept_catalog at) (stored.kept_catalog later) said.looks
           c.in-Sum.session c.in-Sum.request c.sum_frame.result at.space.rules.total_high said.cause;
       faults = said.faults;

@@ -1,4 +1,4 @@
-use Rattle.std.proofs.Common.{Result, IfOk, IfErr, sym, subst}
+use Rattle.std.proofs.Common.{Result, IfOk, IfErr, inl, refl, sym, subst}
 use Rattle.chart_frames.specs.declared.frame.Frame.{Frame}
 use Rattle.chart_service.specs.Faulting.{step_fault}
 use Rattle.chart_service.specs.Stepping.{IsOutside}
@@ -7,7 +7,7 @@ use Rattle.chart_world.specs.Faults.{CountsFault, fault_in}
 use Rattle.plain_chart.specs.Samples.{kept}
 use Rattle.series_store.specs.Shown as shown
 use Rattle.session_sums.specs.Sums.{AnswersSum, IsSumCause}
-use Rattle.session_sums.proofs.SumLemmas.{error_answers, error_cause, error_faults, error_outside, has_rows, refuses}
+use Rattle.session_sums.proofs.SumLemmas.{error_answers, error_cause, error_faults, error_outside, has_rows, refuses, rows_read}
 use Rattle.session_sums.proofs.sums.sum_frame.Goals as goal
 
 pub returns-in-Err-clause-reply : goal.returns-in-Err-clause-reply
@@ -48,3 +48,14 @@ returns-in-Err-rows_of_sum-clause-faults g c =
     let new = c.rows_of_sum.new.store in
     let R : Result Frame ServiceError → Type 0 = λ r. CountsFault (fault_in step_fault r) (shown.view old) (shown.view new) in
     subst R (sym c.error_reply.ensures.reply) (error_faults c.in-Err-rows_of_sum.error (shown.view old) (shown.view new) c.in-Err-rows_of_sum.ensures.faults)
+
+pub returns-in-Err-clause-reads : goal.returns-in-Err-clause-reads
+returns-in-Err-clause-reads g c = λ total book told stands. inl refl
+
+pub returns-in-Ok-rows_of_sum-clause-reads : goal.returns-in-Ok-rows_of_sum-clause-reads
+returns-in-Ok-rows_of_sum-clause-reads g c = λ total book told stands.
+    rows_read book c.args.request.now c.in-Ok.asked _ _ (c.in-Ok.ensures.asked total book c.requires.sound told stands) (c.in-Ok-rows_of_sum.ensures.reads total book told stands)
+
+pub returns-in-Err-rows_of_sum-clause-reads : goal.returns-in-Err-rows_of_sum-clause-reads
+returns-in-Err-rows_of_sum-clause-reads g c = λ total book told stands.
+    rows_read book c.args.request.now c.in-Ok.asked _ _ (c.in-Ok.ensures.asked total book c.requires.sound told stands) (c.in-Err-rows_of_sum.ensures.reads total book told stands)
