@@ -24,5 +24,5 @@ def words_of_status(status, place, command):
 
 
 def cause_of_refusal(number):
-    """What the refusal of a number means."""
-    return next((entry["means"] for entry in entries() if entry.get("refusal") == str(number)), f"refusal {number}")
+    """What the refusal of a number means, without what is said of its place among others."""
+    return next((entry["means"].partition("; ")[0] for entry in entries() if entry.get("refusal") == str(number)), f"refusal {number}")
