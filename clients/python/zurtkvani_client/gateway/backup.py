@@ -13,6 +13,7 @@ import urllib.request
 
 from aiohttp import web
 
+from ..words import fault
 from . import bring_up, child, configuration
 from .log import tell
 from .replacing import sync_folder
@@ -133,7 +134,7 @@ def main(path, token):
         print(f"zurtkvani: {why.read().decode(errors='replace').strip()}", file=sys.stderr)
         return 1
     except (OSError, ValueError) as why:
-        print(f"zurtkvani: the gateway at {host}, port {given.port}, doesn't answer: {getattr(why, 'reason', why)}", file=sys.stderr)
+        print(f"zurtkvani: the gateway at {host}, port {given.port}, doesn't answer: {fault(getattr(why, 'reason', why))}", file=sys.stderr)
         return 1
     for store in told["stores"]:
         print(f"{store['store']}: {store['bytes']:,} bytes, held for {store['seconds_held']:.3f} s")

@@ -18,7 +18,8 @@ def points(body, outcome):
         try:
             found = list(of_list(one))
         except (KeyError, TypeError, ValueError, AttributeError, InvalidOperation, OverflowError) as why:
-            outcome.fail(f"value list {at} isn't one of collectd's: {why!r}")
+            reason = {KeyError: f"it has no {why}", InvalidOperation: "a number of it is none"}.get(type(why), why)
+            outcome.fail(f"value list {at} isn't one of collectd's: {reason}")
             yield None
             continue
         for key, plugin, time, value in found:

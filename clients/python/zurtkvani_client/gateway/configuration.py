@@ -45,7 +45,9 @@ def duration(least, most):
     """A length of time in nanoseconds, from so many to so many seconds."""
 
     def rule(value):
-        nanoseconds = nanoseconds_in(text(value))
+        if not isinstance(value, str):
+            raise Unfit('is a text, as "10s"')
+        nanoseconds = nanoseconds_in(value)
         if not least * 10**9 <= nanoseconds <= most * 10**9:
             raise Unfit(f"is from {least:g} to {most:,} seconds")
         return nanoseconds
@@ -69,8 +71,10 @@ def listed(rule):
 
 def a_size(least, most):
     def rule(value):
+        if not isinstance(value, str):
+            raise Unfit('is a text, as "64M"')
         try:
-            count = size(text(value))
+            count = size(value)
         except argparse.ArgumentTypeError as why:
             raise Unfit(str(why)) from None
         if not least <= count <= most:

@@ -3,12 +3,14 @@ import asyncio
 import contextlib
 import json
 import logging
+import shutil
 import signal
 import sys
 import time
 
 from aiohttp import web
 
+from ..words import fault
 from . import alarms, backup, charts_http, configuration, metrics, names, page_http, prometheus_http, writes_http
 from .gateway import Gateway
 from .guard import EITHER, OPEN, READ, WRITE
@@ -189,6 +191,8 @@ async def serve(given):
         doors.watch(runner.server)
         site = web.TCPSite(runner, str(given.listen.address), given.listen.port, shutdown_timeout=STOP_SECONDS)
         await site.start()
+        if not page_http.folder_of(given.page):
+            tell("the page isn't there", "warning", folder=given.page.folder or "beside the package")
         tell("the gateway listens", address=str(given.listen.address), port=given.listen.port, series=len(gateway.stores.by_key))
         await ended.wait()
         tell("the gateway ends")
@@ -204,9 +208,11 @@ def main(path):
     logging.getLogger().addHandler(LogLines())
     try:
         given = configuration.read(path)
+        if not shutil.which(given.stores.program):
+            raise OSError(f"there is no program {given.stores.program} that may be run: see program of [stores]")
         asyncio.run(serve(given))
     except (configuration.Wrong, names.Damaged, OSError, ValueError) as why:
-        print(f"zurtkvani: {why}", file=sys.stderr)
+        print(f"zurtkvani: {fault(why)}", file=sys.stderr)
         return 2 if isinstance(why, configuration.Wrong) else 1
     except KeyboardInterrupt:
         return 130
