@@ -218,6 +218,28 @@ class Imports(unittest.TestCase):
         self.assertEqual(stored, [(at, at % 97) for at in range(len(stored))])
         self.assertGreater(len(stored), read - 64 * 256)
 
+    def test_a_file_of_gzip_that_was_damaged(self):
+        whole = gzip.compress(LOGGER.encode())
+        status, told = self.taken(whole[:30] + bytes(8) + whole[38:])
+        self.assertEqual((status, told.startswith("zurtkvani: ")), (2, True), told)
+
+    def test_wrong_words_are_told(self):
+        for words in (("--step", "0"), ("--encoding", "base64")):
+            status, told = self.taken(LOGGER, *words)
+            self.assertEqual((status, f"argument {words[0]}: " in told), (2, True), told)
+
+    def test_files_that_cant_be_used_are_named(self):
+        self.assertIn("a.csv has no rows", self.taken("")[1])
+        self.path = os.path.join(self.folder, "none", "a.store")
+        self.assertEqual(self.taken(LOGGER), (2, f"zurtkvani: {self.folder}/none: No such file or directory\n"))
+
+    def test_what_was_done_is_told_to_nobody(self):
+        words = [sys.executable, "-m", "zurtkvani_client", "import", self.file(LOGGER), "--store", self.path, "--program", PROGRAM]
+        with open("/dev/full", "wb") as full:
+            done = subprocess.run(words, cwd=os.path.join(ROOT, "clients/python"), stdout=full, stderr=subprocess.PIPE, check=False)
+        self.assertEqual((done.returncode, done.stderr.count(b"\n")), (1, 1), done.stderr)
+        self.assertEqual(len(self.stored("temp_C")), 3)
+
     def test_standard_input(self):
         words = [sys.executable, "-m", "zurtkvani_client", "import", "-", "--store", self.path, "--program", PROGRAM]
         done = subprocess.run(words, input=LOGGER.encode(), cwd=os.path.join(ROOT, "clients/python"), stdout=subprocess.PIPE, check=True)

@@ -104,6 +104,8 @@ class OverAStore(unittest.TestCase):
                     request()
                 told = met.exception
                 self.assertEqual((told.number, told.name, told.a, told.b), (number, name, a, b))
+            with self.assertRaisesRegex(Refused, "at byte 9 of 'create a b 0 1 0'"):
+                store.create("a b", 0, 1)
             store.append("a", [4, 7, 2])
             with self.assertRaises(Refused) as met:
                 session.view("a", 4, 4, 0, 40)
@@ -118,12 +120,18 @@ class OverAStore(unittest.TestCase):
     def test_values_are_numbers(self):
         with self.store() as store:
             store.create("a", 0, 1)
-            for values in (["1 2"], ["-"], [1, 1.5]):
+            for values in (["1 2"], ["-"], [1, 1.5], "12", b"12", {1: 2}, {1, 2}, 7, None):
                 with self.assertRaises(TypeError):
                     store.append("a", values)
                 with self.assertRaises(TypeError):
                     store.set("a", 0, values)
             store.append("a", Numbers([1, None, 3]))
+            store.append("a", [])
+            store.set("a", 0, [])
+            with self.assertRaises(Refused):
+                store.append("b", [])
+            with self.assertRaises(ValueError):
+                store.draw("a", range=(1,))
             picture = store.session().view("a", 3, 3, 0, 3)
         self.assertEqual((picture.lo, picture.hi), (1, 3))
 

@@ -31,6 +31,14 @@ class Words(unittest.TestCase):
         self.assertEqual(words.refusal(21, 9, 7), "refusal 21, Full: the edited book would need more pages than there are: 9 of 7")
         self.assertEqual(words.refusal(2, 5), "refusal 2, BadLine: the line isn't a request: at byte 5")
 
+    def test_words_of_faults(self):
+        with self.assertRaises(OSError) as met:
+            os.stat("/nonexistent/file")
+        self.assertEqual(words.fault(met.exception), "/nonexistent/file: No such file or directory")
+        self.assertEqual(words.fault(ValueError("why")), "why")
+        with tempfile.TemporaryDirectory() as folder, self.assertRaisesRegex(FileNotFoundError, "chart program can't be run"):
+            Store.make(os.path.join(folder, "a.store"), program="/nonexistent/chart")
+
     def test_words_of_statuses(self):
         self.assertIn("isn't a store, or it was cut", words.end(7, 66))
         self.assertIn("isn't what a store has there", words.end(7, 67))

@@ -11,6 +11,7 @@ import argparse
 import csv
 import os
 import sys
+import zlib
 import zoneinfo
 
 from .durations import duration_text, nanoseconds_in
@@ -20,6 +21,7 @@ from .run import Ended, Refused
 from .sources import Unreadable
 from .timestamps import UNITS, date_text
 from .unfit import Unfit
+from .words import fault
 
 SIZES = {"": 1, "k": 2**10, "m": 2**20, "g": 2**30, "t": 2**40}
 
@@ -29,6 +31,21 @@ def length(text):
         return nanoseconds_in(text)
     except Unfit as why:
         raise argparse.ArgumentTypeError(str(why)) from None
+
+
+def step(text):
+    found = length(text)
+    if not found:
+        raise argparse.ArgumentTypeError("a step is longer than 0")
+    return found
+
+
+def encoding(text):
+    try:
+        "".encode(text)
+        return text
+    except LookupError:
+        raise argparse.ArgumentTypeError(f"there is no encoding {text!r}, as utf-8 or latin-1") from None
 
 
 def size(text):
@@ -61,8 +78,31 @@ def default_program():
     return os.path.normpath(beside) if os.path.isfile(beside) else "chart"
 
 
+def version():
+    """The version of the repository or the installation that this package lies in, else that of the package."""
+    try:
+        with open(os.path.join(os.path.dirname(os.path.realpath(__file__)), "../../../VERSION"), encoding="utf-8") as file:
+            return file.read().strip()
+    except OSError:
+        from importlib import metadata
+
+        return metadata.version("zurtkvani-client")
+
+
+class Version(argparse.Action):
+    """Tells the version, and ends."""
+
+    def __init__(self, option_strings, dest, **_):
+        super().__init__(option_strings, dest, nargs=0, help="tell the version")
+
+    def __call__(self, parser, *_):
+        print(f"zurtkvani {version()}")
+        parser.exit()
+
+
 def words():
     parser = argparse.ArgumentParser(prog="zurtkvani", description=__doc__, formatter_class=argparse.RawDescriptionHelpFormatter)
+    parser.add_argument("--version", action=Version)
     commands = parser.add_subparsers(dest="command", required=True, metavar="COMMAND")
     add = commands.add_parser("import", help="take files of readings into a store").add_argument
     add("files", nargs="+", metavar="FILE", help="a file of readings; - is standard input")
@@ -76,9 +116,9 @@ def words():
     add("--numbers", choices=UNITS, help="what times that are numbers count since 1970; else told by their size")
     add("--delimiter", type=delimiter, help="what stands between two fields; else looked for")
     add("--decimal-comma", action="store_true", help="values have a comma for the point; else looked for")
-    add("--encoding", help="of the text; else UTF-8, or UTF-16 by its first bytes")
+    add("--encoding", type=encoding, help="of the text; else UTF-8, or UTF-16 by its first bytes")
     add("--start", help="the start of new series, a time as in the file; else found")
-    add("--step", type=length, help="the step of new series, as 60s or 250ms; else found")
+    add("--step", type=step, help="the step of new series, as 60s or 250ms; else found")
     add("--scale", type=int, choices=range(10), help="the number of decimals of new series; else found")
     add("--unit", choices=list(UNITS)[:3], help="what the series' times count since 1970; else seconds where these are enough")
     snaps = ("nearest", "floor", "none")
@@ -113,8 +153,8 @@ def run(given):
     done = Import(given, Progress())
     try:
         done.run()
-    except (Unfit, Unreadable, OSError, EOFError, ValueError, csv.Error) as why:
-        return stopped(done, str(why), 1 if done.report.rows else 2)
+    except (Unfit, Unreadable, OSError, EOFError, ValueError, csv.Error, zlib.error) as why:
+        return stopped(done, fault(why), 1 if done.report.rows else 2)
     except Refused as why:
         return stopped(done, f"{why}: take a larger store, as by --size 1G" if why.name == "Full" else str(why), 1)
     except Ended as why:
@@ -153,4 +193,13 @@ def main(arguments=None):
         return serve(given)
     if given.exact:
         given.snap = "none"
-    return run(given)
+    try:
+        status = run(given)
+        sys.stdout.flush()
+    except OSError as why:
+        # Of what the import told, since its own errors were told by `run`. Nothing more is sent there then.
+        os.dup2(os.open(os.devnull, os.O_WRONLY), 1)
+        if not isinstance(why, BrokenPipeError):
+            print(f"zurtkvani: what was done can't be told: {fault(why)}. What was stored stays", file=sys.stderr)
+        return 1
+    return status

@@ -2,7 +2,7 @@
 import subprocess
 import tempfile
 
-from .run import Listener
+from .run import Listener, start
 
 
 class Output:
@@ -15,7 +15,12 @@ class Output:
             source.seek(0)
             # Behind two hyphens a time below 0 is no option.
             run = [program, path, "--", *words]
-            with subprocess.Popen(run, stdin=source, stdout=self.sent, stderr=subprocess.PIPE) as child:
+            try:
+                child = start(run, stdin=source, stdout=self.sent, stderr=subprocess.PIPE)
+            except OSError:
+                self.sent.close()
+                raise
+            with child:
                 self.end = Listener(child, words[0], path).end()
         self.sent.seek(0)
 

@@ -38,7 +38,7 @@ class Plan:
         source = sources[0]
         first = next((row for row in source.rows if any(map(str.strip, row[0]))), None)
         if first is None:
-            raise Unfit("it has no rows")
+            raise Unfit(f"{source.name} has no rows")
         self.line_of_first = first[1]
         self.names = columns.header_of(first[0], source.has_names or self.is_named())
         sample = list(islice(source.rows, SAMPLE))
@@ -49,7 +49,7 @@ class Plan:
             self.skip_header(other)
         rows = [fields for fields, _ in sample if any(map(str.strip, fields))]
         if not rows:
-            raise Unfit("it has no rows behind the names of the columns")
+            raise Unfit(f"{source.name} has no rows behind the names of the columns")
         self.find_columns(rows)
         times = self.sampled_times(rows)
         self.make_series(rows, times, self.rows_in(sources, source, len(sample)))

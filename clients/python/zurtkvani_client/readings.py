@@ -13,12 +13,14 @@ import argparse
 import csv
 import os
 import sys
+import zlib
 
 from .decimals import MISSING, MOST, decimal_text, whole_number
 from .progress import Progress
 from .sources import Source, Unreadable
 from .timestamps import UNITS, TimeReader
 from .unfit import Unfit
+from .words import fault
 
 PARTS = ("seconds", "milliseconds")
 LAST_SLOT = 2**35 - 1
@@ -140,7 +142,7 @@ def main(arguments=None):
         # A byte order mark is dropped.
         source = Source(given.file, given.delimiter, "utf-8-sig")
     except (Unfit, OSError) as why:
-        words.error(str(why))
+        words.error(fault(why))
     try:
         counts = convert(source, given.columns, grid, None if given.dry_run else sys.stdout, progress)
         sys.stdout.flush()
@@ -148,8 +150,8 @@ def main(arguments=None):
         # Whoever took the lines has gone. Python would write what is left when it ends, and fail once more.
         os.dup2(os.open(os.devnull, os.O_WRONLY), sys.stdout.fileno())
         return 1
-    except (OSError, EOFError, Unreadable, csv.Error) as why:
-        words.error(str(why))
+    except (OSError, EOFError, Unreadable, csv.Error, zlib.error) as why:
+        words.error(fault(why))
     finally:
         progress.end()
         source.close()

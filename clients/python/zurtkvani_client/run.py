@@ -9,15 +9,18 @@ from itertools import islice
 from . import client, frames, words
 
 IN_FLIGHT = 64  # edits that are sent before the first of them has to be answered
+SHOWN = 80  # bytes of a line that is told
 
 
 class Refused(Exception):
     """A request was refused, and changed nothing. docs/LIMITS.md has the numbers, and what `a` and `b` tell."""
 
-    def __init__(self, number, a, b):
+    def __init__(self, number, a, b, line=None):
         self.number, self.a, self.b = number, a, b
         self.name = words.NAMES[number - 1]
-        super().__init__(words.refusal(number, a, b))
+        # Where the line is no request, it says what the number of a byte doesn't.
+        shown = f" of {line[:SHOWN].decode(errors='replace')!r}" if line and self.name == "BadLine" else ""
+        super().__init__(words.refusal(number, a, b) + shown)
 
 
 class Ended(Exception):
@@ -59,6 +62,15 @@ class Listener:
         return self.said or Ended(status, None)
 
 
+def start(run, **how):
+    """Starts a program, the chart program or its wrapper."""
+    try:
+        return subprocess.Popen(run, **how)
+    except (FileNotFoundError, PermissionError) as why:
+        reason = f"the chart program can't be run, {why.strerror}: name it, as ./chart of the repository"
+        raise type(why)(why.errno, reason, run[0]) from None
+
+
 class Run:
     """A `PROGRAM PATH serve`. `end` is how it ended, None while it works; `sent` counts the bytes that it was sent."""
 
@@ -66,7 +78,7 @@ class Run:
         self.sent, self.end = 0, None
         pipes = {"stdin": subprocess.PIPE, "stdout": subprocess.PIPE, "stderr": subprocess.PIPE}
         # A session of its own, so that Control-C reaches Python alone.
-        self.child = subprocess.Popen([program, path, "serve"], start_new_session=True, **pipes)
+        self.child = start([program, path, "serve"], start_new_session=True, **pipes)
         self.listener = Listener(self.child, "serve", path)
         self.client = client.over(self.child.stdout)
 
@@ -76,7 +88,7 @@ class Run:
             self._send(line + b"\n")
             frame, picture = self._accept()
         if isinstance(frame, frames.Refused):
-            raise Refused(*frame)
+            raise Refused(*frame, line)
         return frame, picture
 
     def answer_rows(self, line, session):
@@ -93,17 +105,17 @@ class Run:
 
         Raises Refused for the first that is refused. None is sent then any more; those that were sent behind it, 63 at most, may be done.
         """
-        lines, waiting, last, refused = iter(lines), 0, None, None
+        lines, waiting, last, refused = iter(lines), [], None, None
         with self._watched():
             while True:
                 part = [] if refused else list(islice(lines, IN_FLIGHT // 2))
                 if part:
                     self._send(b"\n".join(part) + b"\n")
                 # The program works on this part while the answers to the one before are read and the next one is made.
-                for _ in range(waiting):
+                for line in waiting:
                     last, _ = self._accept()
-                    refused = refused or (last if isinstance(last, frames.Refused) else None)
-                waiting = len(part)
+                    refused = refused or ((*last, line) if isinstance(last, frames.Refused) else None)
+                waiting = part
                 if not part:
                     break
         if refused:

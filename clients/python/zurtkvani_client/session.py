@@ -58,6 +58,8 @@ class Session:
 
 def range_text(bounds, scale):
     """A range as a request spells it: "auto", or the ends of a pair."""
+    if not isinstance(bounds, str) and len(bounds) != 2:
+        raise ValueError("a range is \"auto\", or a pair of its ends")
     return bounds if isinstance(bounds, str) else "{}..{}".format(*bounds_of(bounds, scale))
 
 

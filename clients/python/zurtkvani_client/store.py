@@ -172,6 +172,8 @@ class Store:
         """
         record = self.record(name)
         numbers = whole_numbers(values, record.scale if record else 0)
+        if record and not numbers:
+            return
         if record is None or len(numbers) <= MOST_VALUES:
             self.edit("append", name, *("-" if number is None else number for number in numbers))
             return
@@ -186,6 +188,8 @@ class Store:
         record = self.record(name)
         numbers = whole_numbers(values, record.scale if record else 0)
         time = whole_time(time, self.unit_of(record))
+        if record and not numbers:
+            return
         if record is None or len(numbers) <= MOST_VALUES and None not in numbers:
             self.edit("set", name, time, *numbers)
         else:

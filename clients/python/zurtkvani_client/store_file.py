@@ -1,4 +1,5 @@
 """The file of a store: how large it has to be, and how one is made at once or not at all."""
+import operator
 import os
 import tempfile
 
@@ -20,17 +21,28 @@ def size_for(pages_per_row, rows, columns):
     return BLOCK * min(max(OWN_BLOCKS + pages, 1024), MOST_BLOCKS)
 
 
+def folder_beside(path):
+    """A new folder beside a file, for as long as a `with`."""
+    place = os.path.dirname(os.path.abspath(path))
+    try:
+        return tempfile.TemporaryDirectory(dir=place, prefix=".new-store-")
+    except OSError as why:
+        raise type(why)(why.errno, why.strerror, place) from None
+
+
 def make_store(path, size, program, series=()):
     """Makes a new file, of so many bytes, a store with some series, each a name, a start, a step and a scale. The file is there
     once all of it is.
 
     Raises FileExistsError where the file is there, ValueError where the size isn't one of a store, and Ended where the program can't do it.
     """
-    if not LEAST_BLOCKS * BLOCK <= size <= MOST_BLOCKS * BLOCK:
+    if not LEAST_BLOCKS * BLOCK <= operator.index(size) <= MOST_BLOCKS * BLOCK:
         raise ValueError(f"a store has {LEAST_BLOCKS * BLOCK:,} to {MOST_BLOCKS * BLOCK:,} bytes")
-    if os.path.exists(path):
+    if not path:
+        raise ValueError("the store has no name")
+    if os.path.lexists(path):
         raise FileExistsError(f"{path} is there")
-    with tempfile.TemporaryDirectory(dir=os.path.dirname(os.path.abspath(path)), prefix=".new-store-") as folder:
+    with folder_beside(path) as folder:
         made = os.path.join(folder, "store")
         with open(made, "wb") as file:
             file.truncate(size)

@@ -1,6 +1,7 @@
 """Values of Python, numpy and pandas to the whole numbers of a series: lists in which None stands for a missing one."""
 import math
 import operator
+from collections.abc import Iterable, Mapping, Set
 from decimal import Decimal
 
 from .decimals import EXACT, MOST
@@ -16,6 +17,8 @@ def whole_numbers(values, scale):
     kind = getattr(getattr(values, "dtype", None), "kind", "O")
     if kind == "f":
         return of_floats(values, scale)
+    if isinstance(values, (str, bytes, bytearray, Mapping, Set)) or not isinstance(values, Iterable):
+        raise TypeError(f"values are a list, an array or a Series, and no {type(values).__name__}")
     listed = values.tolist() if hasattr(values, "tolist") else list(values)
     return of_list([None if is_missing(value) else value for value in listed], scale)
 

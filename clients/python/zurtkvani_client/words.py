@@ -3,6 +3,7 @@ import os
 import re
 import stat
 
+LEAST_ROOM = 2 * 66 * 4096  # bytes: the journal, and as much again at home
 HERE = os.path.dirname(os.path.realpath(__file__))
 # In the package, or where the repository keeps it.
 PLACES = (os.path.join(HERE, "statuses.txt"), os.path.join(HERE, "../../../docs/statuses.txt"))
@@ -53,6 +54,12 @@ def end(status, place, command="serve", path=None):
     return f"the program has ended with status {status} at {place}: " + ". ".join(filter(None, told))
 
 
+def fault(why):
+    """Why something failed, in words; of a file behind its name."""
+    reason = isinstance(why, OSError) and why.strerror
+    return f"{why.filename}: {reason}" if reason and why.filename else reason or str(why)
+
+
 def why_not_opened(path):
     """What the system tells of a store's file that can't be opened; None where it tells nothing."""
     try:
@@ -66,7 +73,18 @@ def why_not_opened(path):
     if not os.access(path, os.R_OK | os.W_OK):
         return f"{path} may not be both read and written"
     holder = holder_of(found)
-    return None if holder is None else f"another run holds {path}" + (f", process {holder}" if holder > 0 else "")
+    if holder is not None:
+        return f"another run holds {path}" + (f", process {holder}" if holder > 0 else "")
+    return f"the disk of {path} is full" if is_full(path) else None
+
+
+def is_full(path):
+    """Whether the disk of a store's file has no room for what one commit may write where the file has holes."""
+    try:
+        found = os.statvfs(path)
+    except OSError:
+        return False
+    return found.f_bavail * found.f_frsize < LEAST_ROOM
 
 
 def holder_of(found):
