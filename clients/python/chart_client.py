@@ -47,7 +47,10 @@ def draw_all(frames, pictures, every=None, client_over=ByHand, told=pbm_of):
 def main(words):
     client_over = ByHand
     if words[:1] == ["--library"] and len(words) > 1:
-        calls = load(words[1])
+        try:
+            calls = load(words[1])
+        except (OSError, AttributeError) as why:
+            sys.exit(f"chart_client: the library can't be loaded: {why}")
         client_over, words = (lambda frames: Proved(frames, calls)), words[2:]
     told = pbm_of
     if words == ["--columns"]:
