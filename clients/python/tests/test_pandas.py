@@ -59,7 +59,7 @@ class Pandas(unittest.TestCase):
             store.append("a", [1.25, None, float("nan")])
             store.set("a", pandas.Timestamp("2026-11-01 00:00:01"), numpy.array([4.5, numpy.nan, 9.0]))
             store.clear("a", numpy.datetime64("2026-11-01T00:00:00"), 1)
-            for bad in ([1.5, 2], [float("inf")], numpy.array([1e300]), ["1"]):
+            for bad in ([1.5, 2], [float("inf")], numpy.array([1e300]), ["1"], numpy.array(1.0), numpy.zeros((2, 2))):
                 with self.assertRaises((TypeError, ValueError)):
                     store.append("a", bad)
         values = dict(store.values("a"))
@@ -92,6 +92,11 @@ class Pandas(unittest.TestCase):
                 store.put("a", pandas.Series([1.0, 2.0], index=index[:2] - pandas.Timedelta("1d")))
             with self.assertRaises(TypeError):
                 store.put("a", pandas.Series([1.0]))
+            for bad in (None, values.to_frame(), values.fillna(numpy.inf), values.astype("object").fillna("x"), values.iloc[[0, 0, 1]]):
+                with self.assertRaises((TypeError, ValueError)):
+                    store.create_from("b", bad)
+            with self.assertRaisesRegex(ValueError, "a date is missing"):
+                store.create_from("b", pandas.Series([1.0, 2.0, 3.0], index=[index[0], pandas.NaT, index[1]]))
             self.assertEqual(store.series(), [("a", index[0].value // 10**6, 250, 2, 5)])
         back = store.to_series("a")
         self.assertTrue(back.equals((values + 1).dropna().tz_convert("UTC")))

@@ -145,11 +145,13 @@ class Store:
     def create_from(self, name, values, scale=None, step=None):
         """Makes a series of a Series of pandas whose index has dates, and stores its values, as `put` does. Start and step, in
         the series' unit, are found from the dates, and the scale from the values, where none is named."""
-        from .pandas_series import grid_and_scale
+        from .pandas_series import grid_and_scale, readings
 
         grid, scale = grid_and_scale(values, scale, step, self.unit)
-        self.create(name, grid.start, grid.step, scale)
-        self.put(name, values)
+        record = Series(name, grid.start, grid.step, scale, 0)
+        found = readings(values, record, self.unit_of(record))  # where they don't fit no series is made
+        self.create(*record[:4])
+        self.send_edits(lines_of(SetLines(name, grid.step), found))
 
     def put(self, name, values):
         """Stores a Series of pandas, whose index has dates, at its times: each value goes to the slot that is nearest. Its

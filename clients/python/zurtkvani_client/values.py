@@ -14,6 +14,8 @@ def whole_numbers(values, scale):
     Raises TypeError where there is anything else, or whole numbers among floats in a list, whose meaning isn't told; ValueError where a
     real value is infinite or comes out above 10^18 in size.
     """
+    if getattr(values, "ndim", 1) != 1:
+        raise TypeError(f"values are a list, or have one dimension, and not {values.ndim}")
     kind = getattr(getattr(values, "dtype", None), "kind", "O")
     if kind == "f":
         return of_floats(values, scale)
