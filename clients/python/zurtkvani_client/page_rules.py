@@ -26,7 +26,7 @@ HEADERS = {
 }
 FRAMES, EVENTS = "application/octet-stream", "text/event-stream"
 TOKEN = "X-Chart-Token"  # the header with the page's token
-OFFERS = "X-Chart-Offers"  # and that of the catalog with what else than views the server answers: words of "sum", "follow" and "line", or nothing
+OFFERS = "X-Chart-Offers"  # and that of the catalog with what else than views the server answers: words of "sum", "follow" and "socket", or nothing
 
 LONGEST = 8192  # bytes of a line
 MOST_LINES = 64  # of a request: the edits that a run stores together
