@@ -196,6 +196,59 @@ test("the frames of an answer wait for what was pushed before them", async () =>
   }
 });
 
+test("requests go by the socket while it is open, and are posted where it isn't", async () => {
+  const before = [globalThis.fetch, globalThis.WebSocket];
+  const [sockets, posted, done] = [[], [], new Uint8Array([0, 0, 0, 9, 1, 0, 0, 0, 0, 0, 0, 0, 3])];
+  globalThis.location = { hash: "", href: "http://127.0.0.1:7/?panel=a" };
+  globalThis.WebSocket = class {
+    static OPEN = 1;
+    constructor(address, protocols) {
+      Object.assign(this, { address: String(address), protocols, readyState: 0, sent: [] });
+      sockets.push(this);
+    }
+    send(body) {
+      this.sent.push(body);
+    }
+    close() {
+      this.readyState = 3;
+    }
+  };
+  globalThis.fetch = async (path, { body }) => {
+    posted.push(body);
+    return new Response(done);
+  };
+  try {
+    const { Connection } = await import("./page/connection.js");
+    const { Client } = await import("./chart_client.js");
+    const connection = new Connection(() => {});
+    connection.drawn = { client: new Client(), module: null };
+    connection.openSocket();
+    const [socket] = sockets;
+    assert.deepStrictEqual([socket.address, socket.protocols[0]], ["ws://127.0.0.1:7/socket", "chart"]);
+    await connection.ask(["first"]);
+    socket.readyState = 1;
+    const asked = connection.ask(["second", "third"]);
+    ['{"pushed":0}', done.slice(0, 5).buffer, new Uint8Array([...done.slice(5), ...done]).buffer].forEach((data) => socket.onmessage({ data }));
+    assert.deepStrictEqual((await asked).map(({ frame }) => frame.slots), [3, 3]);
+    socket.onmessage({ data: "" });
+    const denied = connection.ask(["fourth"]);
+    await new Promise((later) => setTimeout(later));
+    socket.onmessage({ data: '{"error":"no","status":403}' });
+    await assert.rejects(denied, { message: "no", status: 403 });
+    const cut = connection.ask(["fifth"]);
+    await new Promise((later) => setTimeout(later));
+    socket.onclose();
+    await assert.rejects(cut, { status: 0 });
+    assert.strictEqual(connection.drawn, null);
+    connection.drawn = { client: new Client(), module: null };
+    await connection.ask(["sixth"]);
+    assert.deepStrictEqual([posted, socket.sent], [["first", "sixth"], ["second\nthird", "fourth", "fifth"]]);
+  } finally {
+    [globalThis.fetch, globalThis.WebSocket] = before;
+    delete globalThis.location;
+  }
+});
+
 test("alarms are told in words", () => {
   const told = (kind, limit, value) => wordsOf({ kind, limit, value });
   assert.strictEqual(told("over", "90", "91.25"), "above 90, 91.25");

@@ -39,7 +39,7 @@ class Answers(Page):
     def test_a_sum_is_answered_and_leaves_what_the_session_was_answered(self):
         self.served.request(b"create b 0 1 1", b"append b 1 1 1", b"create c 1 2 1")
         self.served.ask("POST", "/catalog")
-        self.assertEqual(self.served.headers[page_rules.OFFERS], "sum follow")
+        self.assertEqual(self.served.headers[page_rules.OFFERS], "sum follow socket")
         sum_of = b"sum 1 a %s 1 -1 4 4 0 4 auto"
         self.assertEqual(self.served.kinds(b"open 1", sum_of % b"b", b"zoom 1 0 2"), [OPENED, ROWS, -16])
         self.assertEqual(self.served.kinds(b"view 1 a 4 4 0 4 auto", sum_of % b"b", b"zoom 1 0 2"), [VIEW, ROWS, VIEW])

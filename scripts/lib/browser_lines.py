@@ -14,16 +14,30 @@ from browser_page import PROGRAM, ROOT, SLOTS, START, STEP, edit, make_store, se
 import browser_axes
 import browser_page
 
-# The next answer is no frame, and of the next client the first drawing fails.
-FAIL_TWICE = """
-const [sent, made] = [window.fetch, WebAssembly.Instance];
-window.fetch = async (path, ...words) => {
-  if (path !== "request") {
-    return sent(path, ...words);
-  }
-  window.fetch = sent;
-  return new Response(new Uint8Array([0, 0, 0, 5, 99, 0, 0, 0, 0]));
+# `seeing(seen)` has each body of request lines seen before it is posted, or sent by the page's WebSocket; where bytes are given for it they are
+# its answer. What it gives ends that.
+SEEING = """
+const seeing = (seen) => {
+  const [fetching, sending] = [window.fetch, WebSocket.prototype.send];
+  window.fetch = async (path, ...words) => {
+    const answer = path === "request" ? await seen(words[0].body, "posted") : null;
+    return answer ? new Response(answer) : fetching(path, ...words);
+  };
+  WebSocket.prototype.send = async function (body) {
+    const answer = await seen(body, "sent");
+    const come = (data) => this.dispatchEvent(new MessageEvent("message", { data }));
+    return answer ? ['{"pushed":0}', answer.buffer, ""].forEach(come) : sending.call(this, body);
+  };
+  return () => ([window.fetch, WebSocket.prototype.send] = [fetching, sending]);
 };
+const noFrame = new Uint8Array([0, 0, 0, 5, 99, 0, 0, 0, 0]);
+"""
+# The next answer is no frame, and of the next client the first drawing fails.
+FAIL_TWICE = (
+    SEEING
+    + """
+const made = WebAssembly.Instance;
+const ends = seeing(() => ends() && noFrame);
 WebAssembly.Instance = function (...words) {
   WebAssembly.Instance = made;
   const fails = () => {
@@ -32,27 +46,30 @@ WebAssembly.Instance = function (...words) {
   return { exports: { ...new made(...words).exports, chart_draw: fails } };
 };
 """
-
-
+)
 # The next answer is no frame, so another session is begun; that one is told to have given way.
-GIVE_WAY = """
-const sent = window.fetch;
-const answers = { request: new Uint8Array([0, 0, 0, 5, 99, 0, 0, 0, 0]), events: "event: closed\\ndata: true\\n\\n" };
-window.fetch = async (path, ...words) => {
-  const answer = answers[path];
-  delete answers[path];
-  return answer ? new Response(answer) : sent(path, ...words);
-};
+GIVE_WAY = (
+    SEEING
+    + """
+const ends = seeing(() => {
+  ends();
+  const sent = window.fetch;
+  window.fetch = async (path, ...words) => {
+    window.fetch = path === "events" ? sent : window.fetch;
+    return path === "events" ? new Response("event: closed\\ndata: true\\n\\n") : sent(path, ...words);
+  };
+  return noFrame;
+});
 """
+)
 # Answers wait until they are let go.
-HOLD = """
-const sent = window.fetch;
-const held = new Promise((done) => (window.letGo = done));
-window.fetch = async (path, ...words) => {
-  await (path === "request" ? held : null);
-  return sent(path, ...words);
-};
+HOLD = (
+    SEEING
+    + """
+const held = new Promise((done) => (window.letGo = () => done()));
+seeing(() => held);
 """
+)
 
 
 def wait_until_live(page):
@@ -140,18 +157,15 @@ ReadableStreamDefaultReader.prototype.read = async function () {
   return read.call(this);
 };
 """
-# The first words of the requests that the page sends from now on.
-COUNT = """
-window.requests = [];
-const sent = window.counted ?? window.fetch;
-window.counted = sent;
-window.fetch = (path, ...words) => {
-  if (path === "request") {
-    window.requests.push(words[0].body.split(" ")[0]);
-  }
-  return sent(path, ...words);
-};
+# The first words of the requests that the page makes from now on, and how it sends them.
+COUNT = (
+    SEEING
+    + """
+[window.requests, window.ways] = [[], []];
+window.unseen?.();
+window.unseen = seeing((body, way) => window.requests.push(body.split(" ")[0]) && window.ways.push(way) && null);
 """
+)
 
 
 def draw_followed(page):
@@ -159,11 +173,13 @@ def draw_followed(page):
     browser, requests = page.browser, lambda: page.browser.run("return window.requests")
 
     def follows(step):
-        """Does a step that asks for a view, and waits until that is followed."""
+        """Does a step that asks for a view, waits until that is followed, and gives how the page asked."""
         browser.run(COUNT)
         page.do(step)
         wait_for(lambda: requests()[-2:] == ["view", "follow"], lambda: f"the page asks for {requests()}")
+        ways = browser.run("return window.ways")
         browser.run(COUNT)
+        return set(ways)
 
     for query in (f"panel=sea&from={START}&to={START + 5000 * STEP}", f"panel=sea&filter=v+%3E+0&range=-900..900&from={START}&to={START + 50 * STEP}"):
         page.open(query)
@@ -177,7 +193,7 @@ def draw_followed(page):
         page.compare()
         require(requests() == [], f"what is pushed is asked for, too: {requests()}")
         page.request(f"set sea {START + 24 * STEP} 12")
-        follows(lambda: page.press("-"))
+        require(follows(lambda: page.press("-")) == {"sent"}, "requests are posted where there is a WebSocket")
         page.compare_in_the_end()
     # Many pushes wait while the page reads none. (A line between edits has each of them stored and pushed alone.)
     browser.run(HOLD_READING)

@@ -1,4 +1,6 @@
 """What both servers of the page have in common, clients/web/serve.py and the gateway: its files, their headers, and the rules of its requests."""
+import contextlib
+import fcntl
 import json
 import os
 import re
@@ -24,7 +26,7 @@ HEADERS = {
 }
 FRAMES, EVENTS = "application/octet-stream", "text/event-stream"
 TOKEN = "X-Chart-Token"  # the header with the page's token
-OFFERS = "X-Chart-Offers"  # and that of the catalog with what else than views the server answers: words of "sum" and "follow", or nothing
+OFFERS = "X-Chart-Offers"  # and that of the catalog with what else than views the server answers: words of "sum", "follow" and "socket", or nothing
 
 LONGEST = 8192  # bytes of a line
 MOST_LINES = 64  # of a request: the edits that a run stores together
@@ -37,6 +39,14 @@ IDLE = {False: 5, True: 60}  # seconds without a request from which a session gi
 SWEEP = 5  # from one look at that to the next
 BEAT = 5  # seconds from one sign of life on a stream to the next
 REST = 0.02  # and at least from what changed to what changes next, so that many edits are told together
+AT_ONCE = 2**20  # bytes that the program may send before any are read, so that it needn't wait within a frame
+SET_PIPE_SIZE = getattr(fcntl, "F_SETPIPE_SZ", 1031)  # (Python has the name from 3.10 on)
+
+
+def widen(pipe):
+    """Gives a pipe from the program room for so many bytes, where the system does."""
+    with contextlib.suppress(OSError):
+        fcntl.fcntl(pipe, SET_PIPE_SIZE, AT_ONCE)
 
 
 def file_of(path, folder, module=None):

@@ -1,5 +1,5 @@
 /** The series of the store, by their names, and the last value of each. */
-import { post } from "./connection.js";
+import { post } from "./server.js";
 
 const LOOKED_AT = 256n; // the slots at a series' end among which its last value is looked for
 
@@ -10,14 +10,14 @@ export class Catalog {
   constructor() {
     this.series = new Map();
     this.lasts = new Map(); // the last values, by names
-    this.hasSums = this.hasPushes = false; // what the server has beside views
+    this.hasSums = this.hasPushes = this.hasSocket = false; // what the server has beside views
   }
 
   async load() {
     const response = await post("catalog", "");
     const told = await response.json();
     const offers = (response.headers.get("X-Chart-Offers") ?? "").split(" ");
-    [this.hasSums, this.hasPushes] = ["sum", "follow"].map((word) => offers.includes(word));
+    [this.hasSums, this.hasPushes, this.hasSocket] = ["sum", "follow", "socket"].map((word) => offers.includes(word));
     this.series = new Map(told.map((one) => [one.name, seriesOf(one)]));
   }
 

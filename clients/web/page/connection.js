@@ -1,5 +1,6 @@
 /** One session of the program, and the client that draws its frames. Requests go one behind the other. */
 import { coverOf, newClient, warm } from "./clients.js";
+import { Denied, ServerSocket, post, request } from "./server.js";
 
 const CACHE = 131072;
 const MOST_BYTES = 4194304; // of a frame, about
@@ -8,26 +9,6 @@ const BETWEEN_COVERS = 100; // and from one cover to the next
 const [UNKNOWN_SESSION, SESSION_OPEN] = [4, 5];
 export const TOO_MANY_SESSIONS = 6;
 export const BAD_FILTER = 3;
-
-const token = new URLSearchParams(location.hash.slice(1)).get("token") ?? "";
-
-/** Sends a body to the server by its token. */
-export async function post(path, body, more = {}) {
-  const response = await fetch(path, { method: "POST", headers: { "X-Chart-Token": token }, body, ...more });
-  if (!response.ok) {
-    const told = await response.json().catch(() => ({ error: `the server answers ${response.status}` }));
-    throw new Denied(told.error, response.status);
-  }
-  return response;
-}
-
-/** What the server doesn't do, and its status over HTTP. */
-export class Denied extends Error {
-  constructor(why, status) {
-    super(why);
-    this.status = status;
-  }
-}
 
 /** A request that the program refused: `frame` has its number, its name and its numbers. */
 export class Refused extends Error {
@@ -105,6 +86,7 @@ export class Connection {
     this.follows = false; // whether it is pushed what changes of the view that it was answered last
     this.bytes = 0; // of all frames so far
     this.last = 0; // of the last answer
+    this.socket = null; // by which requests go while it is open
   }
 
   /** Begins a session of a number that no other page uses, with a new client. */
@@ -139,6 +121,16 @@ export class Connection {
     });
   }
 
+  /** Opens a socket for the requests of this session, where the browser lets it. */
+  openSocket() {
+    this.socket?.end();
+    try {
+      this.socket = new ServerSocket();
+    } catch {
+      this.socket = null;
+    }
+  }
+
   /** Sends the words of views behind the session's number. */
   view(words, took, covered) {
     return this.ask(
@@ -169,14 +161,14 @@ export class Connection {
     const [asked, answers, frames, { drawn }] = [performance.now(), [], new Frames(), this];
     const { signal } = this.cut;
     this.follows &&= !lines.some((line) => line.startsWith("view "));
-    const response = await post("request", lines.join("\n"), { signal });
-    await this.haveCome(Number(response.headers.get("X-Chart-Pushed") ?? 0), signal);
-    const reader = response.body.getReader();
+    const body = lines.join("\n");
+    const { pushed, pieces } = await (this.socket?.isOpen() ? this.socket.ask(body) : request(body, signal));
+    await this.haveCome(pushed, signal);
     this.last = 0;
-    for (let piece = await reader.read(); !piece.done; piece = await reader.read()) {
-      this.last += piece.value.length;
-      this.bytes += piece.value.length;
-      frames.add(piece.value);
+    for await (const piece of pieces) {
+      this.last += piece.length;
+      this.bytes += piece.length;
+      frames.add(piece);
       for (let bytes = frames.next(); bytes; bytes = frames.next()) {
         performance.measure("chart: answer", { start: asked });
         const answer = this.take(bytes, drawn.client);
@@ -251,7 +243,7 @@ export class Connection {
     if (this.number) {
       post("request", `close ${this.number}`, { keepalive: true }).catch(() => {});
     }
-    this.number = 0;
-    this.drawn = null;
+    this.socket?.end();
+    [this.number, this.drawn, this.socket] = [0, null, null];
   }
 }

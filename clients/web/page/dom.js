@@ -30,3 +30,13 @@ export function tell(element, text) {
     element.textContent = text;
   }
 }
+
+/**
+ * Hides an element, or shows it, where it isn't so already. Behind an input that sets an attribute anew, a browser keeps all that comes, the
+ * answers too, until its next frame.
+ */
+export function hide(element, isHidden) {
+  if (element.hidden !== isHidden) {
+    element.hidden = isHidden;
+  }
+}

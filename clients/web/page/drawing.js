@@ -4,6 +4,8 @@ import { curvesOf } from "./curves.js";
 import { Panel } from "./panel.js";
 import { rangeOf, rescaled, sharedRange } from "./values.js";
 
+const TOGETHER = 40; // milliseconds that a panel waits for others
+
 /** What one panel asks for over a window, and what came of it. */
 class Job {
   constructor(panel, window, catalog) {
@@ -97,14 +99,36 @@ async function askFor(jobs, connection, painting, done) {
   }
 }
 
-/** Draws panels over a window, each as soon as all of its pictures are there; `painting` is called before anything is painted. */
+/** Shows panels together whose pictures come within a moment, since a browser takes long from one of them to the next where it shows it. */
+class Shown {
+  constructor(show) {
+    Object.assign(this, { show, waiting: [], timer: null });
+  }
+
+  add(job) {
+    this.waiting.push(job);
+    this.timer ??= setTimeout(() => this.now(), TOGETHER);
+  }
+
+  now() {
+    clearTimeout(this.timer);
+    this.timer = null;
+    this.waiting.splice(0).forEach(this.show);
+  }
+}
+
+/** Draws panels over a window, each soon after all of its pictures are there; `painting` is called before anything is painted. */
 export async function drawPanels(panels, window, { connection, catalog, look }, painting) {
   const jobs = panels.map((panel) => Object.assign(new Job(panel, window, catalog), { size: panel.size() }));
-  const show = (job) => {
+  const shown = new Shown((job) => {
     painting();
     job.panel.show(job, look);
-  };
+  });
   const again = [];
-  await askFor(jobs, connection, painting, (job) => (job.wanted().length > 0 ? again.push(job) : show(job)));
-  await askFor(again, connection, painting, show);
+  try {
+    await askFor(jobs, connection, painting, (job) => (job.wanted().length > 0 ? again.push(job) : shown.add(job)));
+    await askFor(again, connection, painting, (job) => shown.add(job));
+  } finally {
+    shown.now();
+  }
 }

@@ -1,5 +1,5 @@
 /** Server-sent events, read by `fetch`, which sends the token in a header: the address of an EventSource would have to hold it. */
-import { post } from "./connection.js";
+import { post } from "./server.js";
 
 const SILENCE = 15000; // milliseconds without a sign of life, behind which the line counts as cut
 

@@ -1,7 +1,8 @@
 /** The line to the server: it begins sessions, hands on what changed, and says how the line is and since when. */
-import { Denied, TOO_MANY_SESSIONS } from "./connection.js";
+import { TOO_MANY_SESSIONS } from "./connection.js";
 import { part, tell } from "./dom.js";
 import { readEvents } from "./events.js";
+import { Denied } from "./server.js";
 
 const [FIRST_WAIT, LONGEST_WAIT] = [500, 5000]; // milliseconds until the next try
 const LASTED = 10000; // from which on a line stood well, so that the next try follows soon
@@ -65,6 +66,9 @@ export class Line {
       try {
         await this.page.connection.begin();
         await this.page.catalog.load();
+        if (this.page.catalog.hasSocket) {
+          this.page.connection.openSocket();
+        }
         this.status.is("live");
         this.page.draw();
         await this.listen();

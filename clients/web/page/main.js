@@ -7,7 +7,7 @@ import { Connection } from "./connection.js";
 import { listenToControls, showControls } from "./controls.js";
 import { Crosshair } from "./crosshair.js";
 import { curvesOf } from "./curves.js";
-import { part, tell } from "./dom.js";
+import { hide, part, tell } from "./dom.js";
 import { drawPanels } from "./drawing.js";
 import { Followed } from "./followed.js";
 import { Line } from "./live.js";
@@ -157,8 +157,8 @@ class Page {
     const room = all / Math.max(1, this.panels.length) - AROUND_PANEL;
     const usual = Math.floor(Math.max(LEAST_PANEL, Math.min(MOST_PANEL, room)));
     this.panels.forEach((panel, number) => panel.setHeight(asked.panels[number].height || usual));
-    part("axis").hidden = this.panels.length === 0;
-    part("empty").hidden = this.panels.length > 0;
+    hide(part("axis"), this.panels.length === 0);
+    hide(part("empty"), this.panels.length > 0);
   }
 
   /** What the buttons of a panel do. */

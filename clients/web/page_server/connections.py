@@ -1,7 +1,7 @@
 """The connections of a server: at most so many, each with a deadline for what it does now.
 
-A connection on which no whole head of a request came yet gives way where there are too many, the oldest first. So neither browsers that
-keep their connections open nor half requests shut anybody out.
+A connection on which no whole head of a request came yet gives way where there are too many, and so does a WebSocket on which nothing is
+asked, the oldest first. So neither browsers that keep their connections open nor half requests shut anybody out.
 """
 import contextlib
 import socket
@@ -9,8 +9,8 @@ import threading
 import time
 
 MOST = 64
-WAITING, HEAD, BODY, ANSWER = "waiting", "head", "body", "answer"
-SECONDS = {WAITING: 60, HEAD: 10, BODY: 10, ANSWER: None}
+WAITING, HEAD, BODY, ANSWER, SOCKET = "waiting", "head", "body", "answer", "socket"
+SECONDS = {WAITING: 60, HEAD: 10, BODY: 10, ANSWER: None, SOCKET: None}
 TOO_MANY = b"HTTP/1.1 503 Service Unavailable\r\nConnection: close\r\nRetry-After: 5\r\nContent-Length: 0\r\n\r\n"
 
 
@@ -45,7 +45,7 @@ class Connections:
             return True
 
     def make_room(self):
-        waiting = [one for one in self.held.values() if one.state in (WAITING, HEAD)]
+        waiting = [one for one in self.held.values() if one.state in (WAITING, HEAD, SOCKET)]
         if waiting:
             oldest = min(waiting, key=lambda one: one.since)
             del self.held[oldest.stream]

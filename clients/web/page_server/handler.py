@@ -1,5 +1,6 @@
 """The answers over HTTP: the page's files, and behind its token request lines, the catalog and the stream of what changes."""
 import base64
+import contextlib
 import hmac
 import http.server
 import itertools
@@ -12,16 +13,33 @@ import sys
 import time
 
 from zurtkvani_client import Ended, page_rules
-from zurtkvani_client.page_rules import BEAT, EDITS, MOST_BYTES, OF_SESSION, REST
+from zurtkvani_client.page_rules import AT_ONCE, BEAT, EDITS, MOST_BYTES, OF_SESSION, REST
 
-from .connections import ANSWER, BODY, HEAD, WAITING, Connections, refuse
-from .program import AT_ONCE
+from . import web_socket
+from .connections import ANSWER, BODY, HEAD, SOCKET, WAITING, Connections, refuse
 
 FOLDER = os.path.dirname(os.path.dirname(os.path.realpath(__file__)))
 MOST_STREAMS = 48
 PUSHED = "X-Chart-Pushed"  # the header of an answer with how many frames its session had been pushed before it
 READING = (*OF_SESSION, b"follow", b"unfollow", b"list", b"values")
 EDITING = (*READING, *EDITS, b"sweep")
+FIRST_PIECE, MOST_PIECE = 16384, 65536  # bytes of a frame in a message, so that a page sees over a slow line what came so far
+
+
+class Refusal(Exception):
+    """What isn't done, and its status over HTTP."""
+
+    def __init__(self, status, why):
+        super().__init__(why)
+        self.status = status
+
+
+def pieces_of(frame):
+    """A frame in pieces, each twice as long as the one before it, but none longer than the most."""
+    at, size = 0, FIRST_PIECE
+    while at < len(frame):
+        yield frame[at : at + size]
+        at, size = at + size, min(2 * size, MOST_PIECE)
 
 
 class Handler(http.server.BaseHTTPRequestHandler):
@@ -59,6 +77,9 @@ class Handler(http.server.BaseHTTPRequestHandler):
         origin = self.headers.get_all("Origin", [])
         return self.the_only("Host") in hosts and (not origin or self.the_only("Origin") in origins)
 
+    def is_token(self, text):
+        return hmac.compare_digest((text or "").encode(), self.server.token.encode())
+
     def head(self, status, kind, more):
         self.send_response(status)
         headers = {"Content-Type": kind, **more, **page_rules.HEADERS}
@@ -86,6 +107,8 @@ class Handler(http.server.BaseHTTPRequestHandler):
         if not self.is_own():
             return self.refuse(403, "another host or origin")
         path = self.path.partition("?")[0]
+        if (self.command, path) == ("GET", "/socket"):
+            return self.open_socket()
         found = page_rules.file_of(path, FOLDER, self.server.module)
         why = "its module isn't built" if path == "/" + page_rules.MODULE else "no such file"
         return self.send_file(*found, why) if found else self.refuse(404, why)
@@ -104,7 +127,7 @@ class Handler(http.server.BaseHTTPRequestHandler):
         self.turn_to(BODY)
         if not self.is_own():
             return self.refuse(403, "another host or origin")
-        if not hmac.compare_digest((self.the_only(page_rules.TOKEN) or "").encode(), self.server.token.encode()):
+        if not self.is_token(self.the_only(page_rules.TOKEN)):
             return self.refuse(403, "a wrong token")
         body = self.body()
         if body is None:
@@ -126,34 +149,89 @@ class Handler(http.server.BaseHTTPRequestHandler):
         body = self.rfile.read(int(length))
         return body if len(body) == int(length) else None
 
-    def answer_lines(self, body):
-        """Sends the frames of request lines, each as soon as it is there."""
+    def frames_of(self, body):
+        """How many lines a body has, how many frames their session had been pushed before their first frame, and their frames as they come."""
         try:
             lines = page_rules.lines_of(body, EDITING if self.server.edits else READING)
         except ValueError as why:
-            return self.refuse(400, str(why))
+            raise Refusal(400, str(why)) from None
         except PermissionError:
-            return self.refuse(403, "without --edit no line is taken that edits, and none that isn't a request")
+            raise Refusal(403, "without --edit no line is taken that edits, and none that isn't a request") from None
         frames = self.server.sessions.answers(lines)
         first = next(frames)
-        pushed = {PUSHED: self.server.sessions.pushed(lines[0])}
-        if len(lines) == 1:
-            return self.send(200, page_rules.FRAMES, first, **pushed)
-        return self.send_pieces(first, frames, pushed)
+        return len(lines), self.server.sessions.pushed(lines[0]), itertools.chain([first], frames)
 
-    def send_pieces(self, first, others, more):
-        """Sends a first piece and those that follow it, as they come. Where the program ends in between, the answer has no end."""
+    def answer_lines(self, body):
+        """Sends the frames of request lines, each as soon as it is there."""
+        try:
+            count, pushes, frames = self.frames_of(body)
+        except Refusal as why:
+            return self.refuse(why.status, str(why))
+        if count == 1:
+            return self.send(200, page_rules.FRAMES, next(frames), **{PUSHED: pushes})
+        return self.send_pieces(frames, {PUSHED: pushes})
+
+    def send_pieces(self, pieces, more):
+        """Sends pieces as they come. Where the program ends in between, the answer has no end."""
         self.head(200, page_rules.FRAMES, {"Transfer-Encoding": "chunked", **more})
         try:
-            for piece in itertools.chain([first], others, [b""]):
+            for piece in itertools.chain(pieces, [b""]):
                 self.wfile.write(b"%x\r\n%b\r\n" % (len(piece), piece))
                 self.wfile.flush()
         except Ended:
             self.close_connection = True
 
+    def open_socket(self):
+        """Makes the connection a WebSocket, on which request lines are answered without the head of a request."""
+        protocol, _, token = (self.the_only("Sec-WebSocket-Protocol") or "").partition(",")
+        if protocol != web_socket.PROTOCOL or not self.is_token(token.strip()):
+            return self.refuse(403, "a wrong token")
+        key = self.the_only("Sec-WebSocket-Key")
+        if not key or self.the_only("Sec-WebSocket-Version") != web_socket.VERSION or (self.the_only("Upgrade") or "").lower() != "websocket":
+            return self.refuse(400, "no WebSocket is asked for")
+        self.close_connection = True
+        self.send_response(101)
+        told = {"Upgrade": "websocket", "Connection": "Upgrade", "Sec-WebSocket-Accept": web_socket.agreed(key), "Sec-WebSocket-Protocol": protocol}
+        for name, value in told.items():
+            self.send_header(name, value)
+        self.end_headers()
+        self.wfile.flush()
+        messages = web_socket.WebSocket(self.rfile, self.wfile, MOST_BYTES)
+        with contextlib.suppress(web_socket.Over, Ended):
+            while self.is_asked():
+                body = messages.next()
+                if body is not None:
+                    self.turn_to(ANSWER)
+                    self.answer_message(messages, body)
+
+    def is_asked(self):
+        """Waits, as long as it takes, until a message begins; whether it isn't its end."""
+        self.turn_to(SOCKET)
+        self.connection.settimeout(None)
+        is_there = bool(self.rfile.peek(1))
+        self.connection.settimeout(self.timeout)
+        self.turn_to(BODY)
+        return is_there
+
+    def answer_message(self, messages, body):
+        """Answers request lines by a text in JSON, with how many frames their session had been pushed or why they are refused; then pieces of
+        their frames as they come, and an empty text."""
+        try:
+            _, pushes, frames = self.frames_of(body)
+        except (Refusal, Ended) as why:
+            status = why.status if isinstance(why, Refusal) else 503
+            self.log_request(status)
+            return messages.send((web_socket.TEXT, json.dumps({"error": str(why), "status": status}).encode()))
+        self.log_request(200)
+        front = [(web_socket.TEXT, json.dumps({"pushed": pushes}).encode())]
+        for frame in frames:
+            messages.send(*front, *((web_socket.BINARY, piece) for piece in pieces_of(frame)))
+            front = []
+        return messages.send((web_socket.TEXT, b""))
+
     def send_catalog(self, _):
         series = [page_rules.told(one) for one in list(self.server.program.catalog.values())]
-        self.send_json(200, series, **{page_rules.OFFERS: "sum follow"})
+        self.send_json(200, series, **{page_rules.OFFERS: "sum follow socket"})
 
     def send_events(self, number):
         """A stream of events, which holds a session: `pushed` with a frame of it, `changed` with the series that changed, `ended` with how

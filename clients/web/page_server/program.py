@@ -3,23 +3,19 @@
 The run lists its series when it begins; from then on each edit goes through it, which keeps the catalog up to date, and it is said which
 series changed.
 """
-import contextlib
-import fcntl
 import io
 import os
 import subprocess
 import threading
 
 from zurtkvani_client import frames
-from zurtkvani_client.page_rules import DONE, EDITS, ROWS, VIEW
+from zurtkvani_client.page_rules import AT_ONCE, DONE, EDITS, ROWS, VIEW, widen
 from zurtkvani_client.run import Listener
 from zurtkvani_client.store import Series
 
 CLEARS = slice(5, 7)  # where a Swept frame has their number
 CHANGING = (*EDITS, b"sweep")
 NO_LINE = b"?"  # it is refused, behind all frames that the lines before it push
-AT_ONCE = 2**20  # bytes that the program may send before any are read, so that it needn't wait within a frame
-SET_PIPE_SIZE = getattr(fcntl, "F_SETPIPE_SZ", 1031)  # (Python has the name from 3.10 on)
 
 
 class Program:
@@ -31,8 +27,7 @@ class Program:
         pipes = {"stdin": subprocess.PIPE, "stdout": subprocess.PIPE, "stderr": subprocess.PIPE}
         # A session of its own, so that Control-C reaches this process alone.
         self.child = subprocess.Popen([program, store, "host"], AT_ONCE, start_new_session=True, **pipes)
-        with contextlib.suppress(OSError):
-            fcntl.fcntl(self.child.stdout, SET_PIPE_SIZE, AT_ONCE)
+        widen(self.child.stdout)
         self.turn, self.over, self.end = threading.Lock(), threading.Event(), None
         threading.Thread(target=self.listen, args=(Listener(self.child, "host", store),), daemon=True).start()
         listed, _ = frames.accept(frames.Fields(io.BytesIO(self.answer(b"list"))), {})

@@ -13,7 +13,7 @@ import struct
 import time
 
 from .. import client, frames
-from ..page_rules import EDITS
+from ..page_rules import AT_ONCE, EDITS, widen
 from ..run import IN_FLIGHT, Ended, Refused, end_of
 from ..store import Series
 from .log import tell
@@ -51,8 +51,8 @@ class Held(Ended):
 class Run:
     """One `PROGRAM PATH host`."""
 
-    def __init__(self, child, path):
-        self.child, self.path, self.said = child, path, None
+    def __init__(self, child, path, frames_from):
+        self.child, self.path, self.said, self.frames_from = child, path, None, frames_from
         self.answered, self.came = 0, b""  # lines; and what came and isn't a whole frame yet
         self.may_push, self.on_push = False, None  # whether a session was ever followed, and who is handed what one is pushed
         self.listening = asyncio.create_task(self._listen())
@@ -60,11 +60,19 @@ class Run:
     @classmethod
     async def start(cls, program, path):
         pipe = asyncio.subprocess.PIPE
-        # A session of its own, so that Control-C reaches the gateway alone.
-        child = await asyncio.create_subprocess_exec(
-            program, path, COMMAND, stdin=pipe, stdout=pipe, stderr=pipe, start_new_session=True, limit=2**20
-        )
-        run = cls(child, path)
+        taken, given = os.pipe()
+        widen(taken)
+        try:
+            # A session of its own, so that Control-C reaches the gateway alone.
+            child = await asyncio.create_subprocess_exec(
+                program, path, COMMAND, stdin=pipe, stdout=given, stderr=pipe, start_new_session=True, limit=AT_ONCE
+            )
+        except BaseException:
+            os.close(taken)
+            raise
+        finally:
+            os.close(given)
+        run = cls(child, path, await reader_of(taken))
         try:
             run.opened, listed = await run.turn([OPEN, LIST])
             run.series = series_of(listed)
@@ -130,7 +138,7 @@ class Run:
         """What comes next, so many bytes at least."""
         parts = []
         while least > 0:
-            part = await self.child.stdout.read(READ)
+            part = await self.frames_from.read(READ)
             if not part:
                 raise ConnectionError("the run has ended")
             parts.append(part)
@@ -151,6 +159,13 @@ class Run:
         except asyncio.TimeoutError:
             self.child.kill()
             return await self.end()
+
+
+async def reader_of(pipe):
+    """What reads from a pipe, and closes it at its end."""
+    reader = asyncio.StreamReader(limit=AT_ONCE)
+    await asyncio.get_running_loop().connect_read_pipe(lambda: asyncio.StreamReaderProtocol(reader), os.fdopen(pipe, "rb", 0))
+    return reader
 
 
 class Keeper:

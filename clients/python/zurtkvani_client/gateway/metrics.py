@@ -13,7 +13,7 @@ HELP = {
     "left_out_total": "Values that are no numbers: NaN, texts",
     "mqtt_messages_total": "Messages of MQTT that were taken in and acknowledged",
     "edits_total": "Lines of edits that were answered",
-    "turns_total": "Turns of edits; the edits of a turn share commits",
+    "turns_total": "Turns of edits; those of a turn share commits: at most one each, and at least one where something changed",
     "turn_seconds_total": "Time of these turns",
     "requests_total": "Requests by what they asked for and their status",
     "request_seconds_total": "Time of these requests",
