@@ -17,7 +17,7 @@ use Rattle.derive_command.specs.declared.request.Request.{Request}
 use Rattle.host_lines.specs.Grammar.{host_line}
 use Rattle.host_lines.specs.declared.asked.HostLine.{HostLine}
 use Rattle.host_lines.specs.declared.asked.HostLine.TheVariants.{List as ListLine, Values, Sum, Sweep, Bad, Other}
-use Rattle.host_replies.specs.Replies.{IsPageCause, IsReportCause, ReadsReport, Reported}
+use Rattle.host_replies.specs.Replies.{IsPageCause, IsReportCause, ReadsReportOver, Reported}
 use Rattle.live_service.specs.LiveReplies.{LiveState}
 use Rattle.run_ends.specs.declared.ending.End.{End}
 use Rattle.run_ends.specs.declared.ending.End.TheVariants.{InputTooLong}
@@ -94,7 +94,7 @@ module _ (line : List ℕ) (total : ℕ) (book : List Series) (held : Held) (idl
         high = omega (arith, quiet);
       })
 
-  pub report_costs : (reads reads' syncs syncs' : ℕ) → ReadsReport (host_line line) reads reads' → syncs' ≡ syncs → Costs (report line) old reads reads' syncs syncs'
+  pub report_costs : (reads reads' syncs syncs' : ℕ) → ReadsReportOver book (host_line line) reads reads' → syncs' ≡ syncs → Costs (report line) old reads reads' syncs syncs'
   report_costs reads reads' syncs syncs' few same = record { reads_few = few; syncs_few = same }
 
   -- ---- it isn't made

@@ -10,7 +10,7 @@ use Rattle.chart_service.specs.Syncing.{edit_of, edits_of, group_syncs}
 use Rattle.host_lines.specs.Grammar.{host_line}
 use Rattle.host_lines.specs.declared.asked.HostLine.{HostLine}
 use Rattle.host_lines.specs.declared.asked.HostLine.TheVariants.{List as ListLine, Values, Sum, Sweep, Bad, Other}
-use Rattle.host_replies.specs.Replies.{ReadsReport, Reported}
+use Rattle.host_replies.specs.Replies.{ReadsReportOver, Reported}
 use Rattle.host_sweeps.specs.Sweeping.{SweepReplied, step_clears, step_reads}
 use Rattle.live_service.specs.LiveReplies.{GroupReplied, LiveReplied, LiveState, Pushed, ReadsPush}
 use Rattle.retention.specs.declared.rule.Rule.{Rule}
@@ -122,7 +122,7 @@ pub record Counted : Type 0 where
 -- how many blocks an event reads at most, where there is a bound
 abbrev pub ReadsBy : Event → LiveState → ℕ → ℕ → Type 0
 ReadsBy (answer line) old from to = ReadsLine line old.state from to
-ReadsBy (report line) old from to = ReadsReport (host_line line) from to
+ReadsBy (report line) old from to = ReadsReportOver old.state.book (host_line line) from to
 ReadsBy (sweep line) old from to = to ≤ from + step_reads
 ReadsBy (group lines) old from to = to ≤ from + 96 * length lines
 ReadsBy push old from to = ReadsPush old.pending old.state from to

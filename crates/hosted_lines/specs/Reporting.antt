@@ -12,7 +12,7 @@ use Rattle.chart_world.specs.Faults.{CountsFault, fault_in}
 use Rattle.gate_pages.specs.declared.pages.Pages.{Ghosts}
 use Rattle.host_lines.specs.Grammar.{IsInRange}
 use Rattle.host_lines.specs.declared.asked.HostLine.{HostLine}
-use Rattle.host_replies.specs.Replies.{AsksReport, IsReportCause, ReadsReport, Reported}
+use Rattle.host_replies.specs.Replies.{AsksReport, IsReportCause, ReadsReport, ReadsReportOver, Reported}
 
 module _ {P : Type 0} {g : Ghosts P} where
   -- what is asked is a report, and calls may be made
@@ -29,5 +29,6 @@ module _ {P : Type 0} {g : Ghosts P} where
     pub sessions : shown.sessions new ≡ shown.sessions old
     pub looks : LooksOnly old new
     pub reads : ReadsReport asked (shown.view old).reads (shown.view new).reads
+    pub reads_over : shown.ForBook old (λ total book. ReadsReportOver book asked (shown.view old).reads (shown.view new).reads)
     pub cause : IfErr result (λ e. IsReportCause asked e (shown.IsTold new) (shown.view old) (shown.view new))
     pub faults : CountsFault (fault_in step_fault result) (shown.view old) (shown.view new)

@@ -5,7 +5,7 @@ use Rattle.chart_world.specs.FaultLaws.{counts_then}
 use Rattle.chart_world.specs.Faults.{fault_in}
 use Rattle.gate_pages.proofs.Moving.{sent_same}
 use Rattle.host_lines.specs.declared.asked.HostLine.{HostLine}
-use Rattle.host_replies.specs.Replies.{ReadsReport, Reported}
+use Rattle.host_replies.specs.Replies.{ReadsReportOver, Reported}
 use Rattle.run_ends.specs.Faults.{end_fault}
 use Rattle.stored_book.specs.Standing.{StandsForBook}
 use Rattle.hosted_lines.specs.Doing.{held_by, held_with, side_of}
@@ -33,7 +33,7 @@ returns-in-Ok-clause-does g c = λ line asks total book told stands sound.
     let sends = made.beside.changed.store_is.pages_are in
     let state = held_with total book (held_by old) in
     let F : HostLine → Type 0 = λ a. Reported a frame state.state in
-    let R : HostLine → Type 0 = λ a. ReadsReport a (view at).reads (view between).reads in
+    let R : HostLine → Type 0 = λ a. ReadsReportOver book a (view at).reads (view between).reads in
     let S : Image → Type 0 = λ i. StandsForBook i total book in
     let same = held_same _ _ _ _ _ _ made.beside.changed.sessions made.beside.followed_same made.beside.pending_same
     ∙ held_same _ _ _ _ _ _ e.sessions c.in-Ok.ensures.followed c.in-Ok.ensures.pending in
@@ -42,7 +42,7 @@ returns-in-Ok-clause-does g c = λ line asks total book told stands sound.
     (report_moments line total book (held_by old) c.requires.idle (view at) (view between) (g.met.P.Pages.rests at c.requires.may.sound) stands e.looks.time)
     (sent_same (view at) (view between) _ e.looks.time)
     (sym (w.beside_sent between) ∙ ap (λ (b : Beside). b.sent) e.looks.beside ∙ w.beside_sent at)
-    (report_costs line total book (held_by old) c.requires.idle (view at).reads (view between).reads (view at).syncs (view between).syncs (subst R (sym asks) e.reads) e.looks.syncs)
+    (report_costs line total book (held_by old) c.requires.idle (view at).reads (view between).reads (view at).syncs (view between).syncs (subst R (sym asks) (e.reads_over total book told stands)) e.looks.syncs)
     (w.send_keeps n between at' sends) c.send_frame.result made.whole made.stops (g.met.P.Pages.rests between (e.looks.fit c.requires.may.sound)) (w.send_passes n between at' sends) (w.send_counts n between at' sends)
 
 pub returns-in-Err-clause-does : goal.returns-in-Err-clause-does
@@ -55,13 +55,13 @@ returns-in-Err-clause-does g c = λ line asks total book told stands sound.
     let at = pages old in
     let between = pages mid in
     let e = c.in-Err.ensures.makes in
-    let R : HostLine → Type 0 = λ a. ReadsReport a (view at).reads (view between).reads in
+    let R : HostLine → Type 0 = λ a. ReadsReportOver book a (view at).reads (view between).reads in
     let S : Image → Type 0 = λ i. StandsForBook i total book in
     report_unmade line total book (held_by old) c.requires.idle c.in-Err.error c.step_end.result (held_by mid) (view at) (view between) (sent at) (sent between) c.step_end.ensures (e.standing total book told stands)
     (subst S (sym (e.looks.image told)) stands)
     (sym (w.beside_sent between) ∙ ap (λ (b : Beside). b.sent) e.looks.beside ∙ w.beside_sent at)
     (report_moments line total book (held_by old) c.requires.idle (view at) (view between) (g.met.P.Pages.rests at c.requires.may.sound) stands e.looks.time)
-    (report_costs line total book (held_by old) c.requires.idle (view at).reads (view between).reads (view at).syncs (view between).syncs (subst R (sym asks) e.reads) e.looks.syncs)
+    (report_costs line total book (held_by old) c.requires.idle (view at).reads (view between).reads (view at).syncs (view between).syncs (subst R (sym asks) (e.reads_over total book told stands)) e.looks.syncs)
 
 pub returns-in-Err-clause-cause : goal.returns-in-Err-clause-cause
 returns-in-Err-clause-cause g c =
