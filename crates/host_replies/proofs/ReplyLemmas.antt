@@ -11,4 +11,3 @@ open_by_cache number (s ∷ ss) = elim (s.number == number) as (λ b. is_some (c
   | true ↦ refl
   | false ↦ open_by_cache number ss
 ]
-
