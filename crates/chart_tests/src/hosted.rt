@@ -1,18 +1,26 @@
-//! A host beside `live` on the same lines: edits that stand ready are one commit, and their followers get one push.
+//! A host on edits whose lines stand ready, and on the same edits with other lines between them.
+ghost use Rattle.chart_service.specs.Shown as shown;
 
 use crate::worlds::{empty, world_of};
-use block_disk::MemDisk;
+use block_disk::World;
 use chart_frames::{Decoder, Frame};
-use chart_world::MemWorld;
-use host_command::host;
-use live_command::live;
-use run_ends::status_of;
+use chart_service::Service;
+use disk_store::{disk_of, open_store};
+use gate_pages::GatePages;
+use hosted_lines::host_lines;
+use live_service::ServiceStepper;
+use live_view::Live;
+use run_ends::{End, status_of};
 use std::alloc::Global;
 use std::test::Fail;
 
 /// Three edits, a session that follows one of their series, and four more, three of them of that series.
-const LINES: &[u8] =
+const READY: &[u8] =
     b"create s 0 1 0\ncreate t 0 1 0\nappend s 1 2 3\nopen 1 1000\nview 1 s 8 4 0 10 auto\nfollow 1\nappend s 4\nappend t 1\nappend s 5\nset s 0 9\n";
+
+/// The same with a line between two edits.
+const APART: &[u8] =
+    b"create s 0 1 0\nclose 9\ncreate t 0 1 0\nclose 9\nappend s 1 2 3\nopen 1 1000\nview 1 s 8 4 0 10 auto\nfollow 1\nappend s 4\nclose 9\nappend t 1\nclose 9\nappend s 5\nclose 9\nset s 0 9\n";
 
 /// How many of these frames are Done, and how many show a view.
 fn counts(alloc: Global, bytes: &[u8]) -> Result<(u32, u32), Fail> {
@@ -30,25 +38,31 @@ fn counts(alloc: Global, bytes: &[u8]) -> Result<(u32, u32), Fail> {
     Ok((done, views))
 }
 
-/// The world of an empty store with the lines as its input.
-fn world(alloc: Global) -> Result<MemWorld<MemDisk>, Fail> {
-    world_of(alloc, empty(alloc)?, LINES, &[])
+/// How a host ended over a service, and the world behind it.
+fn host_over<W: World>(alloc: Global, service: Service<GatePages<W>>) -> (End, W)
+    requires { (shown.view service).fit }
+{
+    service.is_sound();
+    let mut live = Live::new(alloc, ServiceStepper::new(service));
+    let end = host_lines(alloc, &mut live);
+    let service = live.into_stepper().into_service();
+    (end, disk_of(service.into_store()))
 }
 
-/// By each of the two: the edits done, the views sent, and how often the disk was synced.
-fn by_host(alloc: Global) -> Result<(u32, u32, u64), Fail> {
-    let (end, world) = host(alloc, world(alloc)?);
+/// By a host on these lines over an empty store: the edits done, the views sent, and how often the disk was synced.
+fn hosted(alloc: Global, lines: &[u8]) -> Result<(u32, u32, u64), Fail> {
+    let Ok(store) = open_store(alloc, world_of(alloc, empty(alloc)?, lines, &[])?) else {
+        return Err(Fail::new("no store"));
+    };
+    let Ok(service) = Service::new(alloc, store) else {
+        return Err(Fail::new("no service"));
+    };
+    if !service.is_sound() {
+        return Err(Fail::new("the store isn't sound"));
+    }
+    let (end, world) = host_over(alloc, service);
     if status_of(end).code != 0 {
         return Err(Fail::new("the host ended otherwise"));
-    }
-    let (done, views) = counts(alloc, world.sent())?;
-    Ok((done, views, world.into_disk().syncs()))
-}
-
-fn by_live(alloc: Global) -> Result<(u32, u32, u64), Fail> {
-    let (end, world) = live(alloc, world(alloc)?);
-    if status_of(end).code != 0 {
-        return Err(Fail::new("live ended otherwise"));
     }
     let (done, views) = counts(alloc, world.sent())?;
     Ok((done, views, world.into_disk().syncs()))
@@ -57,13 +71,13 @@ fn by_live(alloc: Global) -> Result<(u32, u32, u64), Fail> {
 #[test]
 fn edits_that_stand_ready_are_pushed_once(rt: HostRuntime) -> Result<(), Fail> {
     let alloc = rt.alloc();
-    let (done, views, syncs) = by_host(alloc)?;
-    let (done_alone, views_alone, syncs_alone) = by_live(alloc)?;
+    let (done, views, syncs) = hosted(alloc, READY)?;
+    let (done_apart, views_apart, syncs_apart) = hosted(alloc, APART)?;
     assert_eq!(rt; done, 7);
     assert_eq!(rt; views, 2);
-    assert_eq!(rt; done_alone, 7);
-    assert_eq!(rt; views_alone, 4);
+    assert_eq!(rt; done_apart, 7);
+    assert_eq!(rt; views_apart, 4);
     // seven commits of four syncs each, and two
-    assert_eq!(rt; syncs_alone.saturating_sub(syncs), 20);
+    assert_eq!(rt; syncs_apart.saturating_sub(syncs), 20);
     Ok(())
 }
