@@ -1,13 +1,16 @@
 //! A host on edits whose lines stand ready, and on the same edits with other lines between them.
+ghost use Rattle.chart_service.specs.Shown as shown;
 
 use crate::worlds::{empty, world_of};
+use block_disk::World;
 use chart_frames::{Decoder, Frame};
 use chart_service::Service;
 use disk_store::{disk_of, open_store};
+use gate_pages::GatePages;
 use hosted_lines::host_lines;
 use live_service::ServiceStepper;
 use live_view::Live;
-use run_ends::status_of;
+use run_ends::{End, status_of};
 use std::alloc::Global;
 use std::test::Fail;
 
@@ -35,6 +38,17 @@ fn counts(alloc: Global, bytes: &[u8]) -> Result<(u32, u32), Fail> {
     Ok((done, views))
 }
 
+/// How a host ended over a service, and the world behind it.
+fn host_over<W: World>(alloc: Global, service: Service<GatePages<W>>) -> (End, W)
+    requires { (shown.view service).fit }
+{
+    service.is_sound();
+    let mut live = Live::new(alloc, ServiceStepper::new(service));
+    let end = host_lines(alloc, &mut live);
+    let service = live.into_stepper().into_service();
+    (end, disk_of(service.into_store()))
+}
+
 /// By a host on these lines over an empty store: the edits done, the views sent, and how often the disk was synced.
 fn hosted(alloc: Global, lines: &[u8]) -> Result<(u32, u32, u64), Fail> {
     let Ok(store) = open_store(alloc, world_of(alloc, empty(alloc)?, lines, &[])?) else {
@@ -46,11 +60,10 @@ fn hosted(alloc: Global, lines: &[u8]) -> Result<(u32, u32, u64), Fail> {
     if !service.is_sound() {
         return Err(Fail::new("the store isn't sound"));
     }
-    let mut live = Live::new(alloc, ServiceStepper::new(service));
-    if status_of(host_lines(alloc, &mut live)).code != 0 {
+    let (end, world) = host_over(alloc, service);
+    if status_of(end).code != 0 {
         return Err(Fail::new("the host ended otherwise"));
     }
-    let world = disk_of(live.into_stepper().into_service().into_store());
     let (done, views) = counts(alloc, world.sent())?;
     Ok((done, views, world.into_disk().syncs()))
 }
