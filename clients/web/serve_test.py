@@ -44,7 +44,7 @@ class Answers(Page):
         self.assertEqual(self.served.kinds(b"open 1", sum_of % b"b", b"zoom 1 0 2"), [OPENED, ROWS, -16])
         self.assertEqual(self.served.kinds(b"view 1 a 4 4 0 4 auto", sum_of % b"b", b"zoom 1 0 2"), [VIEW, ROWS, VIEW])
         lines = sum_of % b"c", sum_of % b"none", b"sum 1 a b 1 1 4 4 4 4 auto", b"sum 1 a b 1 1 0 4 0 4 auto", b"sum 2 a b 1 1 4 4 0 4 auto"
-        self.assertEqual(self.served.kinds(*lines), [-11, -8, -17, -18, -4])
+        self.assertEqual(self.served.kinds(*lines), [-23, -8, -17, -18, -4])
 
     def test_a_sum_counts_as_a_request_of_its_session(self):
         self.assertEqual(page_rules.number_in(b"sum 7 a b 1 1 4 4 0 4 auto"), b"7")
