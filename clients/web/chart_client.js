@@ -18,13 +18,17 @@ import { Cut, Fields, MOST_SLOTS, Stopped } from "./client/fields.js";
 import { Picture } from "./client/picture.js";
 import { readCatalog, readSwept, readValues } from "./client/told.js";
 import { Rows, Session, View } from "./client/views.js";
-import { REFUSALS } from "./refusals.js";
+import { REFUSALS, numberOf } from "./refusals.js";
 
 export { Picture, Stopped };
 
 const MOST_KEYS = 131072;
 const KINDS = ["", "done", "refused", "opened", "closed", "view", "rows", "live", "catalog", "values", "swept"];
 const [, DONE, REFUSED, OPENED, CLOSED, VIEW, ROWS, LIVE, CATALOG, VALUES, SWEPT] = KINDS.keys();
+
+// The refusals that tell two numbers more, and those that tell one.
+const NAMES_SECOND = ["ViewTooLarge", "Full", "LiveTooLarge"].map(numberOf);
+const NAMES_FIRST = [...["BadLine", "BadFilter"].map(numberOf), ...NAMES_SECOND];
 
 // For each kind of frame the length without items, the length of an item, and the most items.
 const LENGTHS = new Map([
@@ -64,8 +68,8 @@ export function refusalOf(number, a, b) {
 /** A Refused frame, with the name of the refusal and what it means. */
 function readRefusal(fields) {
   const number = fields.byte(1, REFUSALS.length);
-  const a = fields.unsigned([2, 3, 20, 21, 22].includes(number) ? 2n ** 64n : 0);
-  const b = fields.unsigned([20, 21, 22].includes(number) ? 2n ** 64n : 0);
+  const a = fields.unsigned(NAMES_FIRST.includes(number) ? 2n ** 64n : 0);
+  const b = fields.unsigned(NAMES_SECOND.includes(number) ? 2n ** 64n : 0);
   return { kind: KINDS[REFUSED], ...refusalOf(number, a, b) };
 }
 

@@ -26,3 +26,6 @@ export const REFUSALS = [
   ["OtherGrid", "the steps of the two series differ, or their starts by no multiple of the step", ""],
   ["SumTooLarge", "a sum in the window is more than 10^18 in size", ""],
 ];
+
+/** The number of the refusal of a name. */
+export const numberOf = (name) => REFUSALS.findIndex((refusal) => refusal[0] === name) + 1;

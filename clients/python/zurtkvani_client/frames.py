@@ -10,9 +10,11 @@ from itertools import islice
 from .fields import MOST, MOST_SLOTS, Cut, Fields, Stopped  # noqa: F401
 from .picture import Picture, height
 from .told import read_axis, read_catalog, read_span, read_swept, read_values
-from .words import NAMES
+from .words import NAMES, numbers_of
 
 DONE, REFUSED, OPENED, CLOSED, VIEW, ROWS, LIVE, CATALOG, VALUES, SWEPT = range(1, 11)
+NAMES_SECOND = numbers_of("ViewTooLarge", "Full", "LiveTooLarge")  # the refusals that tell two numbers more
+NAMES_FIRST = numbers_of("BadLine", "BadFilter") + NAMES_SECOND  # and those that tell one
 # For each kind the length without items, the length of an item, and the most items.
 LENGTHS = {
     DONE: (9, 1, 0), REFUSED: (18, 1, 0), OPENED: (9, 1, 0), CLOSED: (5, 1, 0), VIEW: (84, 25, 131072), ROWS: (27, 34, 4096),
@@ -219,8 +221,8 @@ def accept(fields, sessions, before_view=None):
         return Done(fields.number(8, 0, MOST_SLOTS)), None
     if kind == REFUSED:
         number = fields.number(1, 1, len(NAMES))
-        a = fields.number(8, 0, 2**64 - 1 if number in (2, 3, 20, 21, 22) else 0)
-        return Refused(number, a, fields.number(8, 0, 2**64 - 1 if number in (20, 21, 22) else 0)), None
+        a = fields.number(8, 0, 2**64 - 1 if number in NAMES_FIRST else 0)
+        return Refused(number, a, fields.number(8, 0, 2**64 - 1 if number in NAMES_SECOND else 0)), None
     if kind in REPORTS:
         return REPORTS[kind](fields, counts[kind]), None
     session = fields.number(4, 1, 2**32 - 1)

@@ -6,6 +6,7 @@ import os
 import re
 
 from .frames import CLOSED, DONE, OPENED, REFUSED, ROWS, VIEW
+from .words import numbers_of
 
 __all__ = ["CLOSED", "DONE", "OPENED", "REFUSED", "ROWS", "VIEW"]
 
@@ -33,7 +34,7 @@ MOST_LINES = 64  # of a request: the edits that a run stores together
 MOST_BYTES = 65536  # of a body
 EDITS = (b"create", b"append", b"set", b"clear")
 OF_SESSION = (b"open", b"close", b"view", b"zoom", b"pan", b"sum")
-UNKNOWN_SESSION, SESSION_OPEN, TOO_MANY = 4, 5, 6  # numbers of refusals
+UNKNOWN_SESSION, SESSION_OPEN, TOO_MANY = numbers_of("UnknownSession", "SessionOpen", "TooManySessions")
 GONE = 30  # seconds from the last request until a session that no page holds is closed
 IDLE = {False: 5, True: 60}  # seconds without a request from which a session gives way, by whether a page holds it
 SWEEP = 5  # from one look at that to the next

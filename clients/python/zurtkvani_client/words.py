@@ -20,6 +20,11 @@ ENTRIES = read_entries()
 NAMES = tuple(entry["name"] for entry in ENTRIES if "refusal" in entry)  # of the refusals, from number 1 on
 
 
+def numbers_of(*names):
+    """The numbers of the refusals of these names."""
+    return [NAMES.index(name) + 1 for name in names]
+
+
 def entry_of(status, place, command):
     """The texts for the status and the place that a command ended with; none where the table has none."""
     for entry in ENTRIES:

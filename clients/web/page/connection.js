@@ -1,4 +1,5 @@
 /** One session of the program, and the client that draws its frames. Requests go one behind the other. */
+import { numberOf } from "../refusals.js";
 import { coverOf, newClient, warm } from "./clients.js";
 import { Denied, ServerSocket, post, request } from "./server.js";
 
@@ -6,9 +7,9 @@ const CACHE = 131072;
 const MOST_BYTES = 4194304; // of a frame, about
 const PATIENCE = 150; // milliseconds until an answer that comes in is shown by its cover
 const BETWEEN_COVERS = 100; // and from one cover to the next
-const [UNKNOWN_SESSION, SESSION_OPEN] = [4, 5];
-export const TOO_MANY_SESSIONS = 6;
-export const BAD_FILTER = 3;
+const [UNKNOWN_SESSION, SESSION_OPEN] = ["UnknownSession", "SessionOpen"].map(numberOf);
+export const TOO_MANY_SESSIONS = numberOf("TooManySessions");
+export const BAD_FILTER = numberOf("BadFilter");
 
 /** A request that the program refused: `frame` has its number, its name and its numbers. */
 export class Refused extends Error {

@@ -1,8 +1,9 @@
 /** What a panel draws: each of its series, or the sum of two, each times a factor; and the lines that ask for it. */
+import { numberOf } from "../refusals.js";
 import { MOST_FACTOR } from "./address.js";
 import { sizeOf } from "./numbers.js";
 
-const UNKNOWN_SERIES = 8;
+const UNKNOWN_SERIES = numberOf("UnknownSeries");
 
 /** Of a view or a sum what its line has in common: the canvas, the window and the range. */
 const placed = ({ w, h }, { t0, t1 }, range) => `${w} ${h} ${t0} ${t1} ${range ? `${range.lo}..${range.hi}` : "auto"}`;

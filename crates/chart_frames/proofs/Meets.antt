@@ -12,7 +12,7 @@ use Rattle.om3_coeff.specs.Keys.{height, IsNode}
 use Rattle.m4_groups.specs.declared.row.Row.{Row}
 use Rattle.whole_number.specs.Range.{IsValue, is_time, is_value, IsTime}
 use Rattle.chart_frames.specs.declared.limits.TheConstants.{MOST_SLOTS}
-use Rattle.chart_frames.specs.declared.refusals.TheConstants.{SUM_TOO_LARGE}
+use Rattle.series_book.specs.declared.refusal_numbers.TheConstants.{SUM_TOO_LARGE}
 use Rattle.whole_number.specs.SlotTimes.{ends_in_time}
 use Rattle.chart_frames.specs.declared.frame.ViewFrame.{ViewFrame}
 use Rattle.chart_frames.specs.declared.frame.RowsFrame.{RowsFrame}

@@ -6,8 +6,8 @@ use Rattle.whole_number.specs.Range.{is_time, is_value}
 use Rattle.whole_number.specs.SlotTimes.{ends_in_time}
 use Rattle.om3_coeff.specs.Keys.{height}
 use Rattle.series_book.specs.Names.{is_name}
+use Rattle.series_book.specs.declared.refusal_numbers.TheConstants.{BAD_FILTER, BAD_LINE, FULL, LIVE_TOO_LARGE, SUM_TOO_LARGE, VIEW_TOO_LARGE}
 use Rattle.chart_frames.specs.declared.limits.TheConstants.{MOST_SLOTS}
-use Rattle.chart_frames.specs.declared.refusals.TheConstants.{LIVE_TOO_LARGE, SUM_TOO_LARGE}
 use Rattle.chart_frames.specs.Format.{Format, stop, field, number_bytes}
 
 -- eight bytes in two's complement
@@ -205,10 +205,10 @@ done_fields = field 8 (λ slots. nat_le slots MOST_SLOTS) (λ slots. stop)
 
 -- the numbers of refusals that tell a first and a second number more
 abbrev pub names_second : ℕ → Bool
-names_second number = number == 20 || (number == 21 || number == LIVE_TOO_LARGE)
+names_second number = number == VIEW_TOO_LARGE || (number == FULL || number == LIVE_TOO_LARGE)
 
 abbrev pub names_first : ℕ → Bool
-names_first number = number == 2 || (number == 3 || names_second number)
+names_first number = number == BAD_LINE || (number == BAD_FILTER || names_second number)
 
 unfoldable pub refused_fields : Format
 refused_fields =

@@ -10,7 +10,7 @@ use Rattle.m4_groups.specs.Rows.{AreRising}
 use Rattle.whole_number.specs.Range.{IsValue, IsTime}
 use Rattle.whole_number.specs.SlotTimes.{EndsInTime}
 use Rattle.chart_frames.specs.declared.limits.TheConstants.{MOST_SLOTS}
-use Rattle.chart_frames.specs.declared.refusals.TheConstants.{SUM_TOO_LARGE}
+use Rattle.series_book.specs.declared.refusal_numbers.TheConstants.{SUM_TOO_LARGE}
 use Rattle.chart_frames.specs.declared.frame.Frame.{Frame}
 use Rattle.chart_frames.specs.declared.frame.Frame.TheVariants.{Done, Refused, Opened, Closed, View, Rows, Live}
 use Rattle.chart_frames.specs.declared.frame.Frame.TheVariants as frames

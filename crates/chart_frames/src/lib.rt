@@ -28,7 +28,6 @@ pub mod laws;
 mod limits;
 mod opening;
 mod place;
-pub mod refusals;
 mod report_encoding;
 mod report_lists;
 mod reports;

@@ -18,11 +18,13 @@ use crate::heads::{
 };
 use crate::item_stop::ItemStop;
 use crate::limits::{MOST_CLEARS, MOST_COEFS, MOST_SLOTS};
-use crate::refusals::{LIVE_TOO_LARGE, SUM_TOO_LARGE};
 use crate::reports::Report;
 use crate::values_reading::values_at;
 use m4_groups::Rows;
 use om3_coeff::Coefs;
+use series_book::refusal_numbers::{
+    BAD_FILTER, BAD_LINE, FULL, LIVE_TOO_LARGE, SUM_TOO_LARGE, VIEW_TOO_LARGE,
+};
 use std::alloc::Global;
 
 /// What stands at the front of a stream.
@@ -74,14 +76,14 @@ fn done_at(bytes: &[u8]) -> Result<(Frame, &[u8]), Stop>
 fn names_second(number: u8) -> bool
     ensures { result ≡ names_second number }
 {
-    number == 20 || number == 21 || number == LIVE_TOO_LARGE
+    number == VIEW_TOO_LARGE || number == FULL || number == LIVE_TOO_LARGE
 }
 
 fn names_first(number: u8) -> bool
     ensures { result ≡ names_first number }
 {
     let second = names_second(number);
-    number == 2 || number == 3 || second
+    number == BAD_LINE || number == BAD_FILTER || second
 }
 
 #[tactic(auto, unfolding(crate::specs::Fields::refused_fields))]

@@ -65,5 +65,6 @@ module _ (old new : View) (t : Traffic) where
     store = record { goes_on = e.goes_on; away = away };
     kept = record { holds = e.holds; crash = e.crash };
     few = e.few;
+    line = e.faulty;
     good = told_so (Sends end) (λ input. AreDerived old new input → IsDoneOrCut end) t.left (derive_good end e.cause) e.sent;
   }

@@ -29,7 +29,8 @@ use Rattle.chart_program.proofs.Counts.{told_any}
 use Rattle.chart_program.proofs.DiskKept.{alone_leaves, alone_holds}
 use Rattle.chart_program.proofs.EndsByCode.{Came, by_code}
 use Rattle.draw_command.proofs.DrawnFrames.{Stay}
-use Rattle.chart_program.proofs.Parsing.{Known, AllDraw, OwnDraw, bad_never, much_never, missing_never, misfit_never, unopened_never, replies_drawn, good_so, AllAccepted, OwnAccepted, replies_end}
+use Rattle.chart_program.proofs.DrawnBook.{Book, Good, replies_drawn, replies_end}
+use Rattle.chart_program.proofs.Parsing.{Known, bad_never, much_never, missing_never, misfit_never, unopened_never, good_so}
 
 slots_good : (o : Option (List ℕ)) (P : Type 0) → P → IfSome o (λ input. IsSlots input → P)
 slots_good None P is = tt
@@ -148,10 +149,10 @@ module _ {T : Type 0} (old new : View) (left left' before now : Option (List ℕ
   draw_came (Err (BadCoefficient key)) done within ends read send = keyed left before now None BadCoefficient key ends
   draw_came (Err (UnknownSession n)) done within ends read send = ends
 
-  pub drawn : Known → Stay → AllDraw → OwnDraw → AllAccepted → OwnAccepted → (r : Result T DrawEnd) → OnOk r (IfSome left (λ input. DrawsAll None input before now)) → OnOk r (WasRead left left')
+  pub drawn : Known → Stay → Book → Good → (r : Result T DrawEnd) → OnOk r (IfSome left (λ input. DrawsAll None input before now)) → OnOk r (WasRead left left')
       → IfErr r (λ end. IfSome left (λ input. EndsDraw None input left' before now end)) → (r ≡ Err ReadFault → HasRisen faults.reads faults.reads_now) → (r ≡ Err draw_end.SendFault → HasRisen faults.sends faults.sends_now) → StaysAlone old new
       → CommandEnds Draw old new left left' before now faults (code_of (drawing_end r)) (place_of (drawing_end r))
-  drawn known stay draws own accepts own_accepts r done within ends read send disk = by_code Draw old new left left' before now faults (drawing_end r) (record {
+  drawn known stay book good r done within ends read send disk = by_code Draw old new left left' before now faults (drawing_end r) (record {
     came = draw_came r done within ends read send;
     own = drawing_own r;
     away = λ over. absurd over;
@@ -161,13 +162,13 @@ module _ {T : Type 0} (old new : View) (left left' before now : Option (List ℕ
     syncs = told_any left;
     unnamed = tt;
     nothing = λ whole part quiet. absurd (quiet tt);
-    pictures = λ is command. replies_drawn known draws own left before now (drawing_done r _ done is);
+    pictures = λ is command. replies_drawn book left before now (drawing_done r _ done is);
     holds = λ other. told_all left _ (alone_holds old new disk);
     crash = all_told left before _ (alone_leaves old new disk);
     disk = disk.kept;
     honest = kept_told old new disk.kept;
     complete = drawing_good None known stay r ends;
-    drawn = λ command. replies_end accepts own_accepts left _ (drawing_good None known stay r ends);
+    drawn = λ command. replies_end good left _ (drawing_good None known stay r ends);
     ready = λ command. cc;
   })
 

@@ -17,7 +17,7 @@ use Rattle.chart_program.specs.Served.{Faults}
 use Rattle.chart_program.specs.Ran.{AreLines, CommandEnds}
 use Rattle.chart_program.proofs.Codes.{told_past}
 use Rattle.chart_program.proofs.EndsByCode.{Came, by_code, completes}
-use Rattle.chart_program.proofs.HostPage.{hosted_code, of_host}
+use Rattle.chart_program.proofs.HostPage.{good_host, hosted_code}
 use Rattle.chart_program.proofs.LiveEnds.{live_own, passed}
 
 taken : (old new : View) (left left' before now : Option (List ℕ))
@@ -67,7 +67,7 @@ module _ (old new : View) (left left' before now : Option (List ℕ)) (faults : 
     disk = e.goes_on;
     honest = e.honest;
     complete = completes left (λ input. AreLines old new input) (hosting_end end)
-        (of_host old new (passed left left' before now faults) end e away costs).good;
+        (good_host old new (passed left left' before now faults) end e);
     drawn = λ command. cc;
     ready = λ command. cc;
   })

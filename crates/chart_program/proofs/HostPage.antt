@@ -4,6 +4,7 @@ use Rattle.block_disk.specs.View.{View}
 use Rattle.chart_world.specs.LineLaws.{told_so}
 use Rattle.gate_pages.specs.Journal.{page_count}
 use Rattle.host_command.specs.Ended.{CostsHosting, HostEnds, IsHostCause}
+use Rattle.hosted_lines.specs.Answers.{MayAnswerHost, SendsAnswers}
 use Rattle.hosted_lines.specs.Running.{EndsSo}
 use Rattle.hosted_lines.specs.Begun.{begun_live}
 use Rattle.run_ends.specs.Faults.{end_fault}
@@ -16,6 +17,7 @@ use Rattle.store_commands.specs.Books.{Holds, OfBook}
 use Rattle.store_commands.specs.Traffic.{Traffic}
 use Rattle.chart_program.specs.Course.{Course, IsDoneOrCut}
 use Rattle.chart_program.specs.Host.{HostDoes, OfHost, hosting_end}
+use Rattle.chart_program.specs.LineAnswers.{NoneIsPassedBy}
 use Rattle.chart_program.specs.Serve.{AreLines}
 
 -- the call that failed stays, and so does the code
@@ -60,13 +62,24 @@ module _ (old new : View) (t : Traffic) where
   host_good InputTooLong cause input does r = absurd (omega (arith, r.short, (does r.total r.book r.holds).past))
   host_good end cause input does r = absurd (does r.total r.book r.holds)
 
+  pub good_host : (end : End) → HostEnds old new t end → IfSome t.left (λ input. AreLines old new input → IsDoneOrCut (hosting_end end))
+  good_host end e =
+      told_so (Answers end) (λ input. AreLines old new input → IsDoneOrCut (hosting_end end)) t.left (host_good end e.cause) e.does
+
+  abbrev AreAnswered : Type 0
+  AreAnswered = IfSome t.left (λ input. SendsAnswers MayAnswerHost input t.sent t.sent_now)
+
+  host_passed : (end : End) → (end ≡ Done → AreAnswered) → NoneIsPassedBy MayAnswerHost at (hosting_end end)
+  host_passed Done answered = answered refl
+  host_passed end answered = tt
+
   pub of_host : (end : End) → HostEnds old new t end → TurnsAway old t (status_of end)
-      → IfSome t.left (CostsHosting old new) → OfHost at (hosting_end end)
-  of_host end e away costs = record {
+      → IfSome t.left (CostsHosting old new) → (end ≡ Done → AreAnswered) → OfHost at (hosting_end end)
+  of_host end e away costs answered = record {
     does = host_does end e.cause e.does;
     store = record { goes_on = e.goes_on; away = (let A : ℕ → Type 0 = λ n. old.size < 128 → IsTurnedAway t.left t.left_now t.sent t.sent_now n in subst A (sym (hosted_code end)) away) };
     crash = e.crash;
     costs = costs;
-    good = told_so (Answers end) (λ input. AreLines old new input → IsDoneOrCut (hosting_end end)) t.left
-        (host_good end e.cause) e.does;
+    good = good_host end e;
+    passed = host_passed end answered;
   }

@@ -9,6 +9,7 @@ pub mod Running
 pub mod ShownFrames
 pub mod Telling
 pub mod Parsing
+pub mod DrawnBook
 pub mod Ended
 pub mod Faults
 pub mod FirstOpened

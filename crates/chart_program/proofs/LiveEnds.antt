@@ -16,7 +16,7 @@ use Rattle.chart_program.specs.Served.{Faults}
 use Rattle.chart_program.specs.Ran.{AreLines, CommandEnds}
 use Rattle.chart_program.proofs.Codes.{told_long}
 use Rattle.chart_program.proofs.EndsByCode.{Came, by_code, completes}
-use Rattle.chart_program.proofs.LivePage.{of_live}
+use Rattle.chart_program.proofs.LivePage.{good_live}
 
 abbrev pub passed : (left left' before now : Option (List ℕ)) → Faults → Traffic
 passed left left' before now faults = record { left = left; left_now = left'; sent = before; sent_now = now; reads = faults.reads; reads_now = faults.reads_now; sends = faults.sends; sends_now = faults.sends_now }
@@ -67,7 +67,7 @@ module _ (old new : View) (left left' before now : Option (List ℕ)) (faults : 
     crash = e.crash;
     disk = e.goes_on;
     honest = e.honest;
-    complete = completes left (λ input. AreLines old new input) end (of_live old new (passed left left' before now faults) end e away reads syncs).good;
+    complete = completes left (λ input. AreLines old new input) end (good_live old new (passed left left' before now faults) end e);
     drawn = λ command. cc;
     ready = λ command. cc;
   })

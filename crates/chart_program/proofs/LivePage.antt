@@ -1,10 +1,12 @@
 -- The command `live` did as its page says.
-use Rattle.std.proofs.Common.{ℕ, List, IfSome, arith}
+use Rattle.std.proofs.Common.{◌≡◌, ℕ, List, IfSome, arith, refl}
 use Rattle.block_disk.specs.View.{View}
 use Rattle.chart_world.specs.LineLaws.{told_so}
 use Rattle.gate_pages.specs.Journal.{page_count}
 use Rattle.live_command.specs.Ended.{IsLiveCause, LiveEnds, ReadsLiving, SyncsLiving}
+use Rattle.hosted_lines.specs.Answers.{SendsAnswers}
 use Rattle.hosted_lines.specs.Begun.{begun_live}
+use Rattle.live_service.specs.Kinds.{MayAnswerLive}
 use Rattle.live_command.specs.Running.{EndsSo}
 use Rattle.run_ends.specs.Statuses.{status_of}
 use Rattle.run_ends.specs.declared.ending.End.{End}
@@ -14,6 +16,7 @@ use Rattle.store_commands.specs.Away.{TurnsAway}
 use Rattle.store_commands.specs.Books.{Holds, OfBook}
 use Rattle.store_commands.specs.Traffic.{Traffic}
 use Rattle.chart_program.specs.Course.{Course, IsDoneOrCut}
+use Rattle.chart_program.specs.LineAnswers.{NoneIsPassedBy}
 use Rattle.chart_program.specs.Live.{LiveDoes, OfLive}
 use Rattle.chart_program.specs.Serve.{AreLines}
 
@@ -47,12 +50,23 @@ module _ (old new : View) (t : Traffic) where
   live_good InputTooLong cause input does r = absurd (omega (arith, r.short, (does r.total r.book r.holds).past))
   live_good end cause input does r = absurd (does r.total r.book r.holds)
 
-  pub of_live : (end : End) → LiveEnds old new t end → TurnsAway old t (status_of end) → IfSome t.left (ReadsLiving old new) → IfSome t.left (SyncsLiving old new) → OfLive at end
-  of_live end e away reads syncs = record {
+  pub good_live : (end : End) → LiveEnds old new t end → IfSome t.left (λ input. AreLines old new input → IsDoneOrCut end)
+  good_live end e = told_so (Answers end) (λ input. AreLines old new input → IsDoneOrCut end) t.left (live_good end e.cause) e.does
+
+  abbrev AreAnswered : Type 0
+  AreAnswered = IfSome t.left (λ input. SendsAnswers MayAnswerLive input t.sent t.sent_now)
+
+  live_passed : (end : End) → (end ≡ Done → AreAnswered) → NoneIsPassedBy MayAnswerLive at end
+  live_passed Done answered = answered refl
+  live_passed end answered = tt
+
+  pub of_live : (end : End) → LiveEnds old new t end → TurnsAway old t (status_of end) → IfSome t.left (ReadsLiving old new) → IfSome t.left (SyncsLiving old new) → (end ≡ Done → AreAnswered) → OfLive at end
+  of_live end e away reads syncs answered = record {
     does = live_does end e.cause e.does;
     store = record { goes_on = e.goes_on; away = away };
     crash = e.crash;
     reads = reads;
     syncs = syncs;
-    good = told_so (Answers end) (λ input. AreLines old new input → IsDoneOrCut end) t.left (live_good end e.cause) e.does;
+    good = good_live end e;
+    passed = live_passed end answered;
   }

@@ -68,5 +68,6 @@ module _ (name : List ℕ) (old new : View) (t : Traffic) where
     unnamed = e.unnamed;
     lacks = e.lacks;
     crash = both_told t.left t.sent _ _ e.crash e.kept;
+    costs = e.costs;
     good = good_of t.left refl end e.is;
   }

@@ -1,17 +1,13 @@
 -- Bytes are the spellings of one list of frames.
 use Rattle.std.proofs.Common.{◌≡◌, ℕ, ◌+◌, ◌<◌, ◌^◌, ◌⊎◌, inl, inr, List, [], ◌∷◌, ◌++◌, length, Option, None, Some, IfSome, refl, ap, sym, subst, ◌∙◌, arith, append_assoc, length-append}
-use Rattle.std.specs.Prelude.{flat_map, All, map}
-use Rattle.std.specs.List.{filter}
+use Rattle.std.specs.Prelude.{flat_map, All}
 use Rattle.std.proofs.lemmas.List.{take_all}
-use Rattle.std.proofs.lemmas.List.Elements.{All-nil, All-cons, All-head, All-tail, All-filter}
+use Rattle.std.proofs.lemmas.List.Elements.{All-head, All-tail}
 use Rattle.chart_frames.specs.declared.frame.Frame.{Frame}
 use Rattle.chart_frames.specs.Format.{Breaks, number_in}
 use Rattle.chart_frames.specs.Fields.{frame_fields}
 use Rattle.chart_frames.specs.declared.frame.Frame.TheVariants.{Done}
 use Rattle.chart_frames.specs.Frames.{Fits, spelling}
-use Rattle.chart_service.specs.State.{State, IsSound}
-use Rattle.chart_service.specs.Serving.{RepliesToAll}
-use Rattle.chart_service.specs.Alone.{only}
 use Rattle.chart_frames.specs.Pending.{Pending, held}
 use Rattle.line_raster.specs.Canvas.{Canvas}
 use Rattle.om3_coeff.specs.declared.key.Key.{Key}
@@ -19,20 +15,14 @@ use Rattle.chart_client.specs.declared.holding.Holding.{Holding}
 use Rattle.chart_client.specs.declared.errors.ClientError.{ClientError}
 use Rattle.chart_client.specs.declared.errors.ClientError.TheVariants as client
 use Rattle.chart_client.specs.Accepting.{Rejects}
-use Rattle.drawn_replies.specs.Mirrors.{mirrored, Mirrors}
-use Rattle.drawn_replies.specs.Pictures.{AcceptsAll, ArePictured, AreOwnPictured, NoneRejected, names}
+use Rattle.drawn_replies.specs.Pictures.{AcceptsAll, NoneRejected}
 use Rattle.draw_command.specs.declared.draw_end.DrawEnd.{DrawEnd}
 use Rattle.draw_command.specs.declared.draw_end.DrawEnd.TheVariants as draw_end
 use Rattle.draw_command.specs.Covers.{picture_bytes, SendsFrames}
-use Rattle.draw_command.specs.Draws.{DrawsMore, DrawsAll, FramesStop, StopsAtFrame, IsCut, DrawsWithin, IsFront, EndsDraw}
-use Rattle.block_disk.specs.View.{View}
-use Rattle.program_words.specs.declared.words.Command.{Command}
-use Rattle.program_words.specs.declared.words.Command.TheVariants.{Plot, Load, Demo, Run, Serve, Draw, Init, Check, ListSeries, Export, Retain, Cover, Live, Host, Derive}
-use Rattle.chart_program.specs.Ran.{AreReplies, IsFrames, IsOfReplies, DrawsReplies, CoversReplies, CoversBook, SendsAll}
-use Rattle.chart_program.specs.Replies.{DrawsBook}
+use Rattle.draw_command.specs.Draws.{DrawsMore, FramesStop, StopsAtFrame, IsCut, DrawsWithin, IsFront, EndsDraw}
+use Rattle.chart_program.specs.Draw.{IsFrames}
 use Rattle.draw_command.proofs.DrawnFrames.{Good, Stay}
 use Rattle.pbm_writer.specs.Picture.{picture}
-use Rattle.block_disk.specs.Streams.{sent_after}
 
 abbrev pub OneFrame : Type 0
 OneFrame = (f g : Frame) (x y : List ℕ) → Fits f → Fits g → spelling f ++ x ≡ spelling g ++ y → (f ≡ g) × (x ≡ y)
@@ -101,14 +91,14 @@ next_rejected k all more frames drawings holdings rest f behind e none split fit
     not_rejected k all frames more holdings drawings f behind e none split fit accepted fits (sym is ∙ front) rejects
 
 -- a client accepts the frames that were drawn
-accepted_by : (every : Option ℕ) (frames : List Frame) (drawings : List (Option Canvas)) (h h' : List Holding) (bytes : List ℕ) → SendsFrames every frames drawings h h' bytes → AcceptsAll h frames drawings h'
+pub accepted_by : (every : Option ℕ) (frames : List Frame) (drawings : List (Option Canvas)) (h h' : List Holding) (bytes : List ℕ) → SendsFrames every frames drawings h h' bytes → AcceptsAll h frames drawings h'
 accepted_by every [] [] h h' bytes all = all.0
 accepted_by every [] (d ∷ ds) h h' bytes all = absurd all
 accepted_by every (f ∷ fs) [] h h' bytes all = absurd all
 accepted_by every (f ∷ fs) (d ∷ ds) h h' bytes all = (all.0, all.3.accepted, accepted_by every fs ds all.0 h' all.2 all.4)
 
 -- without covers their pictures alone were sent
-pictured_by : (frames : List Frame) (drawings : List (Option Canvas)) (h h' : List Holding) (bytes : List ℕ) → SendsFrames None frames drawings h h' bytes → bytes ≡ flat_map picture_bytes drawings
+pub pictured_by : (frames : List Frame) (drawings : List (Option Canvas)) (h h' : List Holding) (bytes : List ℕ) → SendsFrames None frames drawings h h' bytes → bytes ≡ flat_map picture_bytes drawings
 pictured_by [] [] h h' bytes all = all.1
 pictured_by [] (d ∷ ds) h h' bytes all = absurd all
 pictured_by (f ∷ fs) [] h h' bytes all = absurd all
@@ -196,22 +186,7 @@ module _ (every : Option ℕ) where
   unopened_never k P None left before now n ends = tt
   unopened_never k P (Some input) left before now n ends = λ good. absurd (no_unopened k input n before now good ends)
 
--- ---- the frames that answer lines
-
-abbrev pub AllDraw : Type 0
-AllDraw = (lines : List (Option (List ℕ))) (frames : List Frame) (drawings : List (Option Canvas)) (old new : State) (holdings now : List Holding) → IsSound old
-    → RepliesToAll old lines frames new → Mirrors old.sessions holdings → AcceptsAll holdings frames drawings now → ArePictured old lines frames drawings new × Mirrors new.sessions now
-
-abbrev pub OwnDraw : Type 0
-OwnDraw = (n : ℕ) (lines : List (Option (List ℕ))) (frames : List Frame) (drawings : List (Option Canvas)) (old new : State) (holdings now : List Holding) → IsSound old
-    → RepliesToAll old lines frames new → Mirrors (only n old.sessions) holdings → AcceptsAll holdings (filter (names n) frames) drawings now
-    → AreOwnPictured n old lines frames drawings new × Mirrors (only n new.sessions) now
-
-replies_fit : (lines : List (Option (List ℕ))) (frames : List Frame) (old new : State) → RepliesToAll old lines frames new → All Fits frames
-replies_fit [] [] old new replied = All-nil Fits
-replies_fit [] (f ∷ fs) old new replied = absurd replied
-replies_fit (l ∷ ls) [] old new replied = absurd replied
-replies_fit (l ∷ ls) (f ∷ fs) old new replied = All-cons Fits f fs replied.1.1 (replies_fit ls fs replied.0 new replied.2)
+-- ---- all frames of an input
 
 none_more : Known → (more : List Frame) → All Fits more → [] ≡ flat_map spelling more → more ≡ []
 none_more k [] fit none = refl
@@ -222,146 +197,13 @@ append_no_frame [] = refl
 append_no_frame (f ∷ fs) = ap (λ l. f ∷ l) (append_no_frame fs)
 
 -- the frames that were drawn are all of them
-all_drawn : Known → (every : Option ℕ) (input : List ℕ) (frames : List Frame) (given : ℕ) (holdings : List Holding) (before now : Option (List ℕ)) → All Fits frames → input ≡ flat_map spelling frames
+pub all_drawn : Known → (every : Option ℕ) (input : List ℕ) (frames : List Frame) (given : ℕ) (holdings : List Holding) (before now : Option (List ℕ)) → All Fits frames → input ≡ flat_map spelling frames
     → (d : DrawsMore every (held 0 input) (held given []) [] holdings before now) → d.frames ≡ frames
 all_drawn k every input frames given holdings before now fit spelled d =
     let b = begins k d.frames frames [] d.fit fit (sym spelled ∙ d.split) in
     sym (b.split ∙ ap (λ m. d.frames ++ m) (none_more k b.more b.fit b.behind) ∙ append_no_frame d.frames)
 
--- what was drawn and sent for the frames that answer lines
-record RepliesDrawn (every : Option ℕ) (old new : State) (lines : List (Option (List ℕ))) (frames : List Frame) (before now : Option (List ℕ)) : Type 0 where
-  drawings : List (Option Canvas)
-  pictured : ArePictured old lines frames drawings new
-  holdings : List Holding
-  bytes : List ℕ
-  sends : SendsFrames every frames drawings [] holdings bytes
-  sent : now ≡ sent_after bytes before
-
--- for those of one session
-record OwnDrawn (every : Option ℕ) (n : ℕ) (old new : State) (lines : List (Option (List ℕ))) (frames : List Frame) (before now : Option (List ℕ)) : Type 0 where
-  drawings : List (Option Canvas)
-  pictured : AreOwnPictured n old lines frames drawings new
-  holdings : List Holding
-  bytes : List ℕ
-  sends : SendsFrames every (filter (names n) frames) drawings [] holdings bytes
-  sent : now ≡ sent_after bytes before
-
-replies_by : Known → AllDraw → (every : Option ℕ) (input : List ℕ) (before now : Option (List ℕ)) → DrawsAll every input before now → (old new : State) (lines : List (Option (List ℕ))) (frames : List Frame)
-    → AreReplies old lines frames new → input ≡ flat_map spelling frames → RepliesDrawn every old new lines frames before now
-replies_by k draws every input before now all old new lines frames r spelled =
-    let d = all.2 in
-    let same = all_drawn k every input frames all.0 all.1 before now (replies_fit lines frames old new r.replied) spelled d in
-    let S : List Frame → Type 0 = λ fs. SendsFrames every fs d.drawings [] all.1 d.bytes in
-    let sends = subst S same d.sends in
-    record {
-      drawings = d.drawings;
-      pictured = (draws lines frames d.drawings old new [] all.1 r.sound r.replied (ap (λ ss. map mirrored ss) (sym r.alone)) (accepted_by every frames d.drawings [] all.1 d.bytes sends)).0;
-      holdings = all.1;
-      bytes = d.bytes;
-      sends = sends;
-      sent = d.sent;
-    }
-
-own_by : Known → OwnDraw → (every : Option ℕ) (input : List ℕ) (before now : Option (List ℕ)) → DrawsAll every input before now → (n : ℕ) (old new : State) (lines : List (Option (List ℕ))) (frames : List Frame)
-    → AreReplies old lines frames new → input ≡ flat_map spelling (filter (names n) frames) → OwnDrawn every n old new lines frames before now
-own_by k own every input before now all n old new lines frames r spelled =
-    let d = all.2 in
-    let fit = All-filter (names n) Fits frames (replies_fit lines frames old new r.replied) in
-    let same = all_drawn k every input (filter (names n) frames) all.0 all.1 before now fit spelled d in
-    let S : List Frame → Type 0 = λ fs. SendsFrames every fs d.drawings [] all.1 d.bytes in
-    let sends = subst S same d.sends in
-    record {
-      drawings = d.drawings;
-      pictured = (own n lines frames d.drawings old new [] all.1 r.sound r.replied (ap (λ ss. map mirrored (only n ss)) (sym r.alone)) (accepted_by every (filter (names n) frames) d.drawings [] all.1 d.bytes sends)).0;
-      holdings = all.1;
-      bytes = d.bytes;
-      sends = sends;
-      sent = d.sent;
-    }
-
-replies_at : Known → AllDraw → OwnDraw → (input : List ℕ) (before now : Option (List ℕ)) → DrawsAll None input before now → DrawsReplies input before now
-replies_at k draws own input before now all = record {
-  all = λ old new lines frames r spelled.
-      let d = replies_by k draws None input before now all old new lines frames r spelled in
-      record { drawings = d.drawings; pictured = d.pictured; sent = d.sent ∙ ap (λ l. sent_after l before) (pictured_by frames d.drawings [] d.holdings d.bytes d.sends) };
-  own = λ n old new lines frames r spelled.
-      let d = own_by k own None input before now all n old new lines frames r spelled in
-      record { drawings = d.drawings; pictured = d.pictured; sent = d.sent ∙ ap (λ l. sent_after l before) (pictured_by (filter (names n) frames) d.drawings [] d.holdings d.bytes d.sends) };
-}
-
--- with covers
-replies_covered : Known → AllDraw → OwnDraw → (every : ℕ) (input : List ℕ) (before now : Option (List ℕ)) → DrawsAll (Some every) input before now → CoversReplies every input before now
-replies_covered k draws own every input before now all = record {
-  all = λ old new lines frames r spelled.
-      let d = replies_by k draws (Some every) input before now all old new lines frames r spelled in
-      record { drawings = d.drawings; pictured = d.pictured; holdings = d.holdings; bytes = d.bytes; sends = d.sends; sent = d.sent };
-  own = λ n old new lines frames r spelled.
-      let d = own_by k own (Some every) input before now all n old new lines frames r spelled in
-      record { drawings = d.drawings; pictured = d.pictured; holdings = d.holdings; bytes = d.bytes; sends = d.sends; sent = d.sent };
-}
-
--- of the frames that answer lines the pictures of the book were sent
-pub draws_book : Known → AllDraw → OwnDraw → (every : Option ℕ) (input : List ℕ) (before now : Option (List ℕ)) → DrawsAll every input before now → DrawsBook every input before now
-draws_book k draws own None input before now all = replies_at k draws own input before now all
-draws_book k draws own (Some every) input before now all = replies_covered k draws own every input before now all
-
-covers_at : Known → AllDraw → OwnDraw → (command : Command) (old new : View) (input : List ℕ) (before now : Option (List ℕ)) → SendsAll command old new input before now → CoversBook command old new input before now
-covers_at k draws own (Plot w h) old new input before now all = tt
-covers_at k draws own (Load name) old new input before now all = tt
-covers_at k draws own (Demo seed rounds) old new input before now all = tt
-covers_at k draws own Run old new input before now all = tt
-covers_at k draws own Serve old new input before now all = tt
-covers_at k draws own Draw old new input before now all = tt
-covers_at k draws own Init old new input before now all = tt
-covers_at k draws own Check old new input before now all = tt
-covers_at k draws own ListSeries old new input before now all = tt
-covers_at k draws own (Export name window) old new input before now all = tt
-covers_at k draws own Retain old new input before now all = tt
-covers_at k draws own Live old new input before now all = tt
-covers_at k draws own Host old new input before now all = tt
-covers_at k draws own Derive old new input before now all = tt
-covers_at k draws own (Cover every) old new input before now all = replies_covered k draws own every input before now all
-
-pub covers_book : Known → AllDraw → OwnDraw → (command : Command) (old new : View) (o before now : Option (List ℕ)) → IfSome o (λ input. SendsAll command old new input before now) → IfSome o (λ input. CoversBook command old new input before now)
-covers_book k draws own command old new None before now all = tt
-covers_book k draws own command old new (Some input) before now all = covers_at k draws own command old new input before now all
-
-pub replies_drawn : Known → AllDraw → OwnDraw → (o before now : Option (List ℕ)) → IfSome o (λ input. DrawsAll None input before now) → IfSome o (λ input. DrawsReplies input before now)
-replies_drawn k draws own None before now all = tt
-replies_drawn k draws own (Some input) before now all = replies_at k draws own input before now all
-
 -- what holds at all holds of good input
 pub good_so : (o : Option (List ℕ)) (P : Type 0) → P → IfSome o (λ input. IsFrames input → P)
 good_so None P holds = tt
 good_so (Some input) P holds = λ good. holds
-
--- ---- the frames that answer lines are good input
-
-abbrev pub AllAccepted : Type 0
-AllAccepted = (lines : List (Option (List ℕ))) (frames : List Frame) (old new : State) → IsSound old → old.sessions ≡ [] → RepliesToAll old lines frames new → NoneRejected frames
-
-abbrev pub OwnAccepted : Type 0
-OwnAccepted = (n : ℕ) (lines : List (Option (List ℕ))) (frames : List Frame) (old new : State) → IsSound old → old.sessions ≡ [] → RepliesToAll old lines frames new → NoneRejected (filter (names n) frames)
-
-pub replies_good : AllAccepted → OwnAccepted → (input : List ℕ) → IsOfReplies input → IsFrames input
-replies_good all own input r =
-    let fit = replies_fit r.lines r.frames r.old r.new r.replied.replied in
-    elim r.spelled [
-      | inl whole ↦ record { frames = r.frames; fit = fit; spelled = whole; accepted = all r.lines r.frames r.old r.new r.replied.sound r.replied.alone r.replied.replied; short = r.short }
-      | inr one ↦ record {
-        frames = filter (names one.0) r.frames;
-        fit = All-filter (names one.0) Fits r.frames fit;
-        spelled = one.1;
-        accepted = own one.0 r.lines r.frames r.old r.new r.replied.sound r.replied.alone r.replied.replied;
-        short = r.short;
-      }
-    ]
-
-pub replies_end : AllAccepted → OwnAccepted → (o : Option (List ℕ)) (P : Type 0) → IfSome o (λ input. IsFrames input → P) → IfSome o (λ input. IsOfReplies input → P)
-replies_end all own None P good = tt
-replies_end all own (Some input) P good = λ r. good (replies_good all own input r)
-
--- what holds at all holds where the input is those frames
-pub told_good : (o : Option (List ℕ)) (P : Type 0) → P → IfSome o (λ input. IsOfReplies input → P)
-told_good None P holds = tt
-told_good (Some input) P holds = λ r. holds

@@ -55,5 +55,7 @@ module _ (old new : View) (t : Traffic) where
     does = retain_does end e.cause e.does;
     store = record { goes_on = e.goes_on; away = away };
     crash = e.crash;
+    costs = e.costs;
+    line = e.faulty;
     good = told_so (Sweeps end) (λ input. AreRetained old new input → IsDoneOrCut end) t.left (retain_good end e.cause) e.does;
   }

@@ -126,6 +126,7 @@ module _ (c : Course) (sends sends_now : ℕ) where
       store = record { goes_on = e.goes_on; away = away };
       untaken = took;
       crash = e.crash;
+      costs = e.costs;
       good = λ r. demo_good r end e.is;
     }
 
@@ -162,6 +163,8 @@ module _ (c : Course) (sends sends_now : ℕ) where
       kept = record { holds = e.holds; crash = e.crash };
       few = e.few;
       reads = e.reads;
+      salvaged = e.salvaged;
+      held_reads = e.held_reads;
       good = λ r. export_good r end e.is;
     }
 

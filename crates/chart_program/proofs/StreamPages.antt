@@ -22,7 +22,8 @@ use Rattle.chart_program.specs.Replies.{DrawsBook}
 use Rattle.chart_program.specs.Slots.{FirstBad, HasTooMany, IsTooLong, most_slots}
 use Rattle.chart_program.proofs.Codes.{no_bad, no_much}
 use Rattle.chart_program.proofs.DiskKept.{alone_keeps, alone_leaves}
-use Rattle.chart_program.proofs.Parsing.{AllAccepted, AllDraw, Known, OwnAccepted, OwnDraw, bad_never, draws_book, good_so, misfit_never, missing_never, much_never, replies_end, unopened_never}
+use Rattle.chart_program.proofs.DrawnBook.{Book, Good, replies_end}
+use Rattle.chart_program.proofs.Parsing.{Known, bad_never, good_so, misfit_never, missing_never, much_never, unopened_never}
 
 kept_alone : (c : Course) → StaysAlone c.old c.new → KeptBook c
 kept_alone c alone = record { holds = alone_keeps c.old c.new alone; crash = alone_leaves c.old c.new alone }
@@ -70,17 +71,17 @@ module _ {T : Type 0} (c : Course) where
   -- ---- a drawing, with covers or with none
 
   module _ (every : Option ℕ) where
-    draw_does : Known → AllDraw → OwnDraw → (r : Result T DrawEnd) → OnOk r (IsShort c) → OnOk r (OfInput c (λ input. DrawsAll every input c.sent c.sent_now)) → IfErr r (λ end. OfInput c (λ input. EndsDraw every input c.left_now c.sent c.sent_now end))
+    draw_does : Book → (r : Result T DrawEnd) → OnOk r (IsShort c) → OnOk r (OfInput c (λ input. DrawsAll every input c.sent c.sent_now)) → IfErr r (λ end. OfInput c (λ input. EndsDraw every input c.left_now c.sent c.sent_now end))
         → DrawDoes every c (drawing_end r)
-    draw_does known draws own (Ok all) short done ends = (short, done, told_so (λ input. DrawsAll every input c.sent c.sent_now) (λ input. DrawsBook every input c.sent c.sent_now) c.left (λ input all. draws_book known draws own every input c.sent c.sent_now all) done)
-    draw_does known draws own (Err NoMemory) short done ends = ends
-    draw_does known draws own (Err ReadFault) short done ends = ends
-    draw_does known draws own (Err draw_end.SendFault) short done ends = ends
-    draw_does known draws own (Err InputTooLong) short done ends = ends
-    draw_does known draws own (Err (BadFrame at)) short done ends = ends
-    draw_does known draws own (Err (Missing key)) short done ends = keyed c every Missing key ends
-    draw_does known draws own (Err (BadCoefficient key)) short done ends = keyed c every BadCoefficient key ends
-    draw_does known draws own (Err (UnknownSession n)) short done ends = ends
+    draw_does book (Ok all) short done ends = (short, done, told_so (λ input. DrawsAll every input c.sent c.sent_now) (λ input. DrawsBook every input c.sent c.sent_now) c.left (λ input all. book every input c.sent c.sent_now all) done)
+    draw_does book (Err NoMemory) short done ends = ends
+    draw_does book (Err ReadFault) short done ends = ends
+    draw_does book (Err draw_end.SendFault) short done ends = ends
+    draw_does book (Err InputTooLong) short done ends = ends
+    draw_does book (Err (BadFrame at)) short done ends = ends
+    draw_does book (Err (Missing key)) short done ends = keyed c every Missing key ends
+    draw_does book (Err (BadCoefficient key)) short done ends = keyed c every BadCoefficient key ends
+    draw_does book (Err (UnknownSession n)) short done ends = ends
 
     -- good input is drawn, unless a stream fails or there is no memory
     draw_good : Known → Stay → (r : Result T DrawEnd) → IfErr r (λ end. OfInput c (λ input. EndsDraw every input c.left_now c.sent c.sent_now end)) → OfInput c (λ input. IsFrames input → IsDoneOrCut (drawing_end r))
@@ -94,12 +95,12 @@ module _ {T : Type 0} (c : Course) where
     draw_good known stay (Err (BadCoefficient key)) ends = misfit_never every known _ c.left c.left_now c.sent c.sent_now key ends
     draw_good known stay (Err (UnknownSession n)) ends = unopened_never every known _ c.left c.left_now c.sent c.sent_now n ends
 
-    pub drawn_by : Known → Stay → AllDraw → OwnDraw → AllAccepted → OwnAccepted → (r : Result T DrawEnd) → OnOk r (OfInput c (λ input. DrawsAll every input c.sent c.sent_now)) → OnOk r (IsShort c)
+    pub drawn_by : Known → Stay → Book → Good → (r : Result T DrawEnd) → OnOk r (OfInput c (λ input. DrawsAll every input c.sent c.sent_now)) → OnOk r (IsShort c)
         → IfErr r (λ end. OfInput c (λ input. EndsDraw every input c.left_now c.sent c.sent_now end)) → StaysAlone c.old c.new → Draws every c (drawing_end r)
-    drawn_by known stay draws own accepts own_accepts r done short ends alone = record {
-      does = draw_does known draws own r short done ends;
+    drawn_by known stay book good r done short ends alone = record {
+      does = draw_does book r short done ends;
       disk = alone.kept;
       kept = kept_alone c alone;
       good = draw_good known stay r ends;
-      replies = replies_end accepts own_accepts c.left _ (draw_good known stay r ends);
+      replies = replies_end good c.left _ (draw_good known stay r ends);
     }

@@ -8,7 +8,7 @@ use Rattle.run_ends.specs.declared.ending.End.TheVariants.{Done, NoMemory, SendF
 use Rattle.run_ends.specs.declared.ending.End.TheVariants.{BadCoefficient, TooSmall}
 use Rattle.stored_book.specs.Damage.{IsBadForRequest}
 use Rattle.store_commands.specs.Books.{FromBook}
-use Rattle.demo_workload.specs.Demonstrated.{AnswersFirst, LeavesDemo, SendsSummary, SendsSummaryPart}
+use Rattle.demo_workload.specs.Demonstrated.{AnswersFirst, CostsDemo, LeavesDemo, SendsSummary, SendsSummaryPart}
 use Rattle.chart_program.specs.Course.{Course, FoundDamaged, FoundPage, HasFewBlocks, HeldNoBook, IsDoneOrCut, OverStore, SentNothing}
 use Rattle.chart_program.specs.Course.{StandsOn, TookNothing, count}
 
@@ -27,10 +27,11 @@ DemoDoes seed rounds c (BadCoefficient number) = HeldNoBook c × MeetsKey client
 DemoDoes seed rounds c (TooSmall blocks) = HasFewBlocks c blocks
 DemoDoes seed rounds c end = ⊥
 
--- the same, and what is so however it ended
+-- The same, and what is so however it ended. Behind an opening each request is one commit at most.
 pub record OfDemo (seed rounds : ℕ) (c : Course) (end : End) : Type 0 where
   pub does : DemoDoes seed rounds c end
   pub store : OverStore c end
   pub untaken : TookNothing c
   pub crash : LeavesDemo (workload seed rounds) (count c) c.old c.new
+  pub costs : CostsDemo rounds c.old c.new
   pub good : StandsOn c.old c.new → IsDoneOrCut end

@@ -4,7 +4,7 @@ use Rattle.block_disk.specs.Counts.{HasRisen}
 use Rattle.block_disk.specs.View.{View}
 use Rattle.chart_service.specs.Serving.{told}
 use Rattle.derive_command.specs.Derived.{IsBadForChart, DerivesAll, DerivesFirst, DerivesPart, DerivesTaken, DerivesToBad, DerivesToRefused, DerivesWithin}
-use Rattle.derive_command.specs.Lines.{AreAnswers}
+use Rattle.derive_command.specs.Lines.{AreAnswers, Faults}
 use Rattle.disk_store.specs.Held.{HoldsBook}
 use Rattle.gate_pages.specs.Journal.{page_count}
 use Rattle.run_ends.specs.Statuses.{refused_at}
@@ -13,7 +13,8 @@ use Rattle.run_ends.specs.declared.ending.End.TheVariants.{Done, NoMemory, ReadF
 use Rattle.run_ends.specs.declared.ending.End.TheVariants.{BadInput, InputTooLong, TooSmall, RefusedLine}
 use Rattle.series_book.specs.declared.one_series.Series.{Series}
 use Rattle.chart_program.specs.Course.{Course, FoundDamaged, FoundPage, HasFewBlocks, HeldNoBook, IsDoneOrCut, IsLonger, IsShort, KeptBook, OfInput, WritesLittle}
-use Rattle.chart_program.specs.Course.{OverStore, Told}
+use Rattle.chart_program.specs.Course.{OverStore, Told, count}
+use Rattle.store_commands.specs.Lacking.{LacksRecord}
 
 -- what it sent, by how it ended
 abbrev pub DeriveDoes : Course → End → Type 0
@@ -41,10 +42,12 @@ pub record AreDerived (old new : View) (input : List ℕ) : Type 0 where
   pub answers : AreAnswers book (told input) text
   pub whole : HasRisen old.faults new.faults → ⊥
 
--- the same, and what is so however it ended
+-- The same, and what is so however it ended. Whatever the disk holds, a line that is told is the first that is no request, or names
+-- a series that the catalog lacks, where it is refused for that.
 pub record OfDerive (c : Course) (end : End) : Type 0 where
   pub does : DeriveDoes c end
   pub store : OverStore c end
   pub kept : KeptBook c
+  pub line : OfInput c (λ input. Faults (LacksRecord (count c) c.new) input end)
   pub few : WritesLittle c
   pub good : OfInput c (λ input. AreDerived c.old c.new input → IsDoneOrCut end)

@@ -13,6 +13,7 @@ use Rattle.series_load.specs.Sets.{IsNamed}
 use Rattle.store_commands.specs.Exported.{ExportsAll, ExportsPart, HasNone, IsBadForExport, ReadsSeries, unnamed_ends}
 use Rattle.store_commands.specs.Lacking.{LacksRecord}
 use Rattle.store_commands.specs.Loaded.{Unnamed}
+use Rattle.store_commands.specs.Salvaged.{ReadsHeld, Salvages}
 use Rattle.chart_program.specs.Course.{Course, FoundDamaged, FoundPage, HasFewBlocks, HeldNoBook, IsDoneOrCut, KeptBook, OverStore, WritesLittle}
 use Rattle.chart_program.specs.Course.{SentNothing, TookNothing, count}
 
@@ -48,4 +49,8 @@ pub record OfExport (name : List ℕ) (window : Option Window) (c : Course) (end
   pub kept : KeptBook c
   pub few : WritesLittle c
   pub reads : ReadsSeries name (count c) c.old c.new
+  -- Of a series that the pages hold where those of its tree fit, whatever else is damaged: with 0 its text was sent, with 7 what
+  -- stands before the damaged page, with any other status a front of it; and no page of a whole tree is called damaged.
+  pub salvaged : Salvages name window (count c) c.old c.sent c.sent_now end
+  pub held_reads : ReadsHeld name window (count c) c.old c.new
   pub good : HoldsNamed name c.old c.new → IsDoneOrCut end

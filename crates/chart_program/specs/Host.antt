@@ -3,6 +3,7 @@
 use Rattle.std.specs.Prelude.{◌≡◌, ℕ, List, Option}
 use Rattle.block_disk.specs.View.{View}
 use Rattle.host_command.specs.Ended.{CostsHosting, LeavesHosted}
+use Rattle.hosted_lines.specs.Answers.{MayAnswerHost}
 use Rattle.hosted_lines.specs.HostCauses.{IsBadForHost}
 use Rattle.hosted_lines.specs.Input.{most_bytes}
 use Rattle.hosted_lines.specs.Running.{SendsAll, SendsLines, SendsPart, SendsSome, SendsTaken, SendsWithin}
@@ -14,6 +15,7 @@ use Rattle.store_commands.specs.Books.{Holds, OfBook}
 use Rattle.store_commands.specs.Traffic.{IsPast, WasReadWithin}
 use Rattle.chart_program.specs.Course.{AtEachMoment, Course, FoundDamaged, FoundPage, HasFewBlocks, HeldNoBook}
 use Rattle.chart_program.specs.Course.{IsDoneOrCut, OfInput, OverStore, Told}
+use Rattle.chart_program.specs.LineAnswers.{NoneIsPassedBy}
 use Rattle.chart_program.specs.Serve.{AreLines}
 
 -- all lines of the input are answered, all pushes are made, and all these frames were sent
@@ -71,3 +73,5 @@ pub record OfHost (c : Course) (end : End) : Type 0 where
   pub crash : AtEachMoment c LeavesHosted
   pub costs : OfInput c (CostsHosting c.old c.new)
   pub good : OfInput c (λ input. AreLines c.old c.new input → IsDoneOrCut end)
+  -- whatever the disk holds, no line was passed over where it was done
+  pub passed : NoneIsPassedBy MayAnswerHost c end

@@ -8,7 +8,9 @@ use Rattle.chart_service.specs.Kinds.{MayAnswerAll}
 use Rattle.chart_service.specs.Naming.{NameOpen, NameOpened}
 use Rattle.chart_service.specs.Serving.{told}
 use Rattle.drawn_replies.specs.Pictures.{AcceptsAll}
+use Rattle.hosted_lines.specs.Answers.{SendsAnswers}
 use Rattle.line_raster.specs.Canvas.{Canvas}
+use Rattle.live_service.specs.Kinds.{MayAnswerBy}
 use Rattle.run_ends.specs.declared.ending.End.{End}
 use Rattle.run_ends.specs.declared.ending.End.TheVariants.{Done}
 use Rattle.served_fronts.specs.Texts.{texts_of}
@@ -54,6 +56,12 @@ AnswersTold IsSent left before now result = OnOk result (IfSome left (λ input. 
 abbrev pub NoneIsPassed : IsSentOf → Course → End → Type 0
 NoneIsPassed IsSent c Done = OfInput c (λ input. AnswersEach IsSent input c.sent c.sent_now)
 NoneIsPassed IsSent c end = ⊤
+
+-- The same of frames that are sent with pushes, by which frames may answer a line: one answers each line, and all others are
+-- pushes.
+abbrev pub NoneIsPassedBy : MayAnswerBy → Course → End → Type 0
+NoneIsPassedBy May c Done = OfInput c (λ input. SendsAnswers May input c.sent c.sent_now)
+NoneIsPassedBy May c end = ⊤
 
 -- As many frames as there are lines were given to `show` one behind the other, and the texts of what they showed were
 -- sent: each frame may answer its line, and names sessions that are open by those before it.

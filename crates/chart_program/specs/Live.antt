@@ -1,12 +1,14 @@
 -- The page of `live`: each line of the input is answered over the store's book, and behind an edit its pushes are made.
 use Rattle.live_command.specs.Ended.{LeavesLived, LivesAll, LivesLines, LivesPart, LivesSome, LivesTaken, LivesWithin, ReadsLiving}
 use Rattle.live_command.specs.Ended.{SyncsLiving}
+use Rattle.live_service.specs.Kinds.{MayAnswerLive}
 use Rattle.run_ends.specs.declared.ending.End.{End}
 use Rattle.run_ends.specs.declared.ending.End.TheVariants.{Done, NoMemory, ReadFault, SendFault, DiskFault, DamagedBlock, DamagedPage}
 use Rattle.run_ends.specs.declared.ending.End.TheVariants.{InputTooLong, TooSmall}
 use Rattle.stored_book.specs.Damage.{IsBadForRequest}
 use Rattle.chart_program.specs.Course.{AtEachMoment, Course, FoundDamaged, FoundPage, HasFewBlocks, HeldNoBook, IsDoneOrCut, IsLonger, IsShort}
 use Rattle.chart_program.specs.Course.{OfInput, OverStore, Told}
+use Rattle.chart_program.specs.LineAnswers.{NoneIsPassedBy}
 use Rattle.chart_program.specs.Serve.{AreLines}
 
 -- what it did and sent, by how it ended; at a fault of the disk what that holds is said by the moments
@@ -31,3 +33,5 @@ pub record OfLive (c : Course) (end : End) : Type 0 where
   pub reads : OfInput c (ReadsLiving c.old c.new)
   pub syncs : OfInput c (SyncsLiving c.old c.new)
   pub good : OfInput c (λ input. AreLines c.old c.new input → IsDoneOrCut end)
+  -- whatever the disk holds, no line was passed over where it was done
+  pub passed : NoneIsPassedBy MayAnswerLive c end

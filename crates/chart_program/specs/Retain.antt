@@ -6,8 +6,8 @@ use Rattle.chart_service.specs.Serving.{told}
 use Rattle.disk_store.specs.Held.{HoldsBook}
 use Rattle.gate_pages.specs.Journal.{page_count}
 use Rattle.retain_command.specs.Answers.{AreRules}
-use Rattle.retain_command.specs.Retained.{LeavesSwept, RetainsAll, RetainsLines, RetainsPart, RetainsSome, RetainsTaken, RetainsToBad}
-use Rattle.retain_command.specs.Retained.{RetainsToUnknown, RetainsWithin}
+use Rattle.retain_command.specs.Retained.{IsAtLine, LeavesSwept, RetainsAll, RetainsLines, RetainsPart, RetainsSome, RetainsTaken, RetainsToBad}
+use Rattle.retain_command.specs.Retained.{RetainsFew, RetainsToUnknown, RetainsWithin}
 use Rattle.retention.specs.declared.rule.Rule.{Rule}
 use Rattle.run_ends.specs.declared.ending.End.{End}
 use Rattle.run_ends.specs.declared.ending.End.TheVariants.{Done, NoMemory, ReadFault, SendFault, DiskFault, DamagedBlock, DamagedPage}
@@ -15,7 +15,7 @@ use Rattle.run_ends.specs.declared.ending.End.TheVariants.{BadInput, InputTooLon
 use Rattle.series_book.specs.declared.one_series.Series.{Series}
 use Rattle.stored_book.specs.Damage.{IsBadForRequest}
 use Rattle.chart_program.specs.Course.{AtEachMoment, Course, FoundDamaged, FoundPage, HasFewBlocks, HeldNoBook, IsDoneOrCut, IsLonger, IsShort}
-use Rattle.chart_program.specs.Course.{OfInput, OverStore, Told}
+use Rattle.chart_program.specs.Course.{OfInput, OverStore, Told, count}
 
 -- what it did and sent, by how it ended; at a fault of the disk what that holds is said by the moments
 abbrev pub RetainDoes : Course → End → Type 0
@@ -43,9 +43,12 @@ pub record AreRetained (old new : View) (input : List ℕ) : Type 0 where
   pub are : AreRules total book (told input) rules
   pub whole : HasRisen old.faults new.faults → ⊥
 
--- the same, and what is so however it ended
+-- The same, and what is so however it ended. Behind an opening each clear is one commit, and comes behind a look. Whatever the
+-- disk holds, a line that is told is the first that is no rule, or names a series that the catalog lacks.
 pub record OfRetain (c : Course) (end : End) : Type 0 where
   pub does : RetainDoes c end
   pub store : OverStore c end
   pub crash : AtEachMoment c LeavesSwept
+  pub costs : OfInput c (RetainsFew (count c) c.old c.new)
+  pub line : OfInput c (λ input. IsAtLine (count c) c.new input end)
   pub good : OfInput c (λ input. AreRetained c.old c.new input → IsDoneOrCut end)

@@ -23,6 +23,7 @@ ghost use Rattle.chart_program.specs.Plot.{OfPlot};
 ghost use Rattle.chart_program.specs.Ran.{EndsCommand, IsInitEnd, init_end};
 
 use crate::input::{InputEnd, MOST_SLOTS};
+use crate::laws::frames_draw_the_book;
 use crate::plot::{PlotEnd, plot};
 use crate::serving::{run_status, serve_status};
 use block_disk::{Back, World};
@@ -33,10 +34,6 @@ use demo_workload::run_demo;
 use derive_command::derive;
 use draw_command::laws::covers_narrow_to_the_picture;
 use draw_command::{DrawEnd, cover, draw};
-use drawn_replies::laws::{
-    one_session_draws_the_book, own_replies_are_accepted, replies_are_accepted,
-    replies_draw_the_book,
-};
 use empty_store::{InitCause, make_store};
 use host_command::host;
 use hosted_lines::MOST_BYTES;
@@ -194,10 +191,7 @@ fn draw_status<W: World>(alloc: Global, world: &mut W) -> Status
     length_is_told();
     spellings_are_good();
     more_bytes_mend_nothing();
-    replies_draw_the_book();
-    one_session_draws_the_book();
-    replies_are_accepted();
-    own_replies_are_accepted();
+    frames_draw_the_book();
     let answer = draw(alloc, world);
     status_of(drawing_end(answer))
 }
@@ -214,10 +208,7 @@ fn cover_status<W: World>(alloc: Global, every: u32, world: &mut W) -> Status
     spellings_are_good();
     more_bytes_mend_nothing();
     covers_narrow_to_the_picture();
-    replies_draw_the_book();
-    one_session_draws_the_book();
-    replies_are_accepted();
-    own_replies_are_accepted();
+    frames_draw_the_book();
     let answer = cover(alloc, every, world);
     status_of(drawing_end(answer))
 }

@@ -8,7 +8,8 @@
 //! `main` opens the file that the first word names as a disk, which takes the file's lock, and gives
 //! `chart` the words after it and a world of this disk, standard input and standard output. `plot`,
 //! `draw` and `cover` never call the disk, so for them no file is opened.
-//! Nothing is claimed of `main` but that it is safe and ends; of `report` that the exit status is the status' code.
+//! Nothing is claimed of `main` but that it is safe and ends; of `report` that the exit status is the status' code,
+//! and of the choice of the file that `uses_no_store` of program_words tells which commands use none.
 #![tactic(auto)]
 
 ghost use Rattle.std.specs.Prelude.{◌≡◌};
@@ -29,16 +30,24 @@ mod top;
 
 use block_disk::FileDisk;
 use chart_world::StdWorld;
+use program_words::uses_no_store;
 pub use run::run_on;
 pub use run_end::RunEnd;
 pub use run_ends::Status;
 use run_ends::codes;
-use std::alloc::Global;
+use std::alloc::{AllocError, Global};
 use std::fs::OpenOptions;
 use std::process::ExitCode;
 use std::rt::{Env, Files};
 use std::{env, io};
 pub use top::chart;
+
+/// How many bytes are taken and given back at the start. From then on the C library keeps what is freed, up to twice as many
+/// bytes, where it would give them back to the system and take them anew for each view.
+const KEPT: usize = 524_288;
+
+/// The same where there is no store, and so no sessions whose lists would come to lie apart in more memory.
+const KEPT_TO_DRAW: usize = 2_097_152;
 
 fn main(rt: HostRuntime) -> ExitCode {
     laws::books_outlive_their_runs();
@@ -48,8 +57,10 @@ fn main(rt: HostRuntime) -> ExitCode {
                 // A stream that is closed would leave its number to the store's file, and be written into it.
                 let _streams = (unwritable(&rt), unwritable(&rt), unwritable(&rt));
                 if uses_no_store(rest) {
+                    keep_freed(&rt, KEPT_TO_DRAW);
                     chart(rt.alloc(), rest, StdWorld::new(&rt, ())).0
                 } else {
+                    keep_freed(&rt, KEPT);
                     let world = StdWorld::new(&rt, FileDisk::at(&rt, path.as_str()));
                     chart(rt.alloc(), rest, world).0
                 }
@@ -61,17 +72,9 @@ fn main(rt: HostRuntime) -> ExitCode {
     report(&rt, status)
 }
 
-/// Whether a command uses no store, so that no file has to be opened and locked for it. Its name may stand behind `--`.
-fn uses_no_store(words: &[String]) -> bool {
-    match words {
-        [dashes, rest @ ..] if dashes.as_str() == "--" => names_no_store(rest),
-        _ => names_no_store(words),
-    }
-}
-
-/// Whether the first word names a command that uses no store.
-fn names_no_store(words: &[String]) -> bool {
-    matches!(words, [word, ..] if word.as_str() == "plot" || word.as_str() == "draw" || word.as_str() == "cover")
+/// Has the C library keep what is freed from now on. Where there is no memory it does as before.
+fn keep_freed(rt: &impl Alloc<A = Global>, bytes: usize) {
+    let _taken: Result<Vec<u8>, AllocError> = Vec::with_capacity(rt.alloc(), bytes);
 }
 
 /// A file that is open, and can neither be read nor written.

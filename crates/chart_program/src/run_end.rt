@@ -1,11 +1,10 @@
 ghost use Rattle.std.specs.Prelude.{◌≡◌};
 ghost use Rattle.chart_service.specs.declared.failure.ServeEnd.TheVariants.{NoMemory};
-ghost use Rattle.chart_service.specs.Serving.{end_of, end_of_step};
+ghost use Rattle.chart_service.specs.Serving.{end_of_step};
 ghost use Rattle.chart_program.specs.declared.run_end.RunEnd.TheVariants.{Serve, Show};
 
 use chart_client::ClientError;
 use chart_service::{ServeEnd, ServiceError};
-use chart_world::LineFault;
 use std::alloc::AllocError;
 use thiserror::Error;
 
@@ -26,14 +25,6 @@ impl From<ClientError> for RunEnd {
 
     fn from(error: ClientError) -> RunEnd {
         RunEnd::Show(error)
-    }
-}
-
-impl From<LineFault> for RunEnd {
-    ghost from_gives = { λ fault end. end ≡ Serve (end_of fault) };
-
-    fn from(fault: LineFault) -> RunEnd {
-        RunEnd::Serve(ServeEnd::from(fault))
     }
 }
 

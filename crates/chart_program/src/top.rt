@@ -29,12 +29,8 @@ ghost use Rattle.chart_program.specs.Lives.{IsLived};
 ghost use Rattle.chart_program.specs.Ran.{ForCommand, ForStreams, IsUnread, IsAwayFor, SendsAll, SendsPart, StopsWith, StopsAtDisk, IsBadInput, IsTooMuch, IsCutShort, IsInput, HasGoodInput, IsFree, IsWithin, LeavesDisk, LeavesTold, HoldsNow, IsDamaged, IsUndamaged, IsMade, IsTooSmall, IsThere, IsRefusedWith, IsUnknown, IsRefusedLine, TellsUnnamed, ReadsFew, ReadsByInput, SyncsByInput, Lacks, Misfits, NamesUnopened, DrawsReplies, IsOfReplies, IsCoverOfReplies, CoversBook, BeginStream};
 
 use crate::commands::status_of_command;
+use crate::laws::frames_draw_the_book;
 use block_disk::World;
-use chart_frames::laws::{length_is_told, one_frame_a_spelling, spellings_are_good};
-use drawn_replies::laws::{
-    one_session_draws_the_book, own_replies_are_accepted, replies_are_accepted,
-    replies_draw_the_book,
-};
 use program_words::{WordsEnd, command_of};
 use run_ends::codes::{
     BAD_COEFFICIENT, BAD_INPUT, DAMAGED, DISK_FAULT, DONE, IS_STORE, MISSING, NO_MEMORY, NO_SERIES,
@@ -150,13 +146,7 @@ pub fn chart<W: World>(alloc: Global, words: &[String], world: W) -> (Status, W)
     ensures host { ByPage words.now W.view W.left W.sent world result.1 result.0 Host OfHost }
     ensures derive { ByPage words.now W.view W.left W.sent world result.1 result.0 Derive OfDerive }
 {
-    one_frame_a_spelling();
-    length_is_told();
-    spellings_are_good();
-    replies_draw_the_book();
-    one_session_draws_the_book();
-    replies_are_accepted();
-    own_replies_are_accepted();
+    frames_draw_the_book();
     servings_are_exact();
     texts_are_exact();
     lines_say_what_is_read();

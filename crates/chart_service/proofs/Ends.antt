@@ -4,7 +4,6 @@ use Rattle.std.specs.Prelude.{IsErrAnd, OnOk}
 use Rattle.std.proofs.Math.Dec.{eqb}
 use Rattle.std.proofs.lemmas.Bool.{eqb-false}
 use Rattle.block_disk.specs.View.{Image, View}
-use Rattle.chart_world.specs.declared.line_answer.LineFault.TheVariants as fault
 use Rattle.chart_service.specs.Answering.{EndsAtBad}
 use Rattle.chart_service.specs.Making.{IsReplyEnd}
 use Rattle.chart_service.specs.Serving.{end_of_step}

@@ -10,6 +10,7 @@ use Rattle.chart_world.specs.declared.line_answer.LineFault.TheVariants as fault
 use Rattle.page_space.specs.declared.superblock.Superblock.{Superblock}
 use Rattle.request_lines.specs.declared.requests.Request.{Request}
 use Rattle.series_catalog.specs.declared.stored_series.StoredSeries.{StoredSeries}
+use Rattle.zoom_session.specs.declared.session.Session.{Session}
 use Rattle.chart_service.specs.Faulting.{step_fault, serve_fault, answer_fault}
 use Rattle.chart_service.specs.Looking.{IsViewCause}
 use Rattle.chart_service.specs.Serving.{end_of, end_of_step}
@@ -33,23 +34,23 @@ counts_step (Ok value) old new beside risen quiet quiet_err = counts_no_disk old
 counts_step (Err e) old new beside risen quiet quiet_err = counts_error e old new beside risen quiet_err
 
 -- why a fault of the disk was counted
-cause_risen : (request : Request) (e : ServiceError) (told : Type 0) (catalog : List StoredSeries) (s : Superblock) (old new : View) → IsStepCause request e told catalog s old new → e ≡ DiskFault → HasRisen old.faults new.faults
-cause_risen request DiskFault told catalog s old new cause is = cause
-cause_risen request (Damaged page) told catalog s old new cause is = absurd (cc (is))
-cause_risen request NoMemory told catalog s old new cause is = absurd (cc (is))
+cause_risen : (request : Request) (e : ServiceError) (told : Type 0) (catalog : List StoredSeries) (sessions : List Session) (s : Superblock) (old new : View) → IsStepCause request e told catalog sessions s old new → e ≡ DiskFault → HasRisen old.faults new.faults
+cause_risen request DiskFault told catalog sessions s old new cause is = cause
+cause_risen request (Damaged page) told catalog sessions s old new cause is = absurd (cc (is))
+cause_risen request NoMemory told catalog sessions s old new cause is = absurd (cc (is))
 
-pub step_risen : {T : Type 0} (r : Result T ServiceError) (request : Request) (told : Type 0) (catalog : List StoredSeries) (s : Superblock) (old new : View) → IfErr r (λ e. IsStepCause request e told catalog s old new) → IfErr r (λ e. e ≡ DiskFault → HasRisen old.faults new.faults)
-step_risen (Ok value) request told catalog s old new cause = tt
-step_risen (Err e) request told catalog s old new cause = cause_risen request e told catalog s old new cause
+pub step_risen : {T : Type 0} (r : Result T ServiceError) (request : Request) (told : Type 0) (catalog : List StoredSeries) (sessions : List Session) (s : Superblock) (old new : View) → IfErr r (λ e. IsStepCause request e told catalog sessions s old new) → IfErr r (λ e. e ≡ DiskFault → HasRisen old.faults new.faults)
+step_risen (Ok value) request told catalog sessions s old new cause = tt
+step_risen (Err e) request told catalog sessions s old new cause = cause_risen request e told catalog sessions s old new cause
 
-view_cause_risen : (e : ServiceError) (told : Type 0) (catalog : List StoredSeries) (total : ℕ) (old new : View) → IsViewCause e told catalog total old new → e ≡ DiskFault → HasRisen old.faults new.faults
-view_cause_risen DiskFault told catalog total old new cause is = cause
-view_cause_risen (Damaged page) told catalog total old new cause is = absurd (cc (is))
-view_cause_risen NoMemory told catalog total old new cause is = absurd (cc (is))
+view_cause_risen : (IsShown : ℕ → Type 0) (e : ServiceError) (told : Type 0) (catalog : List StoredSeries) (total : ℕ) (old new : View) → IsViewCause IsShown e told catalog total old new → e ≡ DiskFault → HasRisen old.faults new.faults
+view_cause_risen IsShown DiskFault told catalog total old new cause is = cause
+view_cause_risen IsShown (Damaged page) told catalog total old new cause is = absurd (cc (is))
+view_cause_risen IsShown NoMemory told catalog total old new cause is = absurd (cc (is))
 
-pub view_risen : {T : Type 0} (r : Result T ServiceError) (told : Type 0) (catalog : List StoredSeries) (total : ℕ) (old new : View) → IfErr r (λ e. IsViewCause e told catalog total old new) → IfErr r (λ e. e ≡ DiskFault → HasRisen old.faults new.faults)
-view_risen (Ok value) told catalog total old new cause = tt
-view_risen (Err e) told catalog total old new cause = view_cause_risen e told catalog total old new cause
+pub view_risen : {T : Type 0} (IsShown : ℕ → Type 0) (r : Result T ServiceError) (told : Type 0) (catalog : List StoredSeries) (total : ℕ) (old new : View) → IfErr r (λ e. IsViewCause IsShown e told catalog total old new) → IfErr r (λ e. e ≡ DiskFault → HasRisen old.faults new.faults)
+view_risen IsShown (Ok value) told catalog total old new cause = tt
+view_risen IsShown (Err e) told catalog total old new cause = view_cause_risen IsShown e told catalog total old new cause
 
 -- ---- ends
 

@@ -1,5 +1,5 @@
 -- Lines that spell edits.
-use Rattle.std.proofs.Common.{◌≡◌, ◌+◌, ℕ, List, [], ◌∷◌, ◌++◌, length, Option, refl, arith}
+use Rattle.std.proofs.Common.{◌≡◌, ℕ, List, [], ◌∷◌, ◌++◌, length, Option, refl, arith}
 use Rattle.series_book.specs.declared.edits.Edit.{Edit}
 use Rattle.chart_service.specs.EditGroups.{SpellsEdit, SpellEdits}
 

@@ -1,5 +1,5 @@
 -- Calls that leave the pages as they are.
-use Rattle.std.proofs.Common.{◌≡◌, ℕ, List, Option, Some, Result, Ok, Err, IfOk, refl, sym, subst, inl, arith}
+use Rattle.std.proofs.Common.{◌≡◌, ℕ, List, Option, Some, Result, Ok, Err, IfOk, IfErr, refl, sym, subst, inl, arith}
 use Rattle.std.specs.Prelude.{MatchResult, slice_get}
 use Rattle.block_disk.specs.View.{Image, View, Now, Only, Passes}
 use Rattle.block_disk.proofs.Passing.{passes_none, passes_weaker}
@@ -26,7 +26,7 @@ use Rattle.chart_service.specs.Opening.{OpensBy}
 use Rattle.chart_service.specs.State.{State}
 use Rattle.chart_service.specs.Replies.{refused}
 use Rattle.chart_service.specs.Stepping.{state_of, IsBeforeOrAfter, IsUnchangedBy, IsUnchangedFor, Steps}
-use Rattle.chart_service.specs.Looking.{Looks, Looked, Replying, IsNodeCause, IsOfPages}
+use Rattle.chart_service.specs.Looking.{Looks, Looked, Replying, IsNodeCause, IsOfPages, IsViewCause}
 use Rattle.chart_service.specs.declared.failure.ServiceError.{ServiceError}
 use Rattle.chart_service.specs.declared.failure.ServiceError.TheVariants.{DiskFault, Damaged, NoMemory}
 
@@ -99,7 +99,6 @@ looked_refused number frame refusal sessions told at under s catalog is fits = r
   lost = tt;
   kept = λ refuses. refl;
   looks = looks_none told at under s catalog;
-  cause = tt;
 }
 
 pub replying_refused : (Reply : Frame → State → State → Type 0) (Reads : ℕ → ℕ → Type 0) (frame : Frame) (total : ℕ) (book : List Series) (sessions : List Session) (at : View) → Reply frame (state_of book total sessions) (state_of book total sessions) → Reads at.reads at.reads → Replying Reply Reads (Ok frame) total book sessions sessions at at
@@ -119,20 +118,31 @@ replying_so Reply Reply' Reads Reads' result total book sessions sessions' old n
 
 -- ---- errors of nodes over pages
 
--- the cause of an error of the selected series
-pub node_cause : (told : Type 0) (old new under : View) (told' : Type 0) (under' : View) (s s' : Superblock) (tree tree' : Tree) (trail trail' : Trail) (catalog : List StoredSeries) (id : ℕ) (series : StoredSeries) (error : NodeError) → slice_get catalog id ≡ Some series → tree ≡ series.tree → HasCause (paged_view (ground told old under s tree) trail) (paged_view (ground told' new under' s' tree') trail') error → IsNodeCause error told catalog s.total old new
-node_cause told old new under told' under' s s' tree tree' trail trail' catalog id series node.DiskFault there is cause = cause
-node_cause told old new under told' under' s s' tree tree' trail trail' catalog id series (node.Damaged page) there is cause =
+-- the cause of an error of the selected series, by its id
+pub node_cause : (IsShown : ℕ → Type 0) (told : Type 0) (old new under : View) (told' : Type 0) (under' : View) (s s' : Superblock) (tree tree' : Tree) (trail trail' : Trail) (catalog : List StoredSeries) (id : ℕ) (series : StoredSeries) (error : NodeError) → IsShown id → slice_get catalog id ≡ Some series → tree ≡ series.tree → HasCause (paged_view (ground told old under s tree) trail) (paged_view (ground told' new under' s' tree') trail') error → IsNodeCause IsShown error told catalog s.total old new
+node_cause IsShown told old new under told' under' s s' tree tree' trail trail' catalog id series node.DiskFault shown there is cause = cause
+node_cause IsShown told old new under told' under' s s' tree tree' trail trail' catalog id series (node.Damaged page) shown there is cause =
     let P : Tree → Type 0 = λ t. IsDamaged old.image s.total t page in
-    (cause.0, λ t. record { id = id; series = series; there = there; damaged = subst P is (cause.1 t) })
-node_cause told old new under told' under' s s' tree tree' trail trail' catalog id series (node.Missing key) there is cause = cause
-node_cause told old new under told' under' s s' tree tree' trail trail' catalog id series (node.BadCoefficient key) there is cause = cause
+    (cause.0, λ t. record { id = id; shown = shown; series = series; there = there; damaged = subst P is (cause.1 t) })
+node_cause IsShown told old new under told' under' s s' tree tree' trail trail' catalog id series (node.Missing key) shown there is cause = cause
+node_cause IsShown told old new under told' under' s s' tree tree' trail trail' catalog id series (node.BadCoefficient key) shown there is cause = cause
 
-pub of_pages : (error : NodeError) (told : Type 0) (catalog : List StoredSeries) (total : ℕ) (old new : View) → IsNodeCause error told catalog total old new → IsOfPages error
-of_pages node.DiskFault told catalog total old new cause = tt
-of_pages (node.Damaged page) told catalog total old new cause = tt
-of_pages (node.Missing key) told catalog total old new cause = cause
-of_pages (node.BadCoefficient key) told catalog total old new cause = cause
+pub of_pages : (IsShown : ℕ → Type 0) (error : NodeError) (told : Type 0) (catalog : List StoredSeries) (total : ℕ) (old new : View) → IsNodeCause IsShown error told catalog total old new → IsOfPages error
+of_pages IsShown node.DiskFault told catalog total old new cause = tt
+of_pages IsShown (node.Damaged page) told catalog total old new cause = tt
+of_pages IsShown (node.Missing key) told catalog total old new cause = cause
+of_pages IsShown (node.BadCoefficient key) told catalog total old new cause = cause
+
+-- why a view of another series wasn't answered, where that is such a one too
+cause_so : (IsShown IsToo : ℕ → Type 0) (error : ServiceError) (told : Type 0) (catalog : List StoredSeries) (total : ℕ) (old new : View) → ((id : ℕ) → IsShown id → IsToo id) → IsViewCause IsShown error told catalog total old new → IsViewCause IsToo error told catalog total old new
+cause_so IsShown IsToo DiskFault told catalog total old new more cause = cause
+cause_so IsShown IsToo (Damaged page) told catalog total old new more cause =
+    (cause.0, λ t. let bad = cause.1 t in record { id = bad.id; shown = more bad.id bad.shown; series = bad.series; there = bad.there; damaged = bad.damaged })
+cause_so IsShown IsToo NoMemory told catalog total old new more cause = tt
+
+pub causes_so : (IsShown IsToo : ℕ → Type 0) (r : Result Frame ServiceError) (told : Type 0) (catalog : List StoredSeries) (total : ℕ) (old new : View) → ((id : ℕ) → IsShown id → IsToo id) → IfErr r (λ e. IsViewCause IsShown e told catalog total old new) → IfErr r (λ e. IsViewCause IsToo e told catalog total old new)
+causes_so IsShown IsToo (Ok frame) told catalog total old new more cause = tt
+causes_so IsShown IsToo (Err error) told catalog total old new more cause = cause_so IsShown IsToo error told catalog total old new more cause
 
 -- where no page is damaged, the disk failed
 pub disk_alone : (told : Type 0) (old new under : View) (told' : Type 0) (under' : View) (s s' : Superblock) (tree tree' : Tree) (trail trail' : Trail) (error : NodeError) → told → ((page : ℕ) → IsDamaged old.image s.total tree page → ⊥) → HasCause (paged_view (ground told old under s tree) trail) (paged_view (ground told' new under' s' tree') trail') error → error ≡ node.DiskFault

@@ -1,10 +1,9 @@
 -- How far lines are answered by bytes that are made one after the other.
-use Rattle.std.proofs.Common.{◌≡◌, ℕ, ◌+◌, ◌-◌, ◌≤◌, List, [], ◌∷◌, ◌++◌, length, Option, None, Some, IfSome, take, refl, ap, subst, sym, ◌∙◌, inl, inr, append_assoc, arith, length-append}
+use Rattle.std.proofs.Common.{◌≡◌, ℕ, ◌+◌, ◌≤◌, List, [], ◌∷◌, ◌++◌, length, Option, None, Some, IfSome, take, refl, ap, subst, sym, ◌∙◌, inl, inr, append_assoc, arith, length-append}
 use Rattle.std.proofs.lemmas.List.{append-nil}
 use Rattle.std.proofs.Math.Seq.{take-append-add}
 use Rattle.block_disk.specs.Streams.{sent_after}
 use Rattle.block_disk.specs.SentLaws.{sent_more}
-use Rattle.chart_world.specs.declared.line_answer.LineFault.TheVariants as fault
 use Rattle.chart_world.specs.LineLaws.{told_so}
 use Rattle.chart_world.specs.Reading.{Reading, unread}
 use Rattle.chart_frames.specs.declared.frame.Frame.{Frame}

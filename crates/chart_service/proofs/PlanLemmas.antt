@@ -1,5 +1,5 @@
 -- Views over the nodes of a selected series.
-use Rattle.std.proofs.Common.{◌≡◌, ℕ, false, List, Option, None, Some, Result, Ok, Err, IfErr, refl, sym, ap, subst, inl, inr, ◌∙◌}
+use Rattle.std.proofs.Common.{◌≡◌, ℕ, ℤ, false, List, Option, None, Some, Result, Ok, Err, IfErr, refl, sym, ap, subst, inl, inr, ◌∙◌}
 use Rattle.std.specs.Prelude.{IsSomeAnd, IsTrue, slice_get, is_none}
 use Rattle.block_disk.specs.View.{View}
 use Rattle.chart_frames.specs.declared.frame.Frame.{Frame}
@@ -31,8 +31,8 @@ use Rattle.om3_coeff.specs.declared.key.Key.{Key}
 use Rattle.om3_coeff.specs.declared.coef.Coef.{Coef}
 use Rattle.chart_service.specs.Viewing.{AnswersRows, rows_frame}
 use Rattle.chart_service.specs.Planning.{RefusesView, StopsIn, PlansOrStops, ShowsOrStops, ShowsIn, IsPlannedFor, planned_frame}
-use Rattle.chart_service.specs.Stepping.{state_of, ReadsFor, IsOutside}
-use Rattle.chart_service.specs.Looking.{Looks, Looked, Replying, IsNodeCause, IsPlanCause, IsScanCause, ReadsBy, ReadsByText, error_of}
+use Rattle.chart_service.specs.Stepping.{state_of, ReadsBy, ReadsByText, ReadsFor, ReadsRows, IsOutside}
+use Rattle.chart_service.specs.Looking.{Looks, Looked, Replying, IsNodeCause, IsPlanCause, IsScanCause, error_of}
 use Rattle.chart_service.specs.Planning.{IsFilterOf}
 use Rattle.chart_service.specs.declared.failure.ServiceError.{ServiceError}
 use Rattle.chart_service.specs.declared.failure.ServiceError.TheVariants as step
@@ -41,18 +41,17 @@ use Rattle.chart_service.specs.declared.shown_rows.ShownRows.{ShownRows}
 use Rattle.chart_service.proofs.Answered.{refused_too_large, answered_view}
 use Rattle.chart_service.proofs.Filtered.{answered_rows}
 use Rattle.chart_service.proofs.Openings.{opens_viewed, opens_rows}
-use Rattle.chart_service.proofs.ReadLemmas.{reads_for}
 
 -- the cause of a plan's error
-pub plan_cause : (session : Option Session) (nodes nodes' : NodesView) (told : Type 0) (catalog : List StoredSeries) (total : ℕ) (old new : View) (error : PlanError) → ((e : NodeError) → HasCause nodes nodes' e → IsNodeCause e told catalog total old new) → RefusesView session nodes nodes' error → IsPlanCause error told catalog total old new
-plan_cause None nodes nodes' told catalog total old new error more refuses = absurd refuses
-plan_cause (Some session) nodes nodes' told catalog total old new (TooLarge needed cache) more refuses = tt
-plan_cause (Some session) nodes nodes' told catalog total old new (Node e) more refuses = more e refuses
-plan_cause (Some session) nodes nodes' told catalog total old new NoMemory more refuses = tt
+pub plan_cause : (IsShown : ℕ → Type 0) (session : Option Session) (nodes nodes' : NodesView) (told : Type 0) (catalog : List StoredSeries) (total : ℕ) (old new : View) (error : PlanError) → ((e : NodeError) → HasCause nodes nodes' e → IsNodeCause IsShown e told catalog total old new) → RefusesView session nodes nodes' error → IsPlanCause IsShown error told catalog total old new
+plan_cause IsShown None nodes nodes' told catalog total old new error more refuses = absurd refuses
+plan_cause IsShown (Some session) nodes nodes' told catalog total old new (TooLarge needed cache) more refuses = tt
+plan_cause IsShown (Some session) nodes nodes' told catalog total old new (Node e) more refuses = more e refuses
+plan_cause IsShown (Some session) nodes nodes' told catalog total old new NoMemory more refuses = tt
 
-pub scan_cause : (nodes nodes' : NodesView) (told : Type 0) (catalog : List StoredSeries) (total : ℕ) (old new : View) (error : ScanError) → ((e : NodeError) → HasCause nodes nodes' e → IsNodeCause e told catalog total old new) → IsCauseOf nodes nodes' error → IsScanCause error told catalog total old new
-scan_cause nodes nodes' told catalog total old new (scan.Node e) more cause = more e cause
-scan_cause nodes nodes' told catalog total old new scan.NoMemory more cause = tt
+pub scan_cause : (IsShown : ℕ → Type 0) (nodes nodes' : NodesView) (told : Type 0) (catalog : List StoredSeries) (total : ℕ) (old new : View) (error : ScanError) → ((e : NodeError) → HasCause nodes nodes' e → IsNodeCause IsShown e told catalog total old new) → IsCauseOf nodes nodes' error → IsScanCause IsShown error told catalog total old new
+scan_cause IsShown nodes nodes' told catalog total old new (scan.Node e) more cause = more e cause
+scan_cause IsShown nodes nodes' told catalog total old new scan.NoMemory more cause = tt
 
 pub if_err : {T E : Type 0} (r : Result T E) (P Q : E → Type 0) → ((e : E) → P e → Q e) → IfErr r P → IfErr r Q
 if_err (Ok t) P Q more is = tt
@@ -109,26 +108,23 @@ replying_want Reply Reads book total ss ss' old new reads = record { reply = tt;
 
 -- ---- how many blocks a view reads
 
-pub reads_by : (filter : Option (List Step)) (w : ℕ) (o : Option Series) (n : ℕ) → ReadsBy filter w o n n
-reads_by None w o n = reads_for w n o
-reads_by (Some steps) w o n = tt
+pub reads_unfiltered : (filter : Option (List Step)) (w : ℕ) (t0 t1 : ℤ) (o : Option Series) (old new : ℕ) → filter ≡ None → ReadsFor w o old new → ReadsBy filter w t0 t1 o old new
+reads_unfiltered filter w t0 t1 o old new none reads = let R : Option (List Step) → Type 0 = λ f. ReadsBy f w t0 t1 o old new in subst R (sym none) reads
 
-pub reads_unfiltered : (filter : Option (List Step)) (w : ℕ) (o : Option Series) (old new : ℕ) → filter ≡ None → ReadsFor w o old new → ReadsBy filter w o old new
-reads_unfiltered filter w o old new none reads = let R : Option (List Step) → Type 0 = λ f. ReadsBy f w o old new in subst R (sym none) reads
+pub reads_filtered : (filter : Option (List Step)) (w : ℕ) (t0 t1 : ℤ) (o : Option Series) (old new : ℕ) → is_none filter ≡ false → ReadsRows t0 t1 o old new → ReadsBy filter w t0 t1 o old new
+reads_filtered None w t0 t1 o old new some rows = cc
+reads_filtered (Some steps) w t0 t1 o old new some rows = rows
 
-pub reads_filtered : (filter : Option (List Step)) (w : ℕ) (o : Option Series) (old new : ℕ) → is_none filter ≡ false → ReadsBy filter w o old new
-reads_filtered None w o old new some = cc
-reads_filtered (Some steps) w o old new some = tt
-
-pub reads_by_text : (text : Option (List ℕ)) (filter : Option (List Step)) (w : ℕ) (o : Option Series) (old new : ℕ) → IsFilterOf text (Ok filter) → ReadsBy filter w o old new → ReadsByText text w o old new
-reads_by_text None filter w o old new is reads = let R : Option (List Step) → Type 0 = λ f. ReadsBy f w o old new in subst R is reads
-reads_by_text (Some text) filter w o old new is reads = tt
+pub reads_by_text : (text : Option (List ℕ)) (filter : Option (List Step)) (w : ℕ) (t0 t1 : ℤ) (o : Option Series) (old new : ℕ) → IsFilterOf text (Ok filter) → ReadsBy filter w t0 t1 o old new → ReadsByText text w t0 t1 o old new
+reads_by_text None filter w t0 t1 o old new is reads = let R : Option (List Step) → Type 0 = λ f. ReadsBy f w t0 t1 o old new in subst R is reads
+reads_by_text (Some text) None w t0 t1 o old new is reads = absurd is
+reads_by_text (Some text) (Some steps) w t0 t1 o old new is reads = reads
 
 -- ---- an answered view
 
 -- what comes of it, whatever the pages are
 pub looked_viewed : (number : ℕ) (frame : Frame) (ss ss' : List Session) (told told' : Type 0) (old new under under' : View) (s s' : Superblock) (catalog catalog' : List StoredSeries) → Fits frame → OpensBy frame ss ss' → (IsRefusal frame → ⊥) → Looks told told' old new under under' s s' catalog catalog' → Looked (Some number) (Ok frame) ss ss' told told' old new under under' s s' catalog catalog'
-looked_viewed number frame ss ss' told told' old new under under' s s' catalog catalog' fits opens none looks = record { fits = fits; opens = opens; lost = tt; kept = λ refuses. absurd (none refuses); looks = looks; cause = tt }
+looked_viewed number frame ss ss' told told' old new under under' s s' catalog catalog' fits opens none looks = record { fits = fits; opens = opens; lost = tt; kept = λ refuses. absurd (none refuses); looks = looks }
 
 planned_at : (book : Option Series) (spec : ViewSpec) (session : Option Session) (p : Planned) (r : Result Planned PlanError) → r ≡ Ok p → IsSomeAnd book (λ series. PlansOrStops series spec session r) → IsSomeAnd book (λ series. IsPlannedFor series spec session p)
 planned_at None spec session p r is planned = planned
@@ -154,14 +150,14 @@ shown_at : (book : Option Series) (spec : ViewSpec) (shown : ShownRows) (r : Res
 shown_at None spec shown r is shows = shows
 shown_at (Some series) spec shown r is shows = let R : Result ShownRows ScanError → Type 0 = λ x. ShowsOrStops series spec x in subst R is shows
 
-pub replying_rows : (book : List Series) (total : ℕ) (spec : ViewSpec) (number : ℕ) (shown : ShownRows) (r : Result ShownRows ScanError) (rows : RowsFrame) (ss mid ss' : List Session) (old new : View) → r ≡ Ok shown → IsSomeAnd (slice_get book spec.series) (λ series. ShowsOrStops series spec r) → rows ≡ rows_frame number spec shown.range shown.rows → mid ≡ ss → ss' ≡ viewed number spec None mid → IsTrue (is_open number ss)
-    → Replying (λ frame old new. IsSomeAnd (slice_get old.book spec.series) (λ series. AnswersRows series spec number frame old new)) (λ old new. Unit {0}) (Ok (Rows rows)) total book ss ss' old new
-replying_rows book total spec number shown r rows ss mid ss' old new is shows frame same viewed_so there =
+pub replying_rows : (book : List Series) (total : ℕ) (spec : ViewSpec) (number : ℕ) (shown : ShownRows) (r : Result ShownRows ScanError) (rows : RowsFrame) (ss mid ss' : List Session) (old new : View) → r ≡ Ok shown → IsSomeAnd (slice_get book spec.series) (λ series. ShowsOrStops series spec r) → rows ≡ rows_frame number spec shown.range shown.rows → mid ≡ ss → ss' ≡ viewed number spec None mid → IsTrue (is_open number ss) → ReadsRows spec.grid.t0 spec.grid.t1 (slice_get book spec.series) old.reads new.reads
+    → Replying (λ frame old new. IsSomeAnd (slice_get old.book spec.series) (λ series. AnswersRows series spec number frame old new)) (ReadsRows spec.grid.t0 spec.grid.t1 (slice_get book spec.series)) (Ok (Rows rows)) total book ss ss' old new
+replying_rows book total spec number shown r rows ss mid ss' old new is shows frame same viewed_so there reads =
     let so : ss' ≡ viewed number spec None ss = viewed_so ∙ ap (λ (l : List Session). viewed number spec None l) same in
     record {
       reply = answered_rows (slice_get book spec.series) spec number shown rows (state_of book total ss) (state_of book total ss') there (shown_at (slice_get book spec.series) spec shown r is shows) frame (ap (λ (l : List Session). state_of book total l) so);
       standing = tt;
-      reads = tt;
+      reads = reads;
     }
 
 pub opens_rows_of : (number : ℕ) (spec : ViewSpec) (rows : RowsFrame) (ss mid ss' : List Session) → rows.session ≡ number → mid ≡ ss → ss' ≡ viewed number spec None mid → IsTrue (is_open number ss) → OpensBy (Rows rows) ss ss'

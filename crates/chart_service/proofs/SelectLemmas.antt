@@ -1,9 +1,10 @@
 -- What a selected series is.
-use Rattle.std.proofs.Common.{◌≡◌, ℕ, ◌+◌, ◌<◌, ◌≤◌, List, length, Option, Some, None, ap, sym, subst, inl, inr, ◌∙◌, arith}
+use Rattle.std.proofs.Common.{◌≡◌, ℕ, ◌+◌, ◌<◌, ◌≤◌, ℤ, List, length, Option, Some, None, ap, sym, subst, inl, inr, ◌∙◌, arith}
 use Rattle.std.specs.Prelude.{IsSomeAnd, slice_get}
 use Rattle.std.proofs.lemmas.Option.{slice_get_cases}
 use Rattle.block_disk.specs.View.{Image}
 use Rattle.chart_grid.specs.declared.axis.Axis.{Axis}
+use Rattle.filter_scan.specs.Reads.{ReadsWindow}
 use Rattle.om3_coeff.specs.View.{NodesView, Agrees}
 use Rattle.page_space.specs.declared.superblock.Superblock.{Superblock}
 use Rattle.series_book.specs.declared.one_series.Series.{Series}
@@ -19,7 +20,7 @@ use Rattle.tree_walk.specs.Paths.{IsDamaged}
 use Rattle.tree_walk.specs.Trees.{StandsFor}
 use Rattle.tree_walk.proofs.StandingLemmas.{standing_sound}
 use Rattle.chart_service.specs.Planning.{most_view_reads}
-use Rattle.chart_service.specs.Stepping.{ReadsFor}
+use Rattle.chart_service.specs.Stepping.{ReadsFor, ReadsRows}
 use Rattle.chart_service.specs.Viewing.{axis_of}
 
 -- the element of an index that is there
@@ -64,3 +65,11 @@ reads_there w book id slots old new below count few =
     let R : Option Series → Type 0 = λ o. ReadsFor w o old new in
     let M : ℕ → Type 0 = λ n. new ≤ old + most_view_reads w n in
     subst R (sym one.1) (subst M (count one.0 one.1) few)
+
+-- and a filtered view
+pub rows_there : (t0 t1 : ℤ) (book : List Series) (id : ℕ) (axis : Axis) (old new : ℕ) → id < length book → ((series : Series) → slice_get book id ≡ Some series → axis ≡ axis_of series) → ReadsWindow axis t0 t1 old new → ReadsRows t0 t1 (slice_get book id) old new
+rows_there t0 t1 book id axis old new below is few =
+    let one = there book id below in
+    let R : Option Series → Type 0 = λ o. ReadsRows t0 t1 o old new in
+    let A : Axis → Type 0 = λ a. ReadsWindow a t0 t1 old new in
+    subst R (sym one.1) (subst A (is one.0 one.1) few)

@@ -11,7 +11,7 @@ use Rattle.gate_pages.proofs.Moving.{sent_same}
 use Rattle.chart_frames.specs.declared.frame.Frame.{Frame}
 use Rattle.chart_frames.specs.declared.frame.Frame.TheVariants.{Done}
 use Rattle.chart_frames.specs.Frames.{Fits, FitsRefused}
-use Rattle.chart_frames.specs.declared.refusals.TheConstants.{SUM_TOO_LARGE}
+use Rattle.series_book.specs.declared.refusal_numbers.TheConstants.{SUM_TOO_LARGE}
 use Rattle.request_lines.specs.declared.requests.Request.TheVariants.{Edit as EditRequest}
 use Rattle.series_book.specs.declared.one_series.Series.{Series}
 use Rattle.series_book.specs.declared.edits.Edit.{Edit}

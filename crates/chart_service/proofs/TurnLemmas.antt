@@ -3,7 +3,6 @@ use Rattle.std.proofs.lemmas.Bool.{cases_lt}
 use Rattle.std.proofs.Common.{◌≡◌, ◌≤◌, ◌+◌, ◌*◌, arith, ℕ, List, [], ◌∷◌, ◌++◌, length, Option, None, Some, Result, Ok, Err, IfSome, refl, sym, subst, inl, inr}
 use Rattle.std.specs.Prelude.{true, ⊤}
 use Rattle.std.specs.List.{filter}
-use Rattle.chart_world.specs.Lines.{lines}
 use Rattle.chart_world.specs.LineLaws.{lines_none, said}
 use Rattle.chart_world.specs.Fronts.{says}
 use Rattle.chart_frames.specs.declared.frame.Frame.{Frame}

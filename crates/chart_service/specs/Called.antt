@@ -11,11 +11,11 @@ use Rattle.zoom_session.specs.Sessions.{session_of, last_of, is_open, open_refus
 use Rattle.zoom_session.specs.declared.session.Session.{Session}
 use Rattle.zoom_session.specs.declared.view_spec.ViewSpec.{ViewSpec}
 use Rattle.chart_service.specs.ReadingBlocks.{ReadsLine}
-use Rattle.chart_service.specs.Looking.{Looks, Looked, Replying, ReadsBy, ReadsByText}
+use Rattle.chart_service.specs.Looking.{IsViewCause, Looks, Looked, Replying}
 use Rattle.chart_service.specs.Replies.{AnswersBy, AnswersView, RepliesToView, RepliesByText, MovesIn, Opens, own_zoom}
 use Rattle.chart_service.specs.Shown as shown
 use Rattle.chart_service.specs.State.{State}
-use Rattle.chart_service.specs.Stepping.{IsStepCause, IsLineCause, IsUnchangedBy, IsUnchangedFor, ReadsFew, ReadsFor, ReadsLast, series_at}
+use Rattle.chart_service.specs.Stepping.{IsStepCause, IsLineCause, IsUnchangedBy, IsUnchangedFor, ReadsBy, ReadsByText, ReadsFew, ReadsFor, ReadsLast, ReadsRows, series_at}
 use Rattle.chart_service.specs.Viewing.{AnswersRows}
 use Rattle.chart_service.specs.declared.failure.ServiceError.{ServiceError}
 use Rattle.chart_service.specs.declared.service.Service.{Service}
@@ -46,10 +46,17 @@ module _ {P : Type 0} {g : Ghosts P} where
 
   -- why a request wasn't answered, and a line
   abbrev pub IsCause : Request → Service P g → Service P g → ServiceError → Type 0
-  IsCause request old new error = IsStepCause request error (shown.IsTold old) (shown.catalog old) (shown.numbers old) (shown.view old) (shown.view new)
+  IsCause request old new error =
+      IsStepCause request error (shown.IsTold old) (shown.catalog old) old.sessions (shown.numbers old) (shown.view old) (shown.view new)
 
   abbrev pub IsCauseOfLine : Option (List ℕ) → Service P g → Service P g → ServiceError → Type 0
-  IsCauseOfLine line old new error = IsLineCause line error (shown.IsTold old) (shown.catalog old) (shown.numbers old) (shown.view old) (shown.view new)
+  IsCauseOfLine line old new error =
+      IsLineCause line error (shown.IsTold old) (shown.catalog old) old.sessions (shown.numbers old) (shown.view old) (shown.view new)
+
+  -- and a view of a series with such an id
+  abbrev pub IsCauseOfView : (ℕ → Type 0) → Service P g → Service P g → ServiceError → Type 0
+  IsCauseOfView IsShown old new error =
+      IsViewCause IsShown error (shown.IsTold old) (shown.catalog old) (shown.total old) (shown.view old) (shown.view new)
 
   -- the pages, the numbers of page 0 and the catalog stay
   abbrev pub LooksOnly : Service P g → Service P g → Type 0
@@ -73,9 +80,9 @@ HasRows spec number frame old new = IsSomeAnd (slice_get old.book spec.series) (
 abbrev pub HasCoefs : ViewSpec → ℕ → Frame → State → State → Type 0
 HasCoefs spec number frame old new = IsSomeAnd (slice_get old.book spec.series) (λ series. AnswersBy None series spec number frame old new)
 
--- a view with a filter reads what it needs, and one without reads few blocks
-abbrev pub ReadsAny : List Series → ℕ → ℕ → Type 0
-ReadsAny book old new = Unit {0}
+-- a view with a filter reads few blocks, and so does one without
+abbrev pub ReadsRowsFor : ViewSpec → List Series → ℕ → ℕ → Type 0
+ReadsRowsFor spec book = ReadsRows spec.grid.t0 spec.grid.t1 (slice_get book spec.series)
 
 abbrev pub ReadsForSpec : ViewSpec → List Series → ℕ → ℕ → Type 0
 ReadsForSpec spec book = ReadsFor spec.grid.w (slice_get book spec.series)
@@ -85,7 +92,7 @@ abbrev pub Shows : ViewSpec → ℕ → Frame → State → State → Type 0
 Shows spec number frame old new = IsSomeAnd (slice_get old.book spec.series) (λ series. AnswersView series spec number frame old new)
 
 abbrev pub ReadsFiltered : ViewSpec → List Series → ℕ → ℕ → Type 0
-ReadsFiltered spec book = ReadsBy spec.filter spec.grid.w (slice_get book spec.series)
+ReadsFiltered spec book = ReadsBy spec.filter spec.grid.w spec.grid.t0 spec.grid.t1 (slice_get book spec.series)
 
 -- the frame answers a view of the series of this name, with this filter, and with the filter of this text
 abbrev pub ShowsBy : Option (List Step) → ℕ → List ℕ → Viewport → RangeWord → Frame → State → State → Type 0
@@ -93,20 +100,20 @@ ShowsBy filter number name viewport word frame old new =
     RepliesToView (is_open number old.sessions) number name viewport.w viewport.h viewport.t0 viewport.t1 word filter frame old new
 
 abbrev pub ReadsNamed : Option (List Step) → List ℕ → Viewport → List Series → ℕ → ℕ → Type 0
-ReadsNamed filter name viewport book = ReadsBy filter viewport.w (series_at book (id_of name book))
+ReadsNamed filter name viewport book = ReadsBy filter viewport.w viewport.t0 viewport.t1 (series_at book (id_of name book))
 
 abbrev pub ShowsByText : Option (List ℕ) → ℕ → List ℕ → Viewport → RangeWord → Frame → State → State → Type 0
 ShowsByText text number name viewport word frame old new = RepliesByText text (λ filter. ShowsBy filter number name viewport word frame old new) frame old new
 
 abbrev pub ReadsByName : Option (List ℕ) → List ℕ → Viewport → List Series → ℕ → ℕ → Type 0
-ReadsByName text name viewport book = ReadsByText text viewport.w (series_at book (id_of name book))
+ReadsByName text name viewport book = ReadsByText text viewport.w viewport.t0 viewport.t1 (series_at book (id_of name book))
 
 -- the frame answers a zoom or a pan of a session's last view to these ends
 abbrev pub MovesTo : ℕ → (ViewSpec → ℤ × ℤ) → Frame → State → State → Type 0
 MovesTo number ends frame old new = MovesIn (session_of number old.sessions) number ends frame old new
 
-abbrev pub ReadsLastOf : ℕ → List Session → List Series → ℕ → ℕ → Type 0
-ReadsLastOf number sessions book = ReadsLast book (last_of (session_of number sessions))
+abbrev pub ReadsLastOf : ℕ → List Session → (ViewSpec → ℤ × ℤ) → List Series → ℕ → ℕ → Type 0
+ReadsLastOf number sessions window book = ReadsLast book (last_of (session_of number sessions)) window
 
 -- the frame answers the opening of a session
 abbrev pub OpensIn : ℕ → ℕ → State → State → Frame → Type 0

@@ -1,7 +1,6 @@
 -- Edits that are done together, and the lines that spell them.
 use Rattle.std.specs.Prelude.{ℕ, ◌≡◌, ◌+◌, ◌*◌, ◌≤◌, List, [], ◌∷◌, ◌++◌, length, map, take, Option, None, Some, Result, Ok, Err, ⊤}
 use Rattle.block_disk.specs.View.{Image}
-use Rattle.chart_world.specs.Lines.{lines}
 use Rattle.chart_frames.specs.declared.frame.Frame.{Frame}
 use Rattle.chart_frames.specs.declared.frame.Frame.TheVariants.{Done, Refused, Opened, Closed, View, Rows, Live, Report}
 use Rattle.request_lines.specs.declared.requests.Request.TheVariants.{Edit as EditRequest}

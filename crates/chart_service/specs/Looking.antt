@@ -1,5 +1,5 @@
 -- What a request that is no edit does. Private contracts are stated by these words.
-use Rattle.std.specs.Prelude.{ℕ, ◌≡◌, ◌≤◌, List, Option, None, Some, Result, IfOk, IfErr, OnErr, ⊤}
+use Rattle.std.specs.Prelude.{ℕ, ◌≡◌, ◌≤◌, List, Option, Result, IfOk, IfErr, OnErr, ⊤}
 use Rattle.block_disk.specs.Counts.{HasRisen}
 use Rattle.block_disk.specs.View.{View, Now, Passes}
 use Rattle.chart_frames.specs.declared.frame.Frame.{Frame}
@@ -12,7 +12,6 @@ use Rattle.request_lines.specs.declared.requests.Request.{Request}
 use Rattle.request_lines.specs.declared.requests.Request.TheVariants.{Edit as EditRequest, Open, View as ViewRequest, Zoom, Pan, Close}
 use Rattle.series_book.specs.declared.one_series.Series.{Series}
 use Rattle.series_catalog.specs.declared.stored_series.StoredSeries.{StoredSeries}
-use Rattle.value_filter.specs.declared.steps.Step.{Step}
 use Rattle.zoom_session.specs.declared.errors.PlanError.{PlanError}
 use Rattle.zoom_session.specs.declared.errors.PlanError.TheVariants as plan
 use Rattle.filter_scan.specs.declared.scan_error.ScanError.{ScanError}
@@ -25,7 +24,7 @@ use Rattle.chart_service.specs.Opening.{OpensBy, LosesAtMost}
 use Rattle.chart_service.specs.Planning.{AreInFrame}
 use Rattle.chart_service.specs.State.{State}
 use Rattle.chart_service.specs.Viewing.{has_of, least_of, greatest_of}
-use Rattle.chart_service.specs.Stepping.{state_of, IsDamagedToView, IsOutside, ReadsFor}
+use Rattle.chart_service.specs.Stepping.{state_of, IsDamagedToView, IsOutside}
 use Rattle.chart_service.specs.declared.failure.ServiceError.{ServiceError}
 use Rattle.chart_service.specs.declared.failure.ServiceError.TheVariants.{DiskFault, Damaged, NoMemory}
 use Rattle.chart_service.specs.declared.shown.Planned.{Planned}
@@ -55,12 +54,12 @@ pub record Looks (told_old told_new : Type 0) (old new under under' : View) (s s
   pub superblock : s' ≡ s
   pub catalog_is : catalog' ≡ catalog
 
--- why nodes over pages gave no coefficient
-abbrev pub IsNodeCause : NodeError → Type 0 → List StoredSeries → ℕ → View → View → Type 0
-IsNodeCause node.DiskFault told catalog total old new = HasRisen old.faults new.faults
-IsNodeCause (node.Damaged page) told catalog total old new = IsDamagedToView told catalog old.image total page
-IsNodeCause (node.Missing key) told catalog total old new = ⊥
-IsNodeCause (node.BadCoefficient key) told catalog total old new = ⊥
+-- why nodes over the pages of such a series gave no coefficient
+abbrev pub IsNodeCause : (ℕ → Type 0) → NodeError → Type 0 → List StoredSeries → ℕ → View → View → Type 0
+IsNodeCause IsShown node.DiskFault told catalog total old new = HasRisen old.faults new.faults
+IsNodeCause IsShown (node.Damaged page) told catalog total old new = IsDamagedToView IsShown told catalog old.image total page
+IsNodeCause IsShown (node.Missing key) told catalog total old new = ⊥
+IsNodeCause IsShown (node.BadCoefficient key) told catalog total old new = ⊥
 
 -- an error of nodes over pages
 abbrev pub IsOfPages : NodeError → Type 0
@@ -77,20 +76,20 @@ error_of (node.Missing key) = NoMemory
 error_of (node.BadCoefficient key) = NoMemory
 
 -- the cause of an error of a plan, and of a scan, if a node gave it
-abbrev pub IsPlanCause : PlanError → Type 0 → List StoredSeries → ℕ → View → View → Type 0
-IsPlanCause (plan.TooLarge needed cache) told catalog total old new = ⊤
-IsPlanCause (plan.Node error) told catalog total old new = IsNodeCause error told catalog total old new
-IsPlanCause plan.NoMemory told catalog total old new = ⊤
+abbrev pub IsPlanCause : (ℕ → Type 0) → PlanError → Type 0 → List StoredSeries → ℕ → View → View → Type 0
+IsPlanCause IsShown (plan.TooLarge needed cache) told catalog total old new = ⊤
+IsPlanCause IsShown (plan.Node error) told catalog total old new = IsNodeCause IsShown error told catalog total old new
+IsPlanCause IsShown plan.NoMemory told catalog total old new = ⊤
 
-abbrev pub IsScanCause : ScanError → Type 0 → List StoredSeries → ℕ → View → View → Type 0
-IsScanCause (scan.Node error) told catalog total old new = IsNodeCause error told catalog total old new
-IsScanCause scan.NoMemory told catalog total old new = ⊤
+abbrev pub IsScanCause : (ℕ → Type 0) → ScanError → Type 0 → List StoredSeries → ℕ → View → View → Type 0
+IsScanCause IsShown (scan.Node error) told catalog total old new = IsNodeCause IsShown error told catalog total old new
+IsScanCause IsShown scan.NoMemory told catalog total old new = ⊤
 
--- why a view wasn't answered
-abbrev pub IsViewCause : ServiceError → Type 0 → List StoredSeries → ℕ → View → View → Type 0
-IsViewCause DiskFault told catalog total old new = HasRisen old.faults new.faults
-IsViewCause (Damaged page) told catalog total old new = IsDamagedToView told catalog old.image total page
-IsViewCause NoMemory told catalog total old new = ⊤
+-- why a view of such a series wasn't answered
+abbrev pub IsViewCause : (ℕ → Type 0) → ServiceError → Type 0 → List StoredSeries → ℕ → View → View → Type 0
+IsViewCause IsShown DiskFault told catalog total old new = HasRisen old.faults new.faults
+IsViewCause IsShown (Damaged page) told catalog total old new = IsDamagedToView IsShown told catalog old.image total page
+IsViewCause IsShown NoMemory told catalog total old new = ⊤
 
 -- what comes of a request that is no edit, whatever the pages are
 pub record Looked (number : Option ℕ) (result : Result Frame ServiceError) (sessions sessions' : List Session) (told told' : Type 0) (old new under under' : View) (s s' : Superblock) (catalog catalog' : List StoredSeries) : Type 0 where
@@ -99,23 +98,12 @@ pub record Looked (number : Option ℕ) (result : Result Frame ServiceError) (se
   pub lost : OnErr result (LosesAtMost number sessions sessions')
   pub kept : KeepsSessions result sessions sessions'
   pub looks : Looks told told' old new under under' s s' catalog catalog'
-  pub cause : IfErr result (λ error. IsViewCause error told catalog s.total old new)
 
 -- what comes of it where the pages stand for a book
 pub record Replying (Reply : Frame → State → State → Type 0) (Reads : ℕ → ℕ → Type 0) (result : Result Frame ServiceError) (total : ℕ) (book : List Series) (sessions sessions' : List Session) (old new : View) : Type 0 where
   pub reply : IfOk result (λ frame. Reply frame (state_of book total sessions) (state_of book total sessions'))
   pub standing : IfErr result IsOutside
   pub reads : Reads old.reads new.reads
-
--- how many blocks a view reads, where it has no filter
-abbrev pub ReadsBy : Option (List Step) → ℕ → Option Series → ℕ → ℕ → Type 0
-ReadsBy None w series old new = ReadsFor w series old new
-ReadsBy (Some steps) w series old new = ⊤
-
--- the same by the text of its filter
-abbrev pub ReadsByText : Option (List ℕ) → ℕ → Option Series → ℕ → ℕ → Type 0
-ReadsByText None w series old new = ReadsFor w series old new
-ReadsByText (Some text) w series old new = ⊤
 
 -- the numbers of a plan are those that a frame may have, whatever the pages are
 pub record IsGoodPlan (planned : Planned) : Type 0 where

@@ -1,26 +1,30 @@
 -- What a step does: over the book that the pages of the store stand for, and to these pages.
-use Rattle.std.specs.Prelude.{ℕ, ◌≡◌, ◌+◌, ◌≤◌, ◌<◌, ◌⊎◌, List, length, Option, None, Some, Result, Ok, Err, MatchOption, slice_get, ⊤}
+use Rattle.std.specs.Prelude.{ℕ, ℤ, ◌≡◌, ◌+◌, ◌+ℤ◌, ◌≤◌, ◌<◌, ◌⊎◌, List, length, Option, None, Some, Result, Ok, Err, IsSomeAnd, MatchOption, slice_get, ⊤}
 use Rattle.block_disk.specs.Counts.{HasRisen}
 use Rattle.block_disk.specs.View.{Image, View, Rises}
 use Rattle.chart_frames.specs.declared.frame.Frame.{Frame}
 use Rattle.chart_frames.specs.declared.frame.Frame.TheVariants.{Done, Refused, Opened, Closed, View as ViewFrame, Rows, Live, Report}
 use Rattle.chart_frames.specs.Frames.{Fits}
+use Rattle.filter_scan.specs.Reads.{ReadsWindow}
 use Rattle.request_lines.specs.declared.requests.Request.{Request}
 use Rattle.request_lines.specs.declared.requests.Request.TheVariants.{Edit as EditRequest, Open, View as ViewRequest, Zoom, Pan, Close}
 use Rattle.request_lines.specs.Requests.{read_line}
 use Rattle.series_book.specs.declared.one_series.Series.{Series}
 use Rattle.series_book.specs.Edits.{id_of}
+use Rattle.series_store.specs.Asking.{IsNamedAt}
 use Rattle.series_store.specs.Results.{IsUnchanged}
 use Rattle.series_catalog.specs.declared.stored_series.StoredSeries.{StoredSeries}
 use Rattle.page_space.specs.declared.superblock.Superblock.{Superblock}
 use Rattle.stored_book.specs.Damage.{IsDamagedOnce, IsBadForRequest}
 use Rattle.stored_book.specs.Standing.{StandsForBook}
 use Rattle.tree_walk.specs.Paths.{IsDamaged}
+use Rattle.value_filter.specs.declared.steps.Step.{Step}
 use Rattle.zoom_session.specs.declared.session.Session.{Session}
 use Rattle.zoom_session.specs.declared.view_spec.ViewSpec.{ViewSpec}
 use Rattle.zoom_session.specs.Sessions.{session_of, last_of}
 use Rattle.chart_service.specs.State.{State, IsSound}
 use Rattle.chart_service.specs.Planning.{most_view_reads}
+use Rattle.chart_service.specs.Viewing.{axis_of}
 use Rattle.chart_service.specs.Replies.{Replies}
 use Rattle.chart_service.specs.declared.failure.ServiceError.{ServiceError}
 use Rattle.chart_service.specs.declared.failure.ServiceError.TheVariants.{DiskFault, Damaged, NoMemory}
@@ -49,43 +53,51 @@ pub record IsAfterReply (Reply : Frame → State → State → Type 0) (total : 
 abbrev pub IsBeforeOrAfter : (Frame → State → State → Type 0) → ℕ → List Series → List Session → Image → Type 0
 IsBeforeOrAfter Reply total book sessions image = StandsForBook image total book ⊎ IsAfterReply Reply total book sessions image
 
--- the page is one of the tree of a series in the catalog, and damaged
-pub record IsDamagedIn (catalog : List StoredSeries) (image : Image) (total page : ℕ) : Type 0 where
+-- the page is one of the tree of a series in the catalog whose id is so, and damaged
+pub record IsDamagedIn (IsShown : ℕ → Type 0) (catalog : List StoredSeries) (image : Image) (total page : ℕ) : Type 0 where
   pub id : ℕ
+  pub shown : IsShown id
   pub series : StoredSeries
   pub there : slice_get catalog id ≡ Some series
   pub damaged : IsDamaged image total series.tree page
 
--- a page that a view finds damaged is one of the store's, and is so where reads give what the pages are
-abbrev pub IsDamagedToView : Type 0 → List StoredSeries → Image → ℕ → ℕ → Type 0
-IsDamagedToView told catalog image total page = (page < total) × (told → IsDamagedIn catalog image total page)
+-- a page that a view of this series finds damaged is one of the store's, and is so where reads give what the pages are
+abbrev pub IsDamagedToView : (ℕ → Type 0) → Type 0 → List StoredSeries → Image → ℕ → ℕ → Type 0
+IsDamagedToView IsShown told catalog image total page = (page < total) × (told → IsDamagedIn IsShown catalog image total page)
 
--- what a page is that a request finds damaged: the same for a view, for an edit where no page is used twice; the others read
--- no page
-abbrev pub IsDamagedFor : Request → Type 0 → List StoredSeries → Image → Superblock → ℕ → Type 0
-IsDamagedFor (EditRequest edit) told catalog image s page = (page < s.total) × (told → IsDamagedOnce image s page)
-IsDamagedFor (Open number cache) told catalog image s page = ⊥
-IsDamagedFor (ViewRequest number name w h t0 t1 word text) told catalog image s page = IsDamagedToView told catalog image s.total page
-IsDamagedFor (Zoom number t0 t1) told catalog image s page = IsDamagedToView told catalog image s.total page
-IsDamagedFor (Pan number by) told catalog image s page = IsDamagedToView told catalog image s.total page
-IsDamagedFor (Close number) told catalog image s page = ⊥
+-- the series of a session's last view
+abbrev pub IsLastShown : Option ViewSpec → ℕ → Type 0
+IsLastShown last id = IsSomeAnd last (λ one. one.series ≡ id)
 
--- why a request wasn't answered; want of memory is free
-abbrev pub IsStepCause : Request → ServiceError → Type 0 → List StoredSeries → Superblock → View → View → Type 0
-IsStepCause request DiskFault told catalog s old new = HasRisen old.faults new.faults
-IsStepCause request (Damaged page) told catalog s old new = IsDamagedFor request told catalog old.image s page
-IsStepCause request NoMemory told catalog s old new = ⊤
+-- what a page is that a request finds damaged: for a view of the series of its name, for a zoom or a pan of that of the
+-- session's last view, and for an edit where no page is used twice; the others read no page
+abbrev pub IsDamagedFor : Request → Type 0 → List StoredSeries → List Session → Image → Superblock → ℕ → Type 0
+IsDamagedFor (EditRequest edit) told catalog sessions image s page = (page < s.total) × (told → IsDamagedOnce image s page)
+IsDamagedFor (Open number cache) told catalog sessions image s page = ⊥
+IsDamagedFor (ViewRequest number name w h t0 t1 word text) told catalog sessions image s page =
+    IsDamagedToView (IsNamedAt catalog name) told catalog image s.total page
+IsDamagedFor (Zoom number t0 t1) told catalog sessions image s page =
+    IsDamagedToView (IsLastShown (last_of (session_of number sessions))) told catalog image s.total page
+IsDamagedFor (Pan number by) told catalog sessions image s page =
+    IsDamagedToView (IsLastShown (last_of (session_of number sessions))) told catalog image s.total page
+IsDamagedFor (Close number) told catalog sessions image s page = ⊥
+
+-- why a request wasn't answered, by the sessions that were open; want of memory is free
+abbrev pub IsStepCause : Request → ServiceError → Type 0 → List StoredSeries → List Session → Superblock → View → View → Type 0
+IsStepCause request DiskFault told catalog sessions s old new = HasRisen old.faults new.faults
+IsStepCause request (Damaged page) told catalog sessions s old new = IsDamagedFor request told catalog sessions old.image s page
+IsStepCause request NoMemory told catalog sessions s old new = ⊤
 
 -- the same of what a line is read as, and of a line; nothing but want of memory keeps from a refusal
-abbrev pub IsReadCause : Result Request ℕ → ServiceError → Type 0 → List StoredSeries → Superblock → View → View → Type 0
-IsReadCause (Err at) DiskFault told catalog s old new = ⊥
-IsReadCause (Err at) (Damaged page) told catalog s old new = ⊥
-IsReadCause (Err at) NoMemory told catalog s old new = ⊤
-IsReadCause (Ok request) error told catalog s old new = IsStepCause request error told catalog s old new
+abbrev pub IsReadCause : Result Request ℕ → ServiceError → Type 0 → List StoredSeries → List Session → Superblock → View → View → Type 0
+IsReadCause (Err at) DiskFault told catalog sessions s old new = ⊥
+IsReadCause (Err at) (Damaged page) told catalog sessions s old new = ⊥
+IsReadCause (Err at) NoMemory told catalog sessions s old new = ⊤
+IsReadCause (Ok request) error told catalog sessions s old new = IsStepCause request error told catalog sessions s old new
 
-abbrev pub IsLineCause : Option (List ℕ) → ServiceError → Type 0 → List StoredSeries → Superblock → View → View → Type 0
-IsLineCause None error told catalog s old new = ⊥
-IsLineCause (Some text) error told catalog s old new = IsReadCause (read_line text) error told catalog s old new
+abbrev pub IsLineCause : Option (List ℕ) → ServiceError → Type 0 → List StoredSeries → List Session → Superblock → View → View → Type 0
+IsLineCause None error told catalog sessions s old new = ⊥
+IsLineCause (Some text) error told catalog sessions s old new = IsReadCause (read_line text) error told catalog sessions s old new
 
 -- a page that is called damaged is one of so many, and is so where reads give what the pages are
 abbrev pub IsBadPage : Type 0 → ℕ → Image → ℕ → Type 0
@@ -149,18 +161,31 @@ series_at book (Some id) = slice_get book id
 abbrev pub ReadsFor : ℕ → Option Series → ℕ → ℕ → Type 0
 ReadsFor w series old new = MatchOption series (new ≡ old) (λ one. new ≤ old + most_view_reads w (length one.slots))
 
--- the same of a session's last view, where that has no filter
-abbrev pub ReadsLast : List Series → Option ViewSpec → ℕ → ℕ → Type 0
-ReadsLast book None old new = new ≡ old
-ReadsLast book (Some last) old new = last.filter ≡ None → ReadsFor last.grid.w (slice_get book last.series) old new
+-- a filtered view over this window reads as many as a walk over the slots of the series in it takes
+abbrev pub ReadsRows : ℤ → ℤ → Option Series → ℕ → ℕ → Type 0
+ReadsRows t0 t1 series old new = MatchOption series (new ≡ old) (λ one. ReadsWindow (axis_of one) t0 t1 old new)
 
--- how many blocks an answer reads at most, where there is a bound: an edit, an opening, a closing, and a view, a zoom
--- or a pan without a filter, refused or not
+-- a view without a filter, or with these steps
+abbrev pub ReadsBy : Option (List Step) → ℕ → ℤ → ℤ → Option Series → ℕ → ℕ → Type 0
+ReadsBy None w t0 t1 series old new = ReadsFor w series old new
+ReadsBy (Some steps) w t0 t1 series old new = ReadsRows t0 t1 series old new
+
+-- the same by the text of its filter
+abbrev pub ReadsByText : Option (List ℕ) → ℕ → ℤ → ℤ → Option Series → ℕ → ℕ → Type 0
+ReadsByText None w t0 t1 series old new = ReadsFor w series old new
+ReadsByText (Some text) w t0 t1 series old new = ReadsRows t0 t1 series old new
+
+-- and of a session's last view over another window
+abbrev pub ReadsLast : List Series → Option ViewSpec → (ViewSpec → ℤ × ℤ) → ℕ → ℕ → Type 0
+ReadsLast book None window old new = new ≡ old
+ReadsLast book (Some last) window old new = ReadsBy last.filter last.grid.w (window last).0 (window last).1 (slice_get book last.series) old new
+
+-- how many blocks an answer reads at most, refused or not
 abbrev pub ReadsFew : Request → List Series → List Session → ℕ → ℕ → Type 0
 ReadsFew (EditRequest edit) book sessions old new = new ≤ old + 96
 ReadsFew (Open number cache) book sessions old new = new ≡ old
-ReadsFew (ViewRequest number name w h t0 t1 word None) book sessions old new = ReadsFor w (series_at book (id_of name book)) old new
-ReadsFew (ViewRequest number name w h t0 t1 word (Some text)) book sessions old new = ⊤
-ReadsFew (Zoom number t0 t1) book sessions old new = ReadsLast book (last_of (session_of number sessions)) old new
-ReadsFew (Pan number by) book sessions old new = ReadsLast book (last_of (session_of number sessions)) old new
+ReadsFew (ViewRequest number name w h t0 t1 word text) book sessions old new = ReadsByText text w t0 t1 (series_at book (id_of name book)) old new
+ReadsFew (Zoom number t0 t1) book sessions old new = ReadsLast book (last_of (session_of number sessions)) (λ last. (t0, t1)) old new
+ReadsFew (Pan number by) book sessions old new =
+    ReadsLast book (last_of (session_of number sessions)) (λ last. (last.grid.t0 +ℤ by, last.grid.t1 +ℤ by)) old new
 ReadsFew (Close number) book sessions old new = new ≡ old

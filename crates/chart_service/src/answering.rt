@@ -7,8 +7,8 @@ ghost use Rattle.chart_service.specs.Kinds.{MayShow};
 ghost use Rattle.chart_service.specs.Looking.{IsPlanCause, IsScanCause, IsOfPages, IsGoodPlan, error_of};
 ghost use Rattle.chart_service.specs.Opening.{StaysIn};
 ghost use Rattle.chart_service.specs.Planning.{PlansOrStops, ShowsOrStops, FitInFrame};
-ghost use Rattle.chart_service.specs.Stepping.{ReadsFor};
-ghost use Rattle.chart_service.specs.Called.{HasCoefs, HasRows, LooksIn, LooksOnly, ReadsAny, ReadsForSpec, RepliesOver};
+ghost use Rattle.chart_service.specs.Stepping.{ReadsFor, ReadsRows};
+ghost use Rattle.chart_service.specs.Called.{HasCoefs, HasRows, IsCauseOfView, LooksIn, LooksOnly, ReadsForSpec, ReadsRowsFor, RepliesOver};
 ghost use Rattle.chart_service.specs.Shown as shown;
 
 use crate::failure::ServiceError;
@@ -43,8 +43,9 @@ impl<P: Pages> Service<P> {
         requires number { 1 ≤ number }
         requires opened { IsTrue (is_open number self.old.sessions) }
         requires view { IsViewIn (length (shown.catalog self.old)) spec }
-        ensures replying { RepliesOver (HasRows spec number) ReadsAny result self.old self.new }
+        ensures replying { RepliesOver (HasRows spec number) (ReadsRowsFor spec) result self.old self.new }
         ensures looked { LooksIn (Some number) result self.old self.new }
+        ensures cause { IfErr result (IsCauseOfView (λ id. id ≡ spec.series) self.old self.new) }
         ensures may { IfOk result (λ frame. MayShow number frame) }
         ensures quiet { OnOk result ((shown.view self.new).faults ≡ (shown.view self.old).faults) }
         ensures quiet_err { IfErr result (λ e. e ≢ ServiceError.DiskFault → (shown.view self.new).faults ≡ (shown.view self.old).faults) }
@@ -68,10 +69,11 @@ impl<P: Pages> Service<P> {
         requires view { IsViewIn (length (shown.catalog self.old)) spec.now }
         ensures shown { shown.ForBook self.old (λ total book. IsSomeAnd (slice_get book spec.now.series) (λ series. ShowsOrStops series spec.now result)) }
         ensures fit { IfOk result (FitInFrame spec.now.grid.w) }
-        ensures cause { IfErr result (λ error. IsScanCause error (shown.IsTold self.old) (shown.catalog self.old) (shown.total self.old) (shown.view self.old) (shown.view self.new)) }
+        ensures cause { IfErr result (λ error. IsScanCause (λ id. id ≡ spec.now.series) error (shown.IsTold self.old) (shown.catalog self.old) (shown.total self.old) (shown.view self.old) (shown.view self.new)) }
         ensures looks { LooksOnly self.old self.new }
         ensures quiet { OnOk result ((shown.view self.new).faults ≡ (shown.view self.old).faults) }
         ensures quiet_err { IfErr result (λ e. e ≢ ScanError.Node NodeError.DiskFault → (shown.view self.new).faults ≡ (shown.view self.old).faults) }
+        ensures reads { shown.ForBook self.old (λ total book. ReadsRows spec.now.grid.t0 spec.now.grid.t1 (slice_get book spec.now.series) (shown.view self.old).reads (shown.view self.new).reads) }
         ensures sessions { self.new.sessions ≡ self.old.sessions }
     {
         let axis = selected(&mut self.store, spec.series);
@@ -91,6 +93,7 @@ impl<P: Pages> Service<P> {
         requires unfiltered { spec.filter ≡ None }
         ensures replying { RepliesOver (HasCoefs spec number) (ReadsForSpec spec) result self.old self.new }
         ensures looked { LooksIn (Some number) result self.old self.new }
+        ensures cause { IfErr result (IsCauseOfView (λ id. id ≡ spec.series) self.old self.new) }
         ensures may { IfOk result (λ frame. MayShow number frame) }
         ensures quiet { OnOk result ((shown.view self.new).faults ≡ (shown.view self.old).faults) }
         ensures quiet_err { IfErr result (λ e. e ≢ ServiceError.DiskFault → (shown.view self.new).faults ≡ (shown.view self.old).faults) }
@@ -123,7 +126,7 @@ impl<P: Pages> Service<P> {
         requires unfiltered { spec.now.filter ≡ None }
         ensures planned { shown.ForBook self.old (λ total book. IsSomeAnd (slice_get book spec.now.series) (λ series. PlansOrStops series spec.now (session_of number self.old.sessions) result)) }
         ensures good { IfOk result IsGoodPlan }
-        ensures cause { IfErr result (λ error. IsPlanCause error (shown.IsTold self.old) (shown.catalog self.old) (shown.total self.old) (shown.view self.old) (shown.view self.new)) }
+        ensures cause { IfErr result (λ error. IsPlanCause (λ id. id ≡ spec.now.series) error (shown.IsTold self.old) (shown.catalog self.old) (shown.total self.old) (shown.view self.old) (shown.view self.new)) }
         ensures looks { LooksOnly self.old self.new }
         ensures quiet { OnOk result ((shown.view self.new).faults ≡ (shown.view self.old).faults) }
         ensures quiet_err { IfErr result (λ e. e ≢ PlanError.Node NodeError.DiskFault → (shown.view self.new).faults ≡ (shown.view self.old).faults) }

@@ -1,4 +1,3 @@
-use chart_world::LineFault;
 use std::alloc::{AllocError, AllocFailed};
 use thiserror::Error;
 
@@ -70,20 +69,6 @@ impl From<AllocError> for ServiceError {
     }
 }
 
-impl From<LineFault> for ServeEnd {
-    ghost use Rattle.std.specs.Prelude.{◌≡◌};
-    ghost use Rattle.chart_service.specs.Serving.{end_of};
-
-    ghost from_gives = { λ fault end. end ≡ end_of fault };
-
-    fn from(fault: LineFault) -> ServeEnd {
-        match fault {
-            LineFault::ReadFault => ServeEnd::ReadFault,
-            LineFault::InputTooLong => ServeEnd::InputTooLong,
-        }
-    }
-}
-
 impl From<AllocError> for ServeEnd {
     ghost use Rattle.std.specs.Prelude.{◌≡◌};
     ghost use Rattle.chart_service.specs.declared.failure.ServeEnd.TheVariants.{NoMemory};
@@ -107,18 +92,6 @@ impl From<ServiceError> for ServeEnd {
             ServiceError::Damaged { page } => ServeEnd::Damaged { page },
             ServiceError::NoMemory => ServeEnd::NoMemory,
         }
-    }
-}
-
-impl<F> From<LineFault> for AnswerEnd<F> {
-    ghost use Rattle.std.specs.Prelude.{◌≡◌};
-    ghost use Rattle.chart_service.specs.Serving.{end_of};
-    ghost use Rattle.chart_service.specs.declared.failure.AnswerEnd.TheVariants.{Serve};
-
-    ghost from_gives = { λ fault end. end ≡ Serve (end_of fault) };
-
-    fn from(fault: LineFault) -> AnswerEnd<F> {
-        AnswerEnd::Serve(ServeEnd::from(fault))
     }
 }
 

@@ -1,8 +1,7 @@
 //! What a filtered view shows.
 
-ghost use Rattle.std.specs.Prelude.{◌≡◌, ◌≢◌, ◌+◌, ◌*◌, ◌≤◌, ◌<◌, ℕ, ℤ, List, All, Option, IfOk, IfErr, OnOk};
+ghost use Rattle.std.specs.Prelude.{◌≡◌, ◌≢◌, ◌≤◌, ◌<◌, ℕ, ℤ, List, All, Option, IfOk, IfErr, OnOk};
 ghost use Rattle.om3_coeff.specs.declared.errors.NodeError.TheVariants.{DiskFault};
-ghost use Rattle.om3_coeff.specs.Keys.{height};
 ghost use Rattle.om3_coeff.specs.View.{Agrees};
 ghost use Rattle.chart_grid.specs.declared.grid.Grid.{Grid};
 ghost use Rattle.plain_chart.specs.declared.sample.Sample.{Sample};
@@ -11,6 +10,7 @@ ghost use Rattle.m4_groups.specs.Heights.{IsDrawable};
 ghost use Rattle.m4_groups.specs.Rows.{AreRowsOf};
 ghost use Rattle.zoom_session.specs.Views.{IsRangeSpec};
 ghost use Rattle.filter_scan.specs.Answers.{IsCauseOf};
+ghost use Rattle.filter_scan.specs.Reads.{ReadsWindow};
 ghost use Rattle.chart_frames.specs.Frames.{IsRange};
 ghost use Rattle.chart_service.specs.Viewing.{ShowsRange, rows_frame};
 ghost use Rattle.chart_service.specs.Planning.{ShowsOf, FitInFrame};
@@ -52,7 +52,7 @@ pub(crate) fn shown_rows<N: Nodes>(
     // the nodes
     ensures fit { (N.view nodes.new).fit }
     ensures kept { N.keeps nodes.old nodes.new }
-    ensures reads { (N.view nodes.new).reads ≤ (N.view nodes.old).reads + (axis.slots + 2 * height axis.slots) }
+    ensures reads { ReadsWindow axis spec.now.grid.t0 spec.now.grid.t1 (N.view nodes.old).reads (N.view nodes.new).reads }
     ensures faults { (N.view nodes.old).faults ≤ (N.view nodes.new).faults }
     ensures quiet { OnOk result ((N.view nodes.new).faults ≡ (N.view nodes.old).faults) }
     ensures quiet_err { IfErr result (λ e. e ≢ ScanError.Node DiskFault → (N.view nodes.new).faults ≡ (N.view nodes.old).faults) }

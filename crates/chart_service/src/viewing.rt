@@ -1,8 +1,9 @@
 //! A service answers views.
-ghost use Rattle.std.specs.Prelude.{◌≡◌, ◌≢◌, ◌≤◌, ◌+ℤ◌, ℕ, ℤ, List, None, Some, length, IfOk, IfErr, IfSome, OnOk, IsTrue, MatchResult, Ok, Err};
+ghost use Rattle.std.specs.Prelude.{◌≡◌, ◌≢◌, ◌≤◌, ◌+ℤ◌, ℕ, ℤ, List, None, Some, length, slice_get, IfOk, IfErr, IfSome, OnOk, IsTrue, MatchResult, Ok, Err};
 ghost use Rattle.series_book.specs.declared.one_series.Series.{Series};
+ghost use Rattle.series_store.specs.Asking.{IsNamedAt};
 ghost use Rattle.stored_book.specs.Standing.{StandsForBook};
-ghost use Rattle.zoom_session.specs.Sessions.{is_open, session_of};
+ghost use Rattle.zoom_session.specs.Sessions.{is_open, last_of, session_of};
 ghost use Rattle.zoom_session.specs.Views.{IsRangeSpec};
 ghost use Rattle.chart_service.specs.Holding.{IsViewIn};
 ghost use Rattle.chart_service.specs.Kinds.{MayShow};
@@ -10,8 +11,8 @@ ghost use Rattle.chart_service.specs.Looking.{Replying};
 ghost use Rattle.chart_service.specs.Opening.{StaysIn};
 ghost use Rattle.chart_service.specs.Planning.{IsSpecFor, IsLastOf, IsMoved, IsGridFor};
 ghost use Rattle.chart_service.specs.Replies.{Moves};
-ghost use Rattle.chart_service.specs.Called.{LooksIn, MovesTo, ReadsByName, ReadsFiltered, ReadsLastOf, ReadsNamed, RepliesOver, Shows, ShowsBy, ShowsByText};
-ghost use Rattle.chart_service.specs.Stepping.{ReadsLast};
+ghost use Rattle.chart_service.specs.Called.{IsCauseOfView, LooksIn, MovesTo, ReadsByName, ReadsFiltered, ReadsLastOf, ReadsNamed, RepliesOver, Shows, ShowsBy, ShowsByText};
+ghost use Rattle.chart_service.specs.Stepping.{IsLastShown, ReadsBy};
 ghost use Rattle.chart_service.specs.Shown as shown;
 
 use crate::failure::ServiceError;
@@ -44,6 +45,7 @@ impl<P: Pages> Service<P> {
         requires short { IfSome text.now (λ text. length text ≤ 8192) }
         ensures replying { RepliesOver (ShowsByText text.now number name.now viewport word) (ReadsByName text.now name.now viewport) result self.old self.new }
         ensures looked { LooksIn (Some number) result self.old self.new }
+        ensures cause { IfErr result (IsCauseOfView (IsNamedAt (shown.catalog self.old) name.now) self.old self.new) }
         ensures may { IfOk result (λ frame. MayShow number frame) }
         ensures quiet { OnOk result ((shown.view self.new).faults ≡ (shown.view self.old).faults) }
         ensures quiet_err { IfErr result (λ e. e ≢ ServiceError.DiskFault → (shown.view self.new).faults ≡ (shown.view self.old).faults) }
@@ -68,6 +70,7 @@ impl<P: Pages> Service<P> {
         requires number { 1 ≤ number }
         ensures replying { RepliesOver (ShowsBy filter number name.now viewport word) (ReadsNamed filter name.now viewport) result self.old self.new }
         ensures looked { LooksIn (Some number) result self.old self.new }
+        ensures cause { IfErr result (IsCauseOfView (IsNamedAt (shown.catalog self.old) name.now) self.old self.new) }
         ensures may { IfOk result (λ frame. MayShow number frame) }
         ensures quiet { OnOk result ((shown.view self.new).faults ≡ (shown.view self.old).faults) }
         ensures quiet_err { IfErr result (λ e. e ≢ ServiceError.DiskFault → (shown.view self.new).faults ≡ (shown.view self.old).faults) }
@@ -90,8 +93,9 @@ impl<P: Pages> Service<P> {
     pub(crate) fn zoom(&mut self, number: u32, t0: i128, t1: i128) -> Result<Frame, ServiceError>
         requires sound { (shown.view self.old).fit }
         requires number { 1 ≤ number }
-        ensures replying { RepliesOver (MovesTo number (λ last. (t0, t1))) (ReadsLastOf number self.old.sessions) result self.old self.new }
+        ensures replying { RepliesOver (MovesTo number (λ last. (t0, t1))) (ReadsLastOf number self.old.sessions (λ last. (t0, t1))) result self.old self.new }
         ensures looked { LooksIn (Some number) result self.old self.new }
+        ensures cause { IfErr result (IsCauseOfView (IsLastShown (last_of (session_of number self.old.sessions))) self.old self.new) }
         ensures may { IfOk result (λ frame. MayShow number frame) }
         ensures quiet { OnOk result ((shown.view self.new).faults ≡ (shown.view self.old).faults) }
         ensures quiet_err { IfErr result (λ e. e ≢ ServiceError.DiskFault → (shown.view self.new).faults ≡ (shown.view self.old).faults) }
@@ -109,8 +113,9 @@ impl<P: Pages> Service<P> {
     pub(crate) fn pan(&mut self, number: u32, by: i128) -> Result<Frame, ServiceError>
         requires sound { (shown.view self.old).fit }
         requires number { 1 ≤ number }
-        ensures replying { RepliesOver (MovesTo number (λ last. (last.grid.t0 +ℤ by, last.grid.t1 +ℤ by))) (ReadsLastOf number self.old.sessions) result self.old self.new }
+        ensures replying { RepliesOver (MovesTo number (λ last. (last.grid.t0 +ℤ by, last.grid.t1 +ℤ by))) (ReadsLastOf number self.old.sessions (λ last. (last.grid.t0 +ℤ by, last.grid.t1 +ℤ by))) result self.old self.new }
         ensures looked { LooksIn (Some number) result self.old self.new }
+        ensures cause { IfErr result (IsCauseOfView (IsLastShown (last_of (session_of number self.old.sessions))) self.old self.new) }
         ensures may { IfOk result (λ frame. MayShow number frame) }
         ensures quiet { OnOk result ((shown.view self.new).faults ≡ (shown.view self.old).faults) }
         ensures quiet_err { IfErr result (λ e. e ≢ ServiceError.DiskFault → (shown.view self.new).faults ≡ (shown.view self.old).faults) }
@@ -135,8 +140,9 @@ impl<P: Pages> Service<P> {
         requires opened { IsTrue (is_open number self.old.sessions) }
         requires view { IsViewIn (length (shown.catalog self.old)) last }
         ensures replying { (total : ℕ) (book : List Series) (t0 t1 : ℤ) → shown.IsTold self.old → StandsForBook (shown.image self.old) total book → IsMoved last.grid t0 t1 grid
-            → Replying (λ frame old new. Moves last number t0 t1 frame old new) (ReadsLast book (Some last)) result total book self.old.sessions self.new.sessions (shown.view self.old) (shown.view self.new) }
+            → Replying (λ frame old new. Moves last number t0 t1 frame old new) (ReadsBy last.filter last.grid.w t0 t1 (slice_get book last.series)) result total book self.old.sessions self.new.sessions (shown.view self.old) (shown.view self.new) }
         ensures looked { LooksIn (Some number) result self.old self.new }
+        ensures cause { IfErr result (IsCauseOfView (λ id. id ≡ last.series) self.old self.new) }
         ensures may { IfOk result (λ frame. MayShow number frame) }
         ensures quiet { OnOk result ((shown.view self.new).faults ≡ (shown.view self.old).faults) }
         ensures quiet_err { IfErr result (λ e. e ≢ ServiceError.DiskFault → (shown.view self.new).faults ≡ (shown.view self.old).faults) }
@@ -182,6 +188,7 @@ impl<P: Pages> Service<P> {
         requires view { IsViewIn (length (shown.catalog self.old)) spec }
         ensures replying { RepliesOver (Shows spec number) (ReadsFiltered spec) result self.old self.new }
         ensures looked { LooksIn (Some number) result self.old self.new }
+        ensures cause { IfErr result (IsCauseOfView (λ id. id ≡ spec.series) self.old self.new) }
         ensures may { IfOk result (λ frame. MayShow number frame) }
         ensures quiet { OnOk result ((shown.view self.new).faults ≡ (shown.view self.old).faults) }
         ensures quiet_err { IfErr result (λ e. e ≢ ServiceError.DiskFault → (shown.view self.new).faults ≡ (shown.view self.old).faults) }

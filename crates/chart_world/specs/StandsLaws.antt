@@ -1,7 +1,7 @@
 -- Where a reader stands in its input, from one line to the next.
 use Rattle.std.proofs.Common.{◌≡◌, ◌<◌, ℕ, ◌+◌, ◌-◌, ◌^◌, false, not, IsTrue, List, [], ◌∷◌, ◌++◌, length, take, drop, get_or, Option, Some, None, IfSome, refl, ap, subst, inl, inr, sym, ◌∙◌, arith, length-append, length-drop}
 use Rattle.std.specs.List.{after_first, position_or_len}
-use Rattle.std.proofs.lemmas.List.{drop-append-le, drop-drop, drop_all, length-take, take_more}
+use Rattle.std.proofs.lemmas.List.{drop-append-le, drop-drop, drop_all, take_more}
 use Rattle.std.proofs.lemmas.List.Sums.{passes_at_first}
 use Rattle.std.proofs.lemmas.Bool.{cases_lt, eqb-true}
 use Rattle.std.proofs.lemmas.List.Folds.{prefix_len-append}
@@ -100,24 +100,6 @@ behind_pending pending (Some rest) found =
 pub feed_pending : (pending : List ℕ) (left : Option (List ℕ)) → position_or_len is_line_feed pending < length pending → HasFeed (in_front_of pending left)
 feed_pending pending None found = tt
 feed_pending pending (Some rest) found = omega (arith, position_in_front pending rest found, found, length-append pending rest)
-
--- a line that is pending is passed
-pub stands_passed : (o left : Option (List ℕ)) (r r' : Reading) → position_or_len is_line_feed r.pending < length r.pending → r.taken ≡ r.given + length r.pending → r'.taken ≡ r.taken
-    → r'.given ≡ r.given + length (first_piece r.pending) → r'.pending ≡ after_first is_line_feed r.pending → r'.ended ≡ r.ended
-    → StandsIn o r left → StandsIn o r' left
-stands_passed o left r r' found counted taken given pending ended stands =
-    let at = position_or_len is_line_feed r.pending in
-    let short = length-take (at + 1) r.pending in
-    let less = ap length pending ∙ length-drop (at + 1) r.pending in
-    stands_next o left left r r'
-    (ap (λ l. in_front_of l left) pending ∙ behind_pending r.pending left found)
-    counted
-    (omega (arith, found, counted, taken, given, short, less))
-    (ap (λ n. input_length n left) taken)
-    (λ _. feed_pending r.pending left found)
-    (λ going. sym ended ∙ going)
-    (λ end. stands.nothing (sym ended ∙ end))
-    stands
 
 -- what was given is a front of the input
 pub whole_given : (input front rest : List ℕ) (given : ℕ) → input ≡ front ++ rest → given ≡ length front → IsWhole (take given input) → IsWhole front

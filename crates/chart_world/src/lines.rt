@@ -1,9 +1,9 @@
 //! The lines of a stream, one at a time.
 ghost use Rattle.std.specs.Prelude.{true, false, ◌≡◌, ◌≢◌, ◌≤◌, ◌<◌, ◌+◌, ◌-◌, ◌^◌, [], None, IsTrue, IfSome, length, take, drop, List, Option, ℕ, IfOk, OnOk, OnErr};
-ghost use Rattle.std.specs.List.{position_or_len, before_first, after_first};
+ghost use Rattle.std.specs.List.{position_or_len};
 ghost use Rattle.block_disk.specs.Counts.{HasRisen};
 ghost use Rattle.block_disk.specs.Streams.{left_after};
-ghost use Rattle.chart_world.specs.Fronts.{StandsIn, first_piece};
+ghost use Rattle.chart_world.specs.Fronts.{StandsIn};
 ghost use Rattle.chart_world.specs.Lines.{is_line_feed, text_of};
 ghost use Rattle.chart_world.specs.Reading.{unread_input, unread_up_to, unread, told_lines, with_first, behind_first, input_length, HasFeed, HasLine, HasLineAt, IsNone, NoLineIn, Took};
 
@@ -189,40 +189,6 @@ impl Lines {
         ensures unready { result ≡ false → HasLine self.now → ⊥ }
     {
         self.pending_line().is_some()
-    }
-
-    /// The text of the next line, where that is ready and isn't too long. It isn't passed.
-    pub fn ahead(&self) -> Option<&[u8]>
-        ensures ready { IfSome result (λ text. HasLine self.now) }
-        ensures text { IfSome result (λ text. text_of (before_first is_line_feed self.now.pending) ≡ Some text.now) }
-        ensures short { IfSome result (λ text. length text.now ≤ 8192) }
-        ensures none { result ≡ None → HasLine self.now → text_of (before_first is_line_feed self.now.pending) ≡ None }
-    {
-        let before = self.pending_line()?;
-        if before > LONGEST {
-            return None;
-        }
-        let first = self.feed.start;
-        let bytes = self.feed.bytes.as_slice();
-        let length = text_len(&bytes[first..first + before]);
-        Some(&bytes[first..first + length])
-    }
-
-    /// Passes the next line, which is ready.
-    pub fn pass(&mut self)
-        requires usable { IsTrue self.old.usable }
-        requires ready { HasLine self.old }
-        requires counted { self.old.taken ≡ self.old.given + length self.old.pending }
-        ensures passed { self.new.given ≡ self.old.given + length (first_piece self.old.pending) }
-        ensures pending { self.new.pending ≡ after_first is_line_feed self.old.pending }
-        ensures within { self.new.given ≤ self.old.limit }
-        ensures limit { self.new.limit ≡ self.old.limit }
-        ensures taken { self.new.taken ≡ self.old.taken }
-        ensures stands { (input left : Option (List ℕ)) → StandsIn input self.old left → StandsIn input self.new left }
-        ensures usable { IsTrue self.new.usable }
-    {
-        let before = self.feed.line_feed();
-        self.give_pending(before);
     }
 
     /// The line of the last answer, where that was `Line`; empty otherwise.

@@ -1,5 +1,5 @@
 -- How a demo ends.
-use Rattle.std.proofs.Common.{◌≡◌, ◌≢◌, ℕ, List, Option, Result, Ok, Err, sym, subst, ap, inl, inr}
+use Rattle.std.proofs.Common.{◌≡◌, ◌≢◌, ℕ, List, length, Option, Result, Ok, Err, sym, subst, ap, inl, inr, arith}
 use Rattle.block_disk.specs.View.{View, sent_now}
 use Rattle.gate_pages.specs.Journal.{page_count}
 use Rattle.request_lines.specs.declared.requests.Request.{Request}
@@ -7,7 +7,7 @@ use Rattle.disk_store.specs.Openings.{Opens}
 use Rattle.disk_store.specs.declared.causes.OpeningCause.{OpeningCause}
 use Rattle.disk_store.specs.declared.causes.OpeningCause.TheVariants as opening
 use Rattle.demo_workload.specs.declared.summaries.Summary.{Summary}
-use Rattle.demo_workload.specs.Ending.{IsOutside}
+use Rattle.demo_workload.specs.Ending.{CostsRequests, IsOutside}
 use Rattle.demo_workload.specs.Replying.{Summarizes}
 use Rattle.demo_workload.specs.Workload.{workload}
 use Rattle.run_ends.specs.declared.ending.End.{End}
@@ -20,9 +20,10 @@ use Rattle.store_commands.proofs.HoldsAgain.{again_from}
 use Rattle.store_commands.proofs.Moments.{since_opened, opened_goes}
 use Rattle.store_commands.proofs.Unopened.{unopened_end}
 use Rattle.store_commands.proofs.WorldLemmas.{IsUnopened}
-use Rattle.demo_workload.specs.Demonstrated.{AnswersFirst, DemoEnds, IsAheadDemo, IsDemoEnd, LeavesDemo}
+use Rattle.demo_workload.specs.Demonstrated.{AnswersFirst, CostsDemo, DemoEnds, IsAheadDemo, IsDemoEnd, LeavesDemo}
 use Rattle.demo_workload.specs.Answered.{Answered}
 use Rattle.demo_workload.proofs.DemoRequests.{first_none, ahead_none}
+use Rattle.demo_workload.proofs.Rounds.{few_by_rounds}
 
 -- ---- no store was opened
 
@@ -31,6 +32,16 @@ opened_leaves requests old new opens = λ total book holds.
     since_opened (IsAheadDemo requests (page_count old.size) total (begun total book) (sent_now old)) old new total book opens holds
     (λ image is. ahead_none requests (page_count old.size) total book (sent_now old) image is)
 
+-- what an opening costs, and what requests cost behind it
+costs_opening : (rounds : ℕ) (old new : View) → Opens (page_count old.size) old new → CostsDemo rounds old new
+costs_opening rounds old new opens = record { syncs = omega (arith, opens.few.syncs.high); writes = omega (arith, opens.few.writes.high) }
+
+pub costs_behind : (seed rounds : ℕ) (old mid new : View) → Opens (page_count old.size) old mid → CostsRequests (length (workload seed rounds)) mid new → CostsDemo rounds old new
+costs_behind seed rounds old mid new opens costs = record {
+  syncs = omega (arith, few_by_rounds seed rounds, opens.few.syncs.high, costs.syncs);
+  writes = omega (arith, few_by_rounds seed rounds, opens.few.writes.high, costs.writes);
+}
+
 pub undemonstrated : (seed rounds : ℕ) (old new : View) (left left' before now : Option (List ℕ)) (sends sends_now : ℕ) (cause : OpeningCause) (end : End) → IsUnopened old new left left' before now cause → end ≡ opening_end cause
     → DemoEnds seed rounds old new before now sends sends_now end
 undemonstrated seed rounds old new left left' before now sends sends_now cause end u same =
@@ -38,6 +49,7 @@ undemonstrated seed rounds old new left left' before now sends sends_now cause e
     subst P (sym same) (record {
       is = by cause (unopened_end old new left left' before now cause u);
       crash = opened_leaves (workload seed rounds) old new u.opens;
+      costs = costs_opening rounds old new u.opens;
       honest = u.opens.honest;
       goes_on = opened_goes old new u.opens;
     })
@@ -66,8 +78,8 @@ stopped seed rounds old new before now sends sends_now (BadCoefficient number) a
 stopped seed rounds old new before now sends sends_now end a same = absurd a.cause
 
 pub stopped_ends : (seed rounds : ℕ) (old new : View) (before now : Option (List ℕ)) (sends sends_now : ℕ) (end : End) → Answered (workload seed rounds) (page_count old.size) old new (Err end) → now ≡ before
-    → DemoEnds seed rounds old new before now sends sends_now end
-stopped_ends seed rounds old new before now sends sends_now end a same = record { is = stopped seed rounds old new before now sends sends_now end a same; crash = a.crash; honest = a.honest; goes_on = a.goes_on }
+    → CostsDemo rounds old new → DemoEnds seed rounds old new before now sends sends_now end
+stopped_ends seed rounds old new before now sends sends_now end a same costs = record { costs = costs; is = stopped seed rounds old new before now sends sends_now end a same; crash = a.crash; honest = a.honest; goes_on = a.goes_on }
 
 -- ---- a disk that held a book holds one again
 

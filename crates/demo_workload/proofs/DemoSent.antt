@@ -1,5 +1,5 @@
 -- How a demo ends whose requests were all answered, by the sending of its summary.
-use Rattle.std.proofs.Common.{◌≡◌, ℕ, ◌≤◌, List, [], Option, Ok, sym, subst}
+use Rattle.std.proofs.Common.{◌≡◌, ℕ, ◌≤◌, List, [], Option, Ok, sym, subst, arith}
 use Rattle.std.proofs.lemmas.List.{append-nil}
 use Rattle.block_disk.specs.View.{View, Now, DiskKept, Passes, sent_now}
 use Rattle.gate_pages.specs.GateLaws.{goes_by, goes_then, kept_told}
@@ -13,7 +13,7 @@ use Rattle.demo_workload.specs.Workload.{workload}
 use Rattle.demo_workload.proofs.Replies.{pictures_answers}
 use Rattle.store_commands.specs.Books.{begun, FromBook}
 use Rattle.store_commands.proofs.Moments.{since_sent}
-use Rattle.demo_workload.specs.Demonstrated.{AnswersFirst, DemoEnds, IsAheadDemo, IsDemoEnd, LeavesDemo, SendsSummary, SendsSummaryPart}
+use Rattle.demo_workload.specs.Demonstrated.{AnswersFirst, CostsDemo, DemoEnds, IsAheadDemo, IsDemoEnd, LeavesDemo, SendsSummary, SendsSummaryPart}
 use Rattle.demo_workload.specs.Answered.{Answered}
 use Rattle.run_ends.specs.declared.ending.End.{End}
 use Rattle.run_ends.specs.declared.ending.End.TheVariants as ends
@@ -65,14 +65,15 @@ module _ (seed rounds : ℕ) (old mid new : View) (summary : Summary) (a : Answe
   summary_sent before now sends sends_now end is = absurd is
 
 pub sent_ends : (seed rounds : ℕ) (old mid new : View) (before between now : Option (List ℕ)) (sends sends_mid sends_now : ℕ) (end : End) (summary : Summary) → Answered (workload seed rounds) (page_count old.size) old mid (Ok summary)
-    → between ≡ before → sends_mid ≡ sends → SendsText (summary_line summary) mid new between now sends_mid sends_now end → DemoEnds seed rounds old new before now sends sends_now end
-sent_ends seed rounds old mid new before between now sends sends_mid sends_now end summary a same same_sends s =
+    → between ≡ before → sends_mid ≡ sends → SendsText (summary_line summary) mid new between now sends_mid sends_now end → CostsDemo rounds old mid → DemoEnds seed rounds old new before now sends sends_now end
+sent_ends seed rounds old mid new before between now sends sends_mid sends_now end summary a same same_sends s costs =
     let B : Option (List ℕ) → Type 0 = λ b. SendsText (summary_line summary) mid new b now sends_mid sends_now end in
     let S : ℕ → Type 0 = λ n. SendsText (summary_line summary) mid new before now n sends_now end in
     let t = subst S same_sends (subst B same s) in
     record {
       is = summary_sent seed rounds old mid new summary a t.kept t.time before now sends sends_now end t.is;
       crash = all_leave (workload seed rounds) (page_count old.size) old mid new summary a t.kept t.time;
+      costs = record { syncs = omega (arith, t.kept.syncs, costs.syncs); writes = omega (arith, t.kept.writes, costs.writes) };
       honest = λ h. kept_told mid new t.kept (a.honest h);
       goes_on = goes_then old mid new a.goes_on (goes_by mid new (Now mid) (λ sent. (sent_now mid ≤ sent) × (sent ≤ sent_now new)) t.time);
     }

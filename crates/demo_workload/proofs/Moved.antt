@@ -21,7 +21,7 @@ use Rattle.demo_workload.specs.declared.summaries.Summary.{Summary}
 use Rattle.demo_workload.specs.Replying.{IsPartWay}
 use Rattle.run_ends.specs.declared.ending.End.{End}
 use Rattle.run_ends.specs.declared.ending.End.TheVariants.{DiskFault, Missing, BadCoefficient}
-use Rattle.demo_workload.specs.Ending.{Runs, IsCause, MeetsError}
+use Rattle.demo_workload.specs.Ending.{CostsRequests, Runs, IsCause, MeetsError}
 use Rattle.demo_workload.specs.Answering.{HasAccepted, IsOneCause, Reaches}
 use Rattle.demo_workload.proofs.Replies.{next_part}
 
@@ -36,6 +36,24 @@ runs_on told_old told_mid told_new old mid new first second = record {
   beside = second.beside ∙ first.beside;
   faults = omega (arith, first.faults, second.faults);
 }
+
+-- requests, and one more
+pub costs_none : (requests : ℕ) (at : View) → CostsRequests requests at at
+costs_none requests at = record { syncs = omega arith; writes = omega arith }
+
+pub costs_on : (told_mid told_new : Type 0) (requests more : ℕ) (old mid new : View) → requests + 1 ≤ more → CostsRequests requests old mid → Steps told_mid told_new mid new → CostsRequests more old new
+costs_on told_mid told_new requests more old mid new one first second = record {
+  syncs = omega (arith, one, first.syncs, second.syncs.high);
+  writes = omega (arith, one, first.writes, second.writes.high);
+}
+
+pub costs_most : (requests most : ℕ) (old new : View) → requests ≤ most → CostsRequests requests old new → CostsRequests most old new
+costs_most requests most old new few costs = record { syncs = omega (arith, few, costs.syncs); writes = omega (arith, few, costs.writes) }
+
+pub one_counted : (requests requests' : ℕ) (workload left : List Request) (request : Request) (all : ℕ) → workload ≡ request ∷ left → requests' ≡ requests + 1 → requests + length workload ≡ all → requests' + length left ≡ all
+one_counted requests requests' workload left request all is one was =
+    let some : length workload ≡ suc (length left) = ap length is in
+    omega (arith, some, one, was)
 
 -- at each moment of one more request a crash leaves the book behind some first requests
 pub moments_more : (requests left : List Request) (request : Request) (total : ℕ) (state : State) (old mid new : View) (sessions : List Session) (holdings : List Holding)

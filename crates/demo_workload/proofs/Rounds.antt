@@ -57,6 +57,12 @@ few_in_rounds (suc n) i walk =
     length-append (round i walk) (rounds n (i + 1) (after_round i walk)) in
     omega arith
 
+pub few_by_rounds : (seed count : ℕ) → length (workload seed count) ≤ 3 * count + 2
+few_by_rounds seed count =
+    let some : length (rounds count 0 (record { state = seed; value = pos 0 })) ≤ 3 * count = few_in_rounds count 0 _ in
+    let all : length (workload seed count) ≡ suc (suc (length (rounds count 0 (record { state = seed; value = pos 0 })))) = refl in
+    omega arith
+
 pub few_requests : (seed count : ℕ) → count ≤ 4096 → length (workload seed count) ≤ 12290
 few_requests seed count few =
     let some : length (rounds count 0 (record { state = seed; value = pos 0 })) ≤ 3 * count = few_in_rounds count 0 _ in

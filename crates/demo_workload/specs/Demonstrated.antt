@@ -1,5 +1,5 @@
 -- How the workload of a seed ends over the disk's store.
-use Rattle.std.specs.Prelude.{◌≡◌, ℕ, ◌<◌, ◌≤◌, List, ◌++◌, Option}
+use Rattle.std.specs.Prelude.{◌≡◌, ℕ, ◌+◌, ◌*◌, ◌<◌, ◌≤◌, List, ◌++◌, Option}
 use Rattle.block_disk.specs.Counts.{HasRisen}
 use Rattle.block_disk.specs.Streams.{sent_after}
 use Rattle.block_disk.specs.View.{Honest, Image, View, sent_now}
@@ -57,6 +57,12 @@ pub record IsAheadDemo (requests : List Request) (count total : ℕ) (start : St
 abbrev pub LeavesDemo : List Request → ℕ → View → View → Type 0
 LeavesDemo requests count old new = OfBook count old (λ total book. Since old new (IsAheadDemo requests count total (begun total book) (sent_now old)))
 
+-- Behind an opening each request is one commit at most, of at most 42 pages. A workload has two requests, and three for each
+-- round at most.
+pub record CostsDemo (rounds : ℕ) (old new : View) : Type 0 where
+  pub syncs : new.syncs ≤ old.syncs + 7 + 4 * (3 * rounds + 2)
+  pub writes : new.writes ≤ old.writes + 102 + 87 * (3 * rounds + 2)
+
 -- What the workload did and sent, and why it ended.
 abbrev pub IsDemoEnd : End → ℕ → ℕ → View → View → Option (List ℕ) → Option (List ℕ) → ℕ → ℕ → Type 0
 IsDemoEnd Done seed rounds old new before now sends sends_now =
@@ -77,6 +83,7 @@ IsDemoEnd end seed rounds old new before now sends sends_now = IsUnopenedEnd end
 pub record DemoEnds (seed rounds : ℕ) (old new : View) (before now : Option (List ℕ)) (sends sends_now : ℕ) (end : End) : Type 0 where
   pub is : IsDemoEnd end seed rounds old new before now sends sends_now
   pub crash : LeavesDemo (workload seed rounds) (page_count old.size) old new
+  pub costs : CostsDemo rounds old new
   -- reads give what a crash may leave, where they did
   pub honest : Honest old → Honest new
   pub goes_on : GoesOn old new

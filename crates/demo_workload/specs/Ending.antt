@@ -1,5 +1,5 @@
 -- Why a workload wasn't answered to its end, and what stays.
-use Rattle.std.specs.Prelude.{ℕ, ◌≡◌, ◌≢◌, ◌≤◌, ◌⊎◌, List, [], Option, Result, IfErr, ⊤}
+use Rattle.std.specs.Prelude.{ℕ, ◌≡◌, ◌≢◌, ◌+◌, ◌*◌, ◌≤◌, ◌⊎◌, List, [], Option, Result, IfErr, ⊤}
 use Rattle.block_disk.specs.Counts.{HasRisen}
 use Rattle.block_disk.specs.View.{View}
 use Rattle.line_raster.specs.Canvas.{Canvas}
@@ -52,6 +52,11 @@ IsCause (DamagedPage page) told old new = IsBadPage told new.size new.image page
 IsCause (Missing number) told old new = MeetsKey client.Missing number
 IsCause (BadCoefficient number) told old new = MeetsKey client.BadCoefficient number
 IsCause end told old new = ⊥
+
+-- each of so many requests is one commit at most, of at most 42 pages
+pub record CostsRequests (requests : ℕ) (old new : View) : Type 0 where
+  pub syncs : new.syncs ≤ old.syncs + 4 * requests
+  pub writes : new.writes ≤ old.writes + 87 * requests
 
 -- what a workload moves, whatever the pages are
 pub record Runs (told_old told_new : Type 0) (old new : View) : Type 0 where

@@ -1,5 +1,5 @@
 //! The command `demo`: the workload that a number makes is answered, and the summary of its replies is sent.
-ghost use Rattle.std.specs.Prelude.{◌≡◌, ◌≢◌, ◌≤◌, []};
+ghost use Rattle.std.specs.Prelude.{◌≡◌, ◌≢◌, ◌≤◌, [], length};
 ghost use Rattle.chart_world.specs.Faults.{CountsFault, fault_in};
 ghost use Rattle.gate_pages.specs.Shown.{AreSound, count, disk};
 ghost use Rattle.gate_pages.specs.Journal.{page_count};
@@ -7,6 +7,7 @@ ghost use Rattle.series_store.specs.Shown as shown;
 ghost use Rattle.chart_service.specs.Shown as service_shown;
 ghost use Rattle.demo_workload.specs.Workload.{workload};
 ghost use Rattle.demo_workload.specs.Answered.{Answered};
+ghost use Rattle.demo_workload.specs.Ending.{CostsRequests};
 ghost use Rattle.run_ends.specs.Faults.{end_fault};
 ghost use Rattle.run_ends.specs.Statuses.{status_of};
 ghost use Rattle.store_commands.specs.Away.{TurnsAway};
@@ -57,6 +58,7 @@ fn answer_store<W: World>(
     requires sound { AreSound (shown.pages store) }
     requires rounds { rounds ≤ 4096 }
     ensures answered { let pages = shown.pages store in Answered (workload seed rounds) (count pages) (W.view (disk pages)) (W.view result.1) result.0 }
+    ensures costs { CostsRequests (length (workload seed rounds)) (W.view (disk (shown.pages store))) (W.view result.1) }
     ensures faults { CountsFault (fault_in end_fault result.0) (W.view (disk (shown.pages store))) (W.view result.1) }
 {
     match Service::new(alloc, store) {
@@ -76,6 +78,7 @@ fn answer_all<W: World>(
     requires alone { service_shown.sessions service ≡ [] }
     requires rounds { rounds ≤ 4096 }
     ensures answered { let pages = service_shown.pages service in Answered (workload seed rounds) (count pages) (W.view (disk pages)) (W.view result.1) result.0 }
+    ensures costs { CostsRequests (length (workload seed rounds)) (W.view (disk (service_shown.pages service))) (W.view result.1) }
     ensures faults { CountsFault (fault_in end_fault result.0) (W.view (disk (service_shown.pages service))) (W.view result.1) }
 {
     let answer = run_workload(alloc, &mut service, seed, u32::from(rounds));

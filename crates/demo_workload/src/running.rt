@@ -1,5 +1,5 @@
 //! A workload is given to a service and a client of it.
-ghost use Rattle.std.specs.Prelude.{◌≡◌, ◌≢◌, ◌≤◌, [], IfOk, IfErr, Err};
+ghost use Rattle.std.specs.Prelude.{◌≡◌, ◌≢◌, ◌≤◌, [], length, IfOk, IfErr, Err};
 ghost use Rattle.block_disk.specs.View.{Now, Only};
 ghost use Rattle.chart_world.specs.Faults.{CountsFault, fault_in};
 ghost use Rattle.gate_pages.specs.Pages.{GoesOn};
@@ -8,7 +8,7 @@ ghost use Rattle.chart_service.specs.Shown as shown;
 ghost use Rattle.chart_service.specs.Stepping.{state_of};
 ghost use Rattle.demo_workload.specs.Workload.{workload};
 ghost use Rattle.demo_workload.specs.Replying.{Summarizes, IsPartWay, PassesPartWay};
-ghost use Rattle.demo_workload.specs.Ending.{IfStopped, IsOutside, IsCause, Runs};
+ghost use Rattle.demo_workload.specs.Ending.{CostsRequests, IfStopped, IsOutside, IsCause, Runs};
 
 use crate::answering::answer;
 use crate::summaries::Summary;
@@ -45,6 +45,7 @@ pub fn run_workload<P: Pages>(
     // whatever the pages are
     ensures cause { IfErr result (λ end. IsCause end (shown.IsTold service.new) (shown.view service.old) (shown.view service.new)) }
     ensures faults { CountsFault (fault_in end_fault result) (shown.view service.old) (shown.view service.new) }
+    ensures costs { CostsRequests (length (workload seed count)) (shown.view service.old) (shown.view service.new) }
     ensures runs { Runs (shown.IsTold service.old) (shown.IsTold service.new) (shown.view service.old) (shown.view service.new) }
     ensures goes_on { GoesOn (shown.under service.old) (shown.under service.new) }
     ensures fit { result ≢ Err End.DiskFault → (shown.view service.new).fit }

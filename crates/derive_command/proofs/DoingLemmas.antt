@@ -16,14 +16,15 @@ use Rattle.run_ends.specs.declared.ending.End.{End}
 use Rattle.run_ends.specs.Faults.{end_fault}
 use Rattle.run_ends.specs.declared.ending.End.TheVariants.{NoMemory, SendFault, DiskFault, BadInput, RefusedLine}
 use Rattle.series_book.specs.declared.one_series.Series.{Series}
+use Rattle.series_catalog.specs.declared.stored_series.StoredSeries.{StoredSeries}
 use Rattle.series_catalog.specs.declared.catalog.Catalog.{Catalog}
 use Rattle.series_pair.specs.Derived.{HasLargeSum, IsChartAnswer, IsChartCause, IsDerivedChart, sum_fault}
 use Rattle.series_pair.specs.declared.sum_error.SumError.{SumError}
 use Rattle.series_pair.specs.declared.sum_error.SumError.TheVariants as sum
 use Rattle.chart_world.specs.Faults.{CountsFault}
 use Rattle.store_commands.specs.Sides.{Side, AreBeside}
-use Rattle.derive_command.specs.Answers.{AreOnOneGrid, HasLarge, IsAnswer, IsRefused}
-use Rattle.derive_command.specs.Doing.{DoesLine, DoesRequest, Goes, IsAsked, IsCause, LineStops, RequestStops, TextStops, end_at, refused_at}
+use Rattle.derive_command.specs.Answers.{AreOnOneGrid, HasLarge, IsAnswer, IsRefused, number_of}
+use Rattle.derive_command.specs.Doing.{DoesLine, DoesRequest, Goes, IsAsked, IsCause, IsFaulty, IsLacking, LacksOne, LineSays, LineStops, RequestStops, SaysSome, TextStops, end_at, refused_at}
 use Rattle.derive_command.specs.Requests.{Spells, SaysNone}
 use Rattle.derive_command.specs.WorkLaws.{cause_later, quiet_between}
 use Rattle.derive_command.specs.declared.asked.Asked.{Asked}
@@ -195,3 +196,70 @@ text_cause old new text before now end stops risen = absurd stops
 pub sent_cause : {T : Type 0} (old new : Side) (text : List ℕ) (before now : Option (List ℕ)) (result : Result T End) → IfErr result (TextStops text before now) → (result ≡ Err SendFault → HasRisen old.send_faults new.send_faults) → IfErr result (λ end. IsCause end old new)
 sent_cause {T} old new text before now (Ok v) stops risen = tt
 sent_cause {T} old new text before now (Err end) stops risen = text_cause old new text before now end stops (λ is. risen (ap Err is))
+
+-- ---- whatever the pages are
+
+-- no other refusal has that number
+known_number : (why : DeriveRefusal) → number_of why ≡ number_of refusal.UnknownSeries → why ≡ refusal.UnknownSeries
+known_number refusal.UnknownSeries same = refl
+known_number refusal.NotOneGrid same = absurd (omega (arith, same))
+known_number refusal.BadWindow same = absurd (omega (arith, same))
+known_number refusal.BadCanvas same = absurd (omega (arith, same))
+known_number refusal.BadRange same = absurd (omega (arith, same))
+known_number refusal.TooLarge same = absurd (omega (arith, same))
+
+abbrev not_asked : DeriveRefusal → Result Asked DeriveRefusal
+not_asked why = Err why
+
+pub refusal_lacks : (r : Request) (at : ℕ) (catalog : List StoredSeries) (why : DeriveRefusal) (end : End) → end ≡ refused_at at why
+    → (not_asked why ≡ not_asked refusal.UnknownSeries → LacksOne catalog r) → IsLacking r at catalog end
+refusal_lacks r at catalog why end is lacks =
+    let P : End → Type 0 = λ e. IsLacking r at catalog e in
+    subst P (sym is) (refl, λ same. lacks (ap not_asked (known_number why same)))
+
+-- a chart is refused for another reason
+pub chart_lacks : (r : Request) (at : ℕ) (catalog : List StoredSeries) (error : SumError) (end : End) → end ≡ end_at at error → IsLacking r at catalog end
+chart_lacks r at catalog error end is =
+    let P : End → Type 0 = λ e. IsLacking r at catalog e in
+    subst P (sym is) (by error)
+  where
+    large : number_of refusal.TooLarge ≡ number_of refusal.UnknownSeries → LacksOne catalog r
+    large same = absurd (omega (arith, same))
+
+    by : (error : SumError) → IsLacking r at catalog (end_at at error)
+    by (sum.TooLarge time) = (refl, large)
+    by sum.DiskFault = tt
+    by (sum.Damaged page) = tt
+    by sum.NoMemory = tt
+
+text_lacks : (r : Request) (at : ℕ) (catalog : List StoredSeries) (text : List ℕ) (before now : Option (List ℕ)) (end : End) → TextStops text before now end → IsLacking r at catalog end
+text_lacks r at catalog text before now NoMemory stops = tt
+text_lacks r at catalog text before now SendFault stops = tt
+text_lacks r at catalog text before now end stops = absurd stops
+
+pub unsent_lacks : {T : Type 0} (r : Request) (at : ℕ) (catalog : List StoredSeries) (text : List ℕ) (before now : Option (List ℕ)) (result : Result T End) → IfErr result (TextStops text before now) → IfErr result (IsLacking r at catalog)
+unsent_lacks {T} r at catalog text before now (Ok v) stops = tt
+unsent_lacks {T} r at catalog text before now (Err end) stops = text_lacks r at catalog text before now end stops
+
+pub says_some : {T : Type 0} (text : List ℕ) (before between now : Option (List ℕ)) (result : Result T End) → between ≡ before → OnOk result (now ≡ sent_after text between) → OnOk result (SaysSome before now)
+says_some {T} text before between now (Ok v) same sent = (text, sent ∙ ap (sent_after text) same)
+says_some {T} text before between now (Err end) same sent = tt
+
+-- a line that is a request
+pub request_says : {T : Type 0} (line : List ℕ) (r : Request) (before now : Option (List ℕ)) (result : Result T End) → Spells r line → OnOk result (SaysSome before now) → OnOk result (LineSays line before now)
+request_says {T} line r before now (Ok v) spells says = (inr (r, spells), says)
+request_says {T} line r before now (Err end) spells says = tt
+
+lacking_faulty : (line : List ℕ) (r : Request) (at : ℕ) (catalog : List StoredSeries) (end : End) → Spells r line → IsLacking r at catalog end → IsFaulty (Some line) at catalog end
+lacking_faulty line r at catalog (BadInput place) spells lacking = absurd lacking
+lacking_faulty line r at catalog (RefusedLine place number) spells lacking = (lacking.0, (r, spells, lacking.1))
+lacking_faulty line r at catalog end spells lacking = tt
+
+pub request_faulty : {T : Type 0} (line : List ℕ) (r : Request) (at : ℕ) (catalog : List StoredSeries) (result : Result T End) → Spells r line → IfErr result (IsLacking r at catalog) → IfErr result (IsFaulty (Some line) at catalog)
+request_faulty {T} line r at catalog (Ok v) spells lacking = tt
+request_faulty {T} line r at catalog (Err end) spells lacking = lacking_faulty line r at catalog end spells lacking
+
+-- a line that is empty
+pub empty_says : (line : List ℕ) (before : Option (List ℕ)) → length line ≡ 0 → LineSays line before before
+empty_says [] before none = (inl refl, ([], sent_none before))
+empty_says (byte ∷ bytes) before none = absurd (omega (arith, none))

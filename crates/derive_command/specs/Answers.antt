@@ -1,6 +1,6 @@
 -- What a request is answered over a book: the picture of its chart, or why it is refused.
 use Rattle.std.specs.Prelude.{◌≡◌, ◌⊎◌, ℕ, ℤ, List, Option, None, Some}
-use Rattle.chart_frames.specs.declared.refusals.TheConstants.{OTHER_GRID, SUM_TOO_LARGE}
+use Rattle.series_book.specs.declared.refusal_numbers.TheConstants.{OTHER_GRID, SUM_TOO_LARGE}
 use Rattle.chart_grid.specs.Limits.{IsWindow, IsSide, IsBadWindow, IsBadSide}
 use Rattle.chart_grid.specs.Projection.{ShowsWindow, HasCanvas}
 use Rattle.chart_grid.specs.declared.grid.Grid.{Grid}

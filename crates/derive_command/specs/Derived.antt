@@ -14,9 +14,10 @@ use Rattle.series_book.specs.declared.one_series.Series.{Series}
 pub use Rattle.series_pair.specs.Damage.{IsBadForChart}
 use Rattle.store_commands.specs.Books.{LeavesSame, OfBook}
 use Rattle.store_commands.specs.Damaged.{IsDamagedAtFirst, IsDamagedLater}
+use Rattle.store_commands.specs.Lacking.{LacksRecord}
 use Rattle.store_commands.specs.Traffic.{IsLong, Traffic, WasRead}
 use Rattle.derive_command.specs.Answers.{number_of}
-use Rattle.derive_command.specs.Lines.{DrawsAll, DrawsFirst, DrawsPart, DrawsTaken, DrawsToBad, DrawsToRefused, DrawsWithin, EndsSo}
+use Rattle.derive_command.specs.Lines.{DrawsAll, DrawsFirst, DrawsPart, DrawsTaken, DrawsToBad, DrawsToRefused, DrawsWithin, EndsSo, Faults}
 use Rattle.derive_command.specs.declared.derive_refusal.DeriveRefusal.{DeriveRefusal}
 
 -- all lines of the input are requests, and their answers, by the book that the disk holds, were sent
@@ -75,6 +76,8 @@ pub record DeriveEnds (old new : View) (t : Traffic) (end : End) : Type 0 where
   pub sent : IfSome t.left (λ input. OfBook (page_count old.size) old (λ total book. EndsSo book input t.left_now t.sent t.sent_now end))
   pub crash : LeavesSame (page_count old.size) old new
   pub holds : OfBook (page_count old.size) old (λ total book. HoldsBook (page_count old.size) total book new)
+  -- whatever the disk holds
+  pub faulty : IfSome t.left (λ input. Faults (LacksRecord (page_count old.size) new) input end)
   -- it syncs and writes no more than an opening
   pub few : WritesFew (page_count old.size) old new
   -- reads give what a crash may leave, where they did

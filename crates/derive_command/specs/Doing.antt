@@ -12,13 +12,15 @@ use Rattle.plain_chart.specs.declared.value_range.ValueRange.{ValueRange}
 use Rattle.run_ends.specs.declared.ending.End.{End}
 use Rattle.run_ends.specs.declared.ending.End.TheVariants.{NoMemory, ReadFault, SendFault, DiskFault, DamagedPage, BadInput, InputTooLong, RefusedLine}
 use Rattle.series_book.specs.declared.one_series.Series.{Series}
+use Rattle.series_catalog.specs.declared.stored_series.StoredSeries.{StoredSeries}
+use Rattle.series_store.specs.Asking.{LacksName}
 use Rattle.series_pair.specs.Damage.{IsBadForChart}
 use Rattle.series_pair.specs.Derived.{AreShifted}
 use Rattle.series_pair.specs.declared.sum_error.SumError.{SumError}
 use Rattle.series_pair.specs.declared.sum_error.SumError.TheVariants as sum
 use Rattle.store_commands.specs.Sides.{Side}
 use Rattle.derive_command.specs.Answers.{AnswersLine, AreNamed, IsAnswer, IsGridOf, IsRefused, RefusesLine, asked_range, number_of}
-use Rattle.derive_command.specs.Requests.{SaysNone}
+use Rattle.derive_command.specs.Requests.{Says, SaysNone, Spells}
 use Rattle.derive_command.specs.declared.asked.Asked.{Asked}
 use Rattle.derive_command.specs.declared.derive_refusal.DeriveRefusal.{DeriveRefusal}
 use Rattle.derive_command.specs.declared.derive_refusal.DeriveRefusal.TheVariants as refusal
@@ -49,6 +51,33 @@ pub record IsAsked (book : List Series) (r : Request) (asked : Asked) : Type 0 w
   pub b : asked.sum.b ≡ r.b
   pub grid_is : IsGridOf r asked.grid
   pub range_is : asked.range ≡ asked_range r.range
+
+-- ---- what is so of a line, whatever the pages are
+
+-- the catalog lacks one of the two series that a request names
+abbrev pub LacksOne : List StoredSeries → Request → Type 0
+LacksOne catalog r = LacksName catalog r.first ⊎ LacksName catalog r.second
+
+-- something was sent
+abbrev pub SaysSome : Option (List ℕ) → Option (List ℕ) → Type 0
+SaysSome before now = (text : List ℕ) × (now ≡ sent_after text before)
+
+-- the line is empty or a request, and something was sent
+abbrev pub LineSays : List ℕ → Option (List ℕ) → Option (List ℕ) → Type 0
+LineSays line before now = ((line ≡ []) ⊎ ((request : Request) × Spells request line)) × SaysSome before now
+
+-- the catalog lacks a series, where the end tells so
+abbrev pub IsLacking : Request → ℕ → List StoredSeries → End → Type 0
+IsLacking r at catalog (BadInput place) = ⊥
+IsLacking r at catalog (RefusedLine place number) = (place ≡ at) × (number ≡ number_of refusal.UnknownSeries → LacksOne catalog r)
+IsLacking r at catalog end = ⊤
+
+-- the line is no request, or it is one and the catalog lacks a series, where the end tells so
+abbrev pub IsFaulty : Option (List ℕ) → ℕ → List StoredSeries → End → Type 0
+IsFaulty line at catalog (BadInput place) = (place ≡ at) × IsTrue (says line) × SaysNone line
+IsFaulty line at catalog (RefusedLine place number) =
+    (place ≡ at) × ((request : Request) × Says line request × (number ≡ number_of refusal.UnknownSeries → LacksOne catalog request))
+IsFaulty line at catalog end = ⊤
 
 -- ---- what is done of one line
 

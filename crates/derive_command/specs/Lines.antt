@@ -1,5 +1,5 @@
 -- How far the lines of an input are answered.
-use Rattle.std.specs.Prelude.{◌≡◌, ℕ, ◌-◌, ◌^◌, ◌<◌, ◌≤◌, List, [], ◌∷◌, ◌++◌, length, take, Option, IfSome, IsTrue}
+use Rattle.std.specs.Prelude.{◌≡◌, ℕ, ◌-◌, ◌^◌, ◌<◌, ◌≤◌, ◌⊎◌, List, [], ◌∷◌, ◌++◌, length, take, Option, IfSome, IsTrue, ⊤}
 use Rattle.block_disk.specs.Streams.{sent_after, PartSent}
 use Rattle.chart_service.specs.Serving.{told}
 use Rattle.chart_world.specs.Fronts.{says, BeginsWith, IsWhole}
@@ -10,8 +10,11 @@ use Rattle.run_ends.specs.declared.ending.End.{End}
 use Rattle.run_ends.specs.declared.ending.End.TheVariants.{Done, NoMemory, ReadFault, SendFault, DiskFault, BadInput, InputTooLong, RefusedLine}
 use Rattle.series_book.specs.declared.one_series.Series.{Series}
 use Rattle.derive_command.specs.Answers.{AnswersLine, RefusesLine, number_of}
-use Rattle.derive_command.specs.Requests.{SaysNone}
+use Rattle.store_commands.specs.InputLines.{FirstLine}
+use Rattle.derive_command.specs.Requests.{Says, SaysNone}
 use Rattle.derive_command.specs.declared.derive_refusal.DeriveRefusal.{DeriveRefusal}
+use Rattle.derive_command.specs.declared.derive_refusal.DeriveRefusal.TheVariants.{UnknownSeries}
+use Rattle.derive_command.specs.declared.request.Request.{Request}
 
 -- The text is the answers to these lines, one after the other: each of them says a request, which isn't refused.
 abbrev pub AreAnswers : List Series → List (Option (List ℕ)) → List ℕ → Type 0
@@ -84,6 +87,25 @@ module _ (book : List Series) (input : List ℕ) (before now : Option (List ℕ)
     pub between : Option (List ℕ)
     pub sent : between ≡ sent_after first.text before
     pub part : PartSent text between now
+
+-- the line at this place is a request that names a series which a catalog hasn't, where it is refused for that
+pub record LacksAt (IsLacking : List ℕ → Type 0) (input : List ℕ) (at number : ℕ) : Type 0 where
+  pub front : List ℕ
+  pub rest : List ℕ
+  pub begins : BeginsWith input front rest
+  pub at_is : at ≡ length front
+  pub line : Option (List ℕ)
+  pub next : NextLine (length front) rest line
+  pub request : Request
+  pub says_it : Says line request
+  pub lacks : number ≡ number_of UnknownSeries → IsLacking request.first ⊎ IsLacking request.second
+
+-- Whatever the pages are: the first line that is no request is at this place, or a line is that is refused, and the catalog lacks a
+-- series that it names where it is refused for that.
+abbrev pub Faults : (List ℕ → Type 0) → List ℕ → End → Type 0
+Faults IsLacking input (BadInput at) = FirstLine SaysNone input at
+Faults IsLacking input (RefusedLine at number) = LacksAt IsLacking input at number
+Faults IsLacking input end = ⊤
 
 -- what was sent, by how a run ended that this book answers
 abbrev pub EndsSo : List Series → List ℕ → Option (List ℕ) → Option (List ℕ) → Option (List ℕ) → End → Type 0

@@ -1,11 +1,11 @@
 //! What stands against a request before anything is drawn.
-ghost use Rattle.std.specs.Prelude.{◌≡◌, ◌<◌, length, IfOk, IfSome, MatchResult};
+ghost use Rattle.std.specs.Prelude.{◌≡◌, ◌<◌, Err, length, IfErr, IfOk, IfSome, MatchResult};
 ghost use Rattle.chart_service.specs.Viewing.{IsGoodRange};
 ghost use Rattle.derived_chart.specs.Sums.{IsSmall};
 ghost use Rattle.series_pair.specs.Derived.{MayShow};
 ghost use Rattle.series_store.specs.Shown as shown;
 ghost use Rattle.derive_command.specs.Answers.{IsRefused, asked_range};
-ghost use Rattle.derive_command.specs.Doing.{AreIdsOf, IsAsked, IsViewOf};
+ghost use Rattle.derive_command.specs.Doing.{AreIdsOf, IsAsked, IsViewOf, LacksOne};
 ghost use Rattle.derive_command.specs.Requests.{IsFactor};
 
 use crate::asked::Asked;
@@ -25,6 +25,8 @@ pub fn asked_of<P: Pages>(store: &Store<P>, request: &Request) -> Result<Asked, 
     requires a { IsFactor request.now.a }
     requires b { IsFactor request.now.b }
     ensures asked { shown.ForSoundBook store.now (λ total book. MatchResult result (IsAsked book request.now) (IsRefused book request.now)) }
+    // whatever the pages are
+    ensures lacks { result ≡ Err DeriveRefusal.UnknownSeries → LacksOne (shown.catalog store.now) request.now }
     ensures first { IfOk result (λ asked. asked.x < length (shown.catalog store.now)) }
     ensures second { IfOk result (λ asked. asked.y < length (shown.catalog store.now)) }
     ensures small { IfOk result (λ asked. IsSmall asked.sum) }
@@ -66,6 +68,7 @@ fn sum_of(request: &Request, shift: i64) -> Sum
 /// The ids of the two series that a request names.
 fn ids_of<P: Pages>(store: &Store<P>, request: &Request) -> Result<(u16, u16), DeriveRefusal>
     ensures ids { shown.ForSoundBook store.now (λ total book. AreIdsOf book request.now result) }
+    ensures lacks { IfErr result (λ e. LacksOne (shown.catalog store.now) request.now) }
     ensures first { IfOk result (λ ids. ids.0 < length (shown.catalog store.now)) }
     ensures second { IfOk result (λ ids. ids.1 < length (shown.catalog store.now)) }
 {

@@ -2,8 +2,8 @@
 ghost use Rattle.std.specs.Prelude.{◌≡◌};
 ghost use Rattle.derive_command.specs.Answers.{number_of};
 
-use chart_frames::refusals::{OTHER_GRID, SUM_TOO_LARGE};
 use series_book::Refusal;
+use series_book::refusal_numbers::{OTHER_GRID, SUM_TOO_LARGE};
 use thiserror::Error;
 
 /// Why a request is refused. The variants stand in the order in which they are tested.

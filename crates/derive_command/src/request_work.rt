@@ -1,13 +1,13 @@
 //! The work of `derive`: each line is a request.
-ghost use Rattle.std.specs.Prelude.{◌≢◌, ◌^◌, List, ⊤};
+ghost use Rattle.std.specs.Prelude.{◌≢◌, ◌^◌, List, Option, ⊤};
 ghost use Rattle.run_ends.specs.Faults.{end_fault};
 ghost use Rattle.run_ends.specs.declared.ending.End.TheVariants.{InputTooLong};
 ghost use Rattle.series_book.specs.declared.one_series.Series.{Series};
 ghost use Rattle.series_store.specs.Shown as shown;
 ghost use Rattle.store_commands.specs.Sides.{side_of};
 ghost use Rattle.derive_command.specs.Doing.{Goes, IsCause};
-ghost use Rattle.derive_command.specs.WorkLaws.{besides, cause_later, goes_further, goes_nowhere, goes_takes, no_less, same_total, stand_kept};
-ghost use Rattle.derive_command.specs.Working.{LineDoes, LineStopsSo, StandFor};
+ghost use Rattle.derive_command.specs.WorkLaws.{besides, cause_later, goes_further, goes_nowhere, goes_takes, no_less, same_total, stands_kept};
+ghost use Rattle.derive_command.specs.Working.{LineDoes, LineStopsSo, StandsSo};
 
 use crate::answering::answer_line;
 use gate_pages::PageWorld;
@@ -23,7 +23,7 @@ pub(crate) struct RequestWork {
 }
 
 impl<P: PageWorld> LineWork<Store<P>, End> for RequestWork {
-    ghost State = { List Series };
+    ghost State = { Option (List Series) };
 
     ghost view = { λ store. shown.view store };
 
@@ -31,7 +31,7 @@ impl<P: PageWorld> LineWork<Store<P>, End> for RequestWork {
 
     ghost fit = { λ work store at. shown.IsSound store };
 
-    ghost stands = { λ book work store. StandFor (shown.IsTold store) (shown.image store) book };
+    ghost stands = { λ book work store. StandsSo (shown.IsTold store) (shown.image store) book };
 
     // what a crash leaves is said by `goes`, whatever the pages are
     ghost lasting = { λ book. ⊥ };
@@ -40,7 +40,7 @@ impl<P: PageWorld> LineWork<Store<P>, End> for RequestWork {
 
     ghost does = { LineDoes };
 
-    ghost stops = { λ book it end work store before. LineStopsSo book it before (P.sent (shown.pages store)) end };
+    ghost stops = { λ book it end work store before. LineStopsSo book it (shown.catalog store) before (P.sent (shown.pages store)) end };
 
     ghost leaves = { λ book it from image sent. ⊤ };
 
@@ -72,7 +72,7 @@ impl<P: PageWorld> LineWork<Store<P>, End> for RequestWork {
 
     ghost fit_taken = { λ work old new at takes. (P.take_keeps (shown.pages old) (shown.pages new) takes.pages_are).fit };
 
-    ghost stands_taken = { λ book work old new takes sent stands. stand_kept (shown.view old) (shown.view new) book (P.take_told (shown.pages old) (shown.pages new) takes.pages_are) (P.take_keeps (shown.pages old) (shown.pages new) takes.pages_are) stands };
+    ghost stands_taken = { λ book work old new takes sent stands. stands_kept (shown.view old) (shown.view new) book (P.take_told (shown.pages old) (shown.pages new) takes.pages_are) (P.take_keeps (shown.pages old) (shown.pages new) takes.pages_are) stands };
 
     ghost lasting_on = { λ book it text behind did lasting. lasting };
 

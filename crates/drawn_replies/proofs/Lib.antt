@@ -6,4 +6,5 @@ mod Naming
 mod Mirroring
 mod Tops
 mod Following
-mod OneSession
+pub mod Sending
+pub mod OneSession

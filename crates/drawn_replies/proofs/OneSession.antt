@@ -1,8 +1,7 @@
 -- A client that is sent the frames of one session alone.
-use Rattle.std.proofs.Common.{ℕ, ◌≡◌, inl, inr, Bool, true, false, if◌then◌else◌, List, [], ◌∷◌, ◌++◌, map, Option, None, Some, refl, sym, ap, ◌∙◌, subst}
+use Rattle.std.proofs.Common.{ℕ, ◌≡◌, inl, inr, Bool, true, false, List, [], ◌∷◌, ◌++◌, map, Option, None, Some, refl, sym, ap, ◌∙◌, subst}
 use Rattle.std.specs.List.{filter}
 use Rattle.line_raster.specs.Canvas.{Canvas}
-use Rattle.zoom_session.specs.declared.session.Session.{Session}
 use Rattle.zoom_session.specs.Sessions.{is_open, session_of, last_of, fresh_session, without as sessions_without}
 use Rattle.chart_client.specs.declared.holding.Holding.{Holding}
 use Rattle.chart_frames.specs.declared.frame.Frame.{Frame}
@@ -16,11 +15,13 @@ use Rattle.chart_client.specs.declared.errors.ClientError.{ClientError}
 use Rattle.chart_client.specs.declared.errors.ClientError.TheVariants.{NoMemory}
 use Rattle.chart_client.specs.Accepting.{Accepts, Rejects}
 use Rattle.drawn_replies.specs.Mirrors.{mirrored, Mirrors, IsPictureOf}
-use Rattle.drawn_replies.specs.Pictures.{AcceptsAll, names, IsOwnPicture, AreOwnPictured, NoneRejected}
+use Rattle.drawn_replies.specs.Pictures.{AcceptsAll, names, AreOwnPictured, NoneRejected}
+use Rattle.drawn_replies.specs.Sent.{FollowsOwn}
 use Rattle.drawn_replies.proofs.Agreement.{Laws}
 use Rattle.drawn_replies.proofs.Holders.{same-number}
 use Rattle.drawn_replies.proofs.Steps.{IsQuiet, OpenStep, CloseStep, ViewStep, RowsStep, Step, step-of}
 use Rattle.drawn_replies.proofs.Mirroring.{follows-step}
+use Rattle.drawn_replies.proofs.Sending.{AllFollow, follow_one, next, none_rejected}
 
 -- a frame that says nothing of sessions is of none
 quiet-unnamed : (n : ℕ) (frame : Frame) → IsQuiet frame → names n frame ≡ false
@@ -86,7 +87,7 @@ other-step n frame old new other (inr (inr (inr (inr r)))) =
     ∙ other_viewed n r.number r.spec None old.sessions (ap (names n) (sym r.answers.frame_is) ∙ other)
 
 -- the picture of a frame of the session doesn't depend on the other sessions
-picture-alone : (n : ℕ) (f : Frame) (d : Option Canvas) (old new : State) → names n f ≡ true → IsPictureOf (alone n old) (alone n new) f d → IsPictureOf old new f d
+pub picture-alone : (n : ℕ) (f : Frame) (d : Option Canvas) (old new : State) → names n f ≡ true → IsPictureOf (alone n old) (alone n new) f d → IsPictureOf old new f d
 picture-alone n (Done slots) d old new named picture = picture
 picture-alone n (Refused number a b) d old new named picture = picture
 picture-alone n (Opened number size) d old new named picture = picture
@@ -115,26 +116,18 @@ own-mirrors laws n f d old between holdings next sound named step m a =
     let drawn = (follows-step laws f (alone n old) (alone n between) holdings (alone_sound n old sound) (own-step n f old between named step) m).0 d next a in
     (drawn.0, picture-alone n f d old between named drawn.1)
 
--- behind a frame of another session
-other-mirrors : (n : ℕ) (f : Frame) (old between : State) (holdings : List Holding) → names n f ≡ false → Step f old between
-    → Mirrors (only n old.sessions) holdings → Mirrors (only n between.sessions) holdings
-other-mirrors n f old between holdings other step m =
-    let P : List Session → Type 0 = λ ss. Mirrors ss holdings in
-    subst P (sym (other-step n f old between other step)) m
+-- nothing but want of memory keeps it from a frame of the session
+own_lacks : Laws → (n : ℕ) (f : Frame) (old between : State) (h : List Holding) (e : ClientError) → IsSound old → names n f ≡ true → Step f old between → Mirrors (only n old.sessions) h → Rejects f e h → e ≡ NoMemory
+own_lacks laws n f old between h e sound named step m r =
+    (follows-step laws f (alone n old) (alone n between) h (alone_sound n old sound) (own-step n f old between named step) m).1 e r
 
--- a frame of the session has one drawing, and another none
-one-own : (n : ℕ) (f : Frame) (d : Option Canvas) (old new : State) → names n f ≡ true → IsPictureOf old new f d → IsOwnPicture (names n f) old new f (d ∷ [])
-one-own n f d old new named picture =
-    let B : Bool → Type 0 = λ b. IsOwnPicture b old new f (d ∷ []) in
-    subst B (sym named) (d, refl, picture)
-
-none-own : (n : ℕ) (f : Frame) (old new : State) → names n f ≡ false → IsOwnPicture (names n f) old new f []
-none-own n f old new other =
-    let B : Bool → Type 0 = λ b. IsOwnPicture b old new f [] in
-    subst B (sym other) refl
-
-abbrev Taken : ℕ → Bool → Frame → List Frame → List (Option Canvas) → List Holding → List Holding → Type 0
-Taken n b f fs drawings holdings now = AcceptsAll holdings (if b then f ∷ filter (names n) fs else filter (names n) fs) drawings now
+-- what the client of the session does with the frame of a step
+pub own_follows : Laws → (n : ℕ) (f : Frame) (old new : State) → IsSound old → Step f old new → FollowsOwn n f old new
+own_follows laws n f old new sound step = record {
+  draws = λ named h m d now a. own-mirrors laws n f d old new h now sound named step m a;
+  accepts = λ named h m e r. own_lacks laws n f old new h e sound named step m r;
+  stays = λ other. other-step n f old new other step;
+}
 
 pub follows_own : Laws → (n : ℕ) (lines : List (Option (List ℕ))) (frames : List Frame) (drawings : List (Option Canvas)) (old new : State)
     (holdings now : List Holding) → IsSound old → RepliesToAll old lines frames new → Mirrors (only n old.sessions) holdings
@@ -147,74 +140,26 @@ follows_own laws n [] [] [] old new holdings now sound all m a =
 follows_own laws n [] [] (d ∷ ds) old new holdings now sound all m a = absurd a
 follows_own laws n [] (f ∷ fs) drawings old new holdings now sound all m a = absurd all
 follows_own laws n (l ∷ ls) [] drawings old new holdings now sound all m a = absurd all
-follows_own laws n (l ∷ ls) (f ∷ fs) [] old new holdings now sound all m a =
-    let step = step-of l f old all.0 all.1.0 in
-    let T : Type 0 = AreOwnPictured n old (l ∷ ls) (f ∷ fs) [] new × Mirrors (only n new.sessions) now in
-    (elim (names n f) as (λ b. names n f ≡ b → Taken n b f fs [] holdings now → T) [
-      | true ↦ λ named a'. absurd a'
-      | false ↦ λ other a'.
-          let later = follows_own laws n ls fs [] all.0 new holdings now all.1.2 all.2 (other-mirrors n f old all.0 holdings other step m) a' in
-          ((all.0, all.1.0, [], [], refl, none-own n f old all.0 other, later.0), later.1)
-    ]) refl a
-follows_own laws n (l ∷ ls) (f ∷ fs) (d ∷ ds) old new holdings now sound all m a =
-    let step = step-of l f old all.0 all.1.0 in
-    let T : Type 0 = AreOwnPictured n old (l ∷ ls) (f ∷ fs) (d ∷ ds) new × Mirrors (only n new.sessions) now in
-    (elim (names n f) as (λ b. names n f ≡ b → Taken n b f fs (d ∷ ds) holdings now → T) [
-      | true ↦ λ named a'.
-          let here = own-mirrors laws n f d old all.0 holdings a'.0 sound named step m a'.1 in
-          let later = follows_own laws n ls fs ds all.0 new a'.0 now all.1.2 all.2 here.0 a'.2 in
-          ((all.0, all.1.0, d ∷ [], ds, refl, one-own n f d old all.0 named here.1, later.0), later.1)
-      | false ↦ λ other a'.
-          let later = follows_own laws n ls fs (d ∷ ds) all.0 new holdings now all.1.2 all.2 (other-mirrors n f old all.0 holdings other step m) a' in
-          ((all.0, all.1.0, [], d ∷ ds, refl, none-own n f old all.0 other, later.0), later.1)
-    ]) refl a
+follows_own laws n (l ∷ ls) (f ∷ fs) drawings old new holdings now sound all m a =
+    let follows = own_follows laws n f old all.0 sound (step-of l f old all.0 all.1.0) in
+    let one = next (names n) (only n) f fs old all.0 (IsPictureOf old all.0 f) drawings holdings now follows m a in
+    let later = follows_own laws n ls fs one.later all.0 new one.holdings now all.1.2 all.2 one.mirrors one.others in
+    ((all.0, all.1.0, one.drawn, one.later, one.drawings_are, one.is, later.0), later.1)
 
 -- ---- no frame of the session is rejected
 
-none_there : (front behind : List Frame) (frame : Frame) → [] ≡ front ++ frame ∷ behind → ⊥
-none_there [] behind frame is = cc
-none_there (g ∷ gs) behind frame is = cc
-
-abbrev Own : ℕ → Bool → Frame → List Frame → List Frame
-Own n b f fs = if b then f ∷ filter (names n) fs else filter (names n) fs
-
--- the next frame of the session
-own_lacks : Laws → (n : ℕ) (f : Frame) (old between : State) (h : List Holding) (e : ClientError) → IsSound old → names n f ≡ true → Step f old between → Mirrors (only n old.sessions) h → Rejects f e h → e ≡ NoMemory
-own_lacks laws n f old between h e sound named step m r =
-    (follows-step laws f (alone n old) (alone n between) h (alone_sound n old sound) (own-step n f old between named step) m).1 e r
-
-own_rejected : Laws → (n : ℕ) (lines : List (Option (List ℕ))) (frames front behind : List Frame) (frame : Frame) (drawings : List (Option Canvas)) (old new : State)
-    (h now : List Holding) (e : ClientError) → IsSound old → RepliesToAll old lines frames new → Mirrors (only n old.sessions) h
-    → filter (names n) frames ≡ front ++ frame ∷ behind → AcceptsAll h front drawings now → Rejects frame e now → e ≡ NoMemory
-own_rejected laws n [] [] front behind frame drawings old new h now e sound all m is a r = absurd (none_there front behind frame is)
-own_rejected laws n [] (f ∷ fs) front behind frame drawings old new h now e sound all m is a r = absurd all
-own_rejected laws n (l ∷ ls) [] front behind frame drawings old new h now e sound all m is a r = absurd all
-own_rejected laws n (l ∷ ls) (f ∷ fs) [] behind frame (d ∷ ds) old new h now e sound all m is a r = absurd a
-own_rejected laws n (l ∷ ls) (f ∷ fs) (g ∷ gs) behind frame [] old new h now e sound all m is a r = absurd a
-own_rejected laws n (l ∷ ls) (f ∷ fs) [] behind frame [] old new h now e sound all m is a r =
-    let step = step-of l f old all.0 all.1.0 in
-    (elim (names n f) as (λ b. names n f ≡ b → Own n b f fs ≡ frame ∷ behind → e ≡ NoMemory) [
-      | true ↦ λ named is'.
-          let same : f ≡ frame = cc in
-          let F : Frame → Type 0 = λ x. Rejects x e now in
-          let H : List Holding → Type 0 = λ x. Rejects f e x in
-          own_lacks laws n f old all.0 h e sound named step m (subst H a (subst F (sym same) r))
-      | false ↦ λ other is'. own_rejected laws n ls fs [] behind frame [] all.0 new h now e all.1.2 all.2 (other-mirrors n f old all.0 h other step m) is' a r
-    ]) refl is
-own_rejected laws n (l ∷ ls) (f ∷ fs) (g ∷ gs) behind frame (d ∷ ds) old new h now e sound all m is a r =
-    let step = step-of l f old all.0 all.1.0 in
-    (elim (names n f) as (λ b. names n f ≡ b → Own n b f fs ≡ g ∷ (gs ++ frame ∷ behind) → e ≡ NoMemory) [
-      | true ↦ λ named is'.
-          let same : f ≡ g = cc in
-          let rest : filter (names n) fs ≡ gs ++ frame ∷ behind = cc in
-          let A : Frame → Type 0 = λ x. Accepts x d h a.0 in
-          let here = own-mirrors laws n f d old all.0 h a.0 sound named step m (subst A (sym same) a.1) in
-          own_rejected laws n ls fs gs behind frame ds all.0 new a.0 now e all.1.2 all.2 here.0 rest a.2 r
-      | false ↦ λ other is'. own_rejected laws n ls fs (g ∷ gs) behind frame (d ∷ ds) all.0 new h now e all.1.2 all.2 (other-mirrors n f old all.0 h other step m) is' a r
-    ]) refl is
+all_follow : Laws → (n : ℕ) (lines : List (Option (List ℕ))) (frames : List Frame) (old new : State) → IsSound old → RepliesToAll old lines frames new
+    → AllFollow (names n) (only n) old frames new
+all_follow laws n [] [] old new sound all = all
+all_follow laws n [] (f ∷ fs) old new sound all = absurd all
+all_follow laws n (l ∷ ls) [] old new sound all = absurd all
+all_follow laws n (l ∷ ls) (f ∷ fs) old new sound all =
+    follow_one (names n) (only n) f fs old all.0 new (IsPictureOf old all.0 f) (own_follows laws n f old all.0 sound (step-of l f old all.0 all.1.0))
+    (all_follow laws n ls fs all.0 new all.1.2 all.2)
 
 -- a client accepts all frames of the session, from the first one on
 pub own_accepted : Laws → (n : ℕ) (lines : List (Option (List ℕ))) (frames : List Frame) (old new : State) → IsSound old → old.sessions ≡ []
     → RepliesToAll old lines frames new → NoneRejected (filter (names n) frames)
 own_accepted laws n lines frames old new sound none all = λ front behind frame drawings holdings e is a r.
-    own_rejected laws n lines frames front behind frame drawings old new [] holdings e sound all (ap (λ ss. map mirrored (only n ss)) (sym none)) is a r
+    none_rejected (names n) (only n) frames front behind frame drawings old new [] holdings e (all_follow laws n lines frames old new sound all)
+    (ap (λ ss. map mirrored (only n ss)) (sym none)) is a r

@@ -17,6 +17,7 @@ use Rattle.chart_service.specs.Serving.{RepliesToAll}
 use Rattle.chart_service.specs.Alone.{only}
 use Rattle.drawn_replies.specs.Mirrors.{Mirrors, DrawsTheBook, OnlyLacksMemory}
 use Rattle.drawn_replies.specs.Pictures.{AcceptsAll, ArePictured, AreOwnPictured, NoneRejected, names}
+use Rattle.drawn_replies.specs.Sent.{FollowsOwn}
 
 -- A client that holds what the sessions hold draws of a line's frame the chart of the book.
 abbrev pub LinesAreDrawn : Type 0
@@ -79,3 +80,15 @@ abbrev pub OwnRepliesAreAccepted : Type 0
 OwnRepliesAreAccepted =
     (n : ℕ) (lines : List (Option (List ℕ))) (frames : List Frame) (old new : State)
     → IsSound old → old.sessions ≡ [] → RepliesToAll old lines frames new → NoneRejected (filter (names n) frames)
+
+-- The client of one session, which is sent the frames that name it alone, follows the frame that answers a line.
+abbrev pub OwnLinesAreDrawn : Type 0
+OwnLinesAreDrawn =
+    (n : ℕ) (line : Option (List ℕ)) (frame : Frame) (old new : State)
+    → IsSound old → RepliesToLine line frame old new → FollowsOwn n frame old new
+
+-- And the frame that answers a request.
+abbrev pub OwnRequestsAreDrawn : Type 0
+OwnRequestsAreDrawn =
+    (n : ℕ) (request : Request) (frame : Frame) (old new : State)
+    → IsSound old → Replies request frame old new → FollowsOwn n frame old new

@@ -1,3 +1,4 @@
 pub mod Mirrors
 pub mod Pictures
+pub mod Sent
 pub mod Laws

@@ -39,10 +39,14 @@ names n (Rows rows) = rows.session == n
 names n (Live number on) = number == n
 names n (Report report) = false
 
+-- a frame that is sent has one drawing, which is so, and a frame that isn't has none
+abbrev pub IsDrawn : Bool → (Option Canvas → Type 0) → List (Option Canvas) → Type 0
+IsDrawn true IsSo drawings = (drawing : Option Canvas) × (drawings ≡ drawing ∷ []) × IsSo drawing
+IsDrawn false IsSo drawings = drawings ≡ []
+
 -- a frame of the session has one drawing, its picture of the book, and no other frame has one
 abbrev pub IsOwnPicture : Bool → State → State → Frame → List (Option Canvas) → Type 0
-IsOwnPicture true old new frame drawings = (drawing : Option Canvas) × (drawings ≡ drawing ∷ []) × IsPictureOf old new frame drawing
-IsOwnPicture false old new frame drawings = drawings ≡ []
+IsOwnPicture own old new frame drawings = IsDrawn own (IsPictureOf old new frame) drawings
 
 -- The same as ArePictured of the frames of one session alone: each line is answered by its frame, and the
 -- drawings are those frames' pictures of the book as it is at that line.

@@ -6,7 +6,7 @@ ghost use Rattle.chart_service.specs.State.{State, IsSound};
 ghost use Rattle.chart_service.specs.Serving.{RepliesToAll};
 ghost use Rattle.chart_service.specs.Naming.{NameOpened};
 ghost use Rattle.drawn_replies.specs.Pictures.{NoneRejected};
-ghost use Rattle.drawn_replies.specs.Laws.{LinesAreDrawn, LinesAreAccepted, RequestsAreDrawn, RequestsAreAccepted, LineViewsAgree, RequestViewsAgree, RepliesDrawTheBook, OwnRepliesDrawTheBook, OwnRepliesAreAccepted};
+ghost use Rattle.drawn_replies.specs.Laws.{LinesAreDrawn, LinesAreAccepted, RequestsAreDrawn, RequestsAreAccepted, LineViewsAgree, RequestViewsAgree, RepliesDrawTheBook, OwnRepliesDrawTheBook, OwnRepliesAreAccepted, OwnLinesAreDrawn, OwnRequestsAreDrawn};
 
 use chart_service::laws::frames_name_opened_sessions;
 use coefficient_cache::laws::sent_and_held_give_the_needed;
@@ -33,6 +33,20 @@ pub fn clients_draw_the_book()
 pub fn clients_draw_requests()
     ensures draws { RequestsAreDrawn }
     ensures accepts { RequestsAreAccepted }
+{
+    wanted_keys_are_needed();
+    sent_and_held_give_the_needed();
+    spans_add_up();
+    points_are_the_samples();
+    split_and_join_undo_each_other();
+}
+
+/// A client that is sent the frames of one session alone, and holds that session's list as the service keeps it, draws
+/// the picture of the book of each of them, and goes on holding the list. Nothing but want of memory can come in its
+/// way. Behind another session's frame the list is as it was.
+pub fn one_session_draws_each_frame()
+    ensures lines { OwnLinesAreDrawn }
+    ensures requests { OwnRequestsAreDrawn }
 {
     wanted_keys_are_needed();
     sent_and_held_give_the_needed();

@@ -5,3 +5,4 @@ pub mod FillLaws
 pub mod TableLaws
 pub mod PointLaws
 pub mod AskLaws
+pub mod WindowLaws

@@ -4,3 +4,4 @@ pub mod Shares
 pub mod Ends
 pub mod Answers
 pub mod Asks
+pub mod Reads

@@ -7,6 +7,7 @@ ghost use Rattle.needed_nodes.specs.Answers.{IsShownRow};
 ghost use Rattle.query_rewriter.specs.Kept.{plan_keeps, query_keeps};
 ghost use Rattle.query_rewriter.specs.Scans.{IsScan};
 ghost use Rattle.filter_scan.specs.Answers.{IsCauseOf, HasRows};
+ghost use Rattle.filter_scan.specs.Reads.{ReadsWindow};
 ghost use Rattle.plain_chart.specs.Samples.{sample_points};
 
 use crate::scan_error::ScanError;
@@ -98,6 +99,7 @@ pub fn rows_of_query<N: Nodes>(
     ensures fit { (N.view nodes.new).fit }
     ensures kept { N.keeps nodes.old nodes.new }
     ensures reads { (N.view nodes.new).reads ≤ (N.view nodes.old).reads + (query.now.axis.slots + 2 * height query.now.axis.slots) }
+    ensures window { ReadsWindow query.now.axis query.now.grid.t0 query.now.grid.t1 (N.view nodes.old).reads (N.view nodes.new).reads }
     ensures faults { (N.view nodes.old).faults ≤ (N.view nodes.new).faults }
     ensures cause { IfErr result (IsCauseOf (N.view nodes.old) (N.view nodes.new)) }
     ensures quiet { OnOk result ((N.view nodes.new).faults ≡ (N.view nodes.old).faults) }

@@ -367,3 +367,10 @@ costs_unopened old new left opens = told_each left (λ input. CostsHosting old n
   few_syncs = syncs_few (page_count old.size) old new opens.few;
   costs = λ total book holds. none_cost input (record { live = begun_live total book; reads = new.reads; syncs = new.syncs }) old.beside.pieces new.beside.pieces;
 })
+
+-- where no store was opened, the run wasn't done
+pub opening_done : (cause : OpeningCause) → opening_end cause ≡ Done → ⊥
+opening_done (opening.TooSmall blocks) is = cc
+opening_done (opening.Damaged block) is = cc
+opening_done opening.DiskFault is = cc
+opening_done opening.NoMemory is = cc

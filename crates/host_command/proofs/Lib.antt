@@ -3,3 +3,4 @@ pub mod Holders
 pub mod ValuesLemmas
 pub mod ReportDrawing
 pub mod Drawing
+pub mod MayLemmas

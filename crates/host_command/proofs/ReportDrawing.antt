@@ -5,7 +5,7 @@ use Rattle.std.specs.Option.{option_map}
 use Rattle.line_raster.specs.Canvas.{Canvas, black_at}
 use Rattle.line_raster.specs.Raster.{InRaster}
 use Rattle.line_raster.specs.declared.position.Point.{Point}
-use Rattle.chart_client.specs.Accepting.{Accepts, AcceptsRows}
+use Rattle.chart_client.specs.Accepting.{Accepts, AcceptsRows, session_in}
 use Rattle.chart_client.specs.Drawing.{DrawsPoints}
 use Rattle.chart_client.specs.Holdings.{holding_of}
 use Rattle.chart_client.specs.declared.errors.ClientError.TheVariants.{Missing, BadCoefficient, UnknownSession, NoMemory}
@@ -48,6 +48,7 @@ Orders = (list : List (Option ℤ)) (axis : Axis) (grid : Grid) → 0 < axis.ste
 record IsQuiet (frame : Frame) : Type 0 where
   pub takes : (drawing : Option Canvas) (old now : List Holding) → Accepts frame drawing old now → (drawing ≡ None) × (now ≡ old)
   pub lacks : (old : List Holding) → OnlyLacksMemory frame old
+  pub aside : session_in frame ≡ None
 
 quiet_so : (frame other : Frame) → frame ≡ other → IsQuiet other → IsQuiet frame
 quiet_so frame other is quiet = subst IsQuiet (sym is) quiet
@@ -62,7 +63,7 @@ none_some : {n : ℕ} → ◌≡◌ {A = Option ℕ} None (Some n) → ⊥
 none_some is = cc
 
 number_quiet : (number a b : ℕ) → IsQuiet (Refused number a b)
-number_quiet number a b = record { takes = λ drawing old now accepts. accepts; lacks = λ old e rejects. only old e rejects }
+number_quiet number a b = record { takes = λ drawing old now accepts. accepts; lacks = λ old e rejects. only old e rejects; aside = refl }
   where
     only : (old : List Holding) → OnlyLacksMemory (Refused number a b) old
     only old (Missing key) rejects = absurd (refused_no_view rejects.is)
@@ -71,7 +72,7 @@ number_quiet number a b = record { takes = λ drawing old now accepts. accepts; 
     only old NoMemory rejects = refl
 
 report_quiet : (one : OneReport) → IsQuiet (Report one)
-report_quiet one = record { takes = λ drawing old now accepts. accepts; lacks = λ old e rejects. only old e rejects }
+report_quiet one = record { takes = λ drawing old now accepts. accepts; lacks = λ old e rejects. only old e rejects; aside = refl }
   where
     only : (old : List Holding) → OnlyLacksMemory (Report one) old
     only old (Missing key) rejects = absurd (report_no_view rejects.is)
@@ -95,10 +96,18 @@ values_quiet (Some id) book t0 t1 frame tells = values_told (slice_get book id) 
 
 -- ---- sums
 
--- a client that mirrors the sessions does so behind the frame, and its drawing is the chart of the sum
+-- the frame names a session that is open, if it names one
+abbrev pub NamesOpen : Frame → List Session → Type 0
+NamesOpen frame sessions = (n : ℕ) → session_in frame ≡ Some n → is_open n sessions ≡ true
+
+quiet_open : (frame : Frame) (sessions : List Session) → IsQuiet frame → NamesOpen frame sessions
+quiet_open frame sessions quiet = λ n is. absurd (none_some (sym quiet.aside ∙ is))
+
+-- a client holds behind the frame what it held, and its drawing is the chart of the sum
 record DrawsSum (book : List Series) (r : Request) (sessions : List Session) (frame : Frame) : Type 0 where
   pub takes : (drawing : Option Canvas) (old now : List Holding) → Accepts frame drawing old now → (now ≡ old) × PicturesSum book r frame drawing
-  pub lacks : (old : List Holding) → Mirrors sessions old → OnlyLacksMemory frame old
+  pub opened : NamesOpen frame sessions
+  pub lacks : (some : List Session) (old : List Holding) → NamesOpen frame some → Mirrors some old → OnlyLacksMemory frame old
 
 rows_no_view : {rows : RowsFrame} {view : ViewFrame} → ◌≡◌ {A = Frame} (Rows rows) (View view) → ⊥
 rows_no_view is = cc
@@ -147,12 +156,13 @@ sum_pictured order book r session rows drawing old now has accepts =
     }
 
 rows_drawn : Orders → (book : List Series) (r : Request) (session : ℕ) (sessions : List Session) (rows : RowsFrame) → is_open session sessions ≡ true → HasSumRows book r session rows → DrawsSum book r sessions (Rows rows)
-rows_drawn order book r session sessions rows opened has = record {
+rows_drawn order book r session sessions rows open_is has = record {
   takes = λ drawing old now accepts. taken drawing old now accepts;
-  lacks = λ old m.
-      let N : ℕ → Type 0 = λ n. is_open n sessions ≡ true in
+  opened = λ n is.
+      let N : ℕ → Type 0 = λ k. is_open k sessions ≡ true in
       let same : session ≡ rows.session = sym (ap (λ (f : RowsFrame). f.session) has.fields.is) in
-      sum_lacks rows sessions old (subst N same opened) m;
+      subst N (same ∙ some_number is) open_is;
+  lacks = λ some old named m. sum_lacks rows some old (named rows.session refl) m;
 }
   where
     taken : (drawing : Option Canvas) (old now : List Holding) → Accepts (Rows rows) drawing old now → (now ≡ old) × PicturesSum book r (Rows rows) drawing
@@ -162,7 +172,11 @@ rows_drawn order book r session sessions rows opened has = record {
 refusal_drawn : (book : List Series) (r : Request) (sessions : List Session) (number a b : ℕ) → DrawsSum book r sessions (Refused number a b)
 refusal_drawn book r sessions number a b =
     let quiet = number_quiet number a b in
-    record { takes = λ drawing old now accepts. (accepts.1, accepts.0); lacks = λ old m. quiet.lacks old }
+    record {
+      takes = λ drawing old now accepts. (accepts.1, accepts.0);
+      opened = quiet_open (Refused number a b) sessions quiet;
+      lacks = λ some old named m. quiet.lacks old;
+    }
 
 refuses_drawn : (book : List Series) (r : Request) (sessions : List Session) (frame : Frame) → RefusesSum book r frame → DrawsSum book r sessions frame
 refuses_drawn book r sessions frame refuses =
@@ -175,28 +189,29 @@ sum_drawn order book r session sessions frame opened tells = refuses_drawn book 
 
 -- ---- each report
 
--- a client that mirrors the sessions does so behind the frame, and its drawing is the picture of what was asked
+-- a client holds behind the frame what it held, and its drawing is the picture of what was asked
 pub record DrawsAsked (asked : HostLine) (frame : Frame) (state : State) : Type 0 where
   pub takes : (drawing : Option Canvas) (old now : List Holding) → Accepts frame drawing old now → (now ≡ old) × PicturesAsked asked state.book frame drawing
-  pub lacks : (old : List Holding) → Mirrors state.sessions old → OnlyLacksMemory frame old
+  pub opened : NamesOpen frame state.sessions
+  pub lacks : (some : List Session) (old : List Holding) → NamesOpen frame some → Mirrors some old → OnlyLacksMemory frame old
 
 quiet_list : (frame : Frame) (state : State) → IsQuiet frame → DrawsAsked ListLine frame state
-quiet_list frame state quiet = record { takes = λ drawing old now a. let t = quiet.takes drawing old now a in (t.1, t.0); lacks = λ old m. quiet.lacks old }
+quiet_list frame state quiet = record { takes = λ drawing old now a. let t = quiet.takes drawing old now a in (t.1, t.0); opened = quiet_open frame state.sessions quiet; lacks = λ some old named m. quiet.lacks old }
 
 quiet_values : (name : List ℕ) (t0 t1 : ℤ) (frame : Frame) (state : State) → IsQuiet frame → DrawsAsked (Values name t0 t1) frame state
-quiet_values name t0 t1 frame state quiet = record { takes = λ drawing old now a. let t = quiet.takes drawing old now a in (t.1, t.0); lacks = λ old m. quiet.lacks old }
+quiet_values name t0 t1 frame state quiet = record { takes = λ drawing old now a. let t = quiet.takes drawing old now a in (t.1, t.0); opened = quiet_open frame state.sessions quiet; lacks = λ some old named m. quiet.lacks old }
 
 quiet_bad : (at : ℕ) (frame : Frame) (state : State) → IsQuiet frame → DrawsAsked (Bad at) frame state
-quiet_bad at frame state quiet = record { takes = λ drawing old now a. let t = quiet.takes drawing old now a in (t.1, t.0); lacks = λ old m. quiet.lacks old }
+quiet_bad at frame state quiet = record { takes = λ drawing old now a. let t = quiet.takes drawing old now a in (t.1, t.0); opened = quiet_open frame state.sessions quiet; lacks = λ some old named m. quiet.lacks old }
 
 sum_asked : Orders → (b : Bool) (session : ℕ) (r : Request) (frame : Frame) (state : State) → is_open session state.sessions ≡ b → TellsIf b (Sum session r) state.total state.book frame → DrawsAsked (Sum session r) frame state
 sum_asked order false session r frame state opened tells =
     let D : Frame → Type 0 = λ f. DrawsSum state.book r state.sessions f in
     let drawn = subst D (sym tells) (refusal_drawn state.book r state.sessions _ _ _) in
-    record { takes = drawn.takes; lacks = drawn.lacks }
+    record { takes = drawn.takes; opened = drawn.opened; lacks = drawn.lacks }
 sum_asked order true session r frame state opened tells =
     let drawn = sum_drawn order state.book r session state.sessions frame opened tells in
-    record { takes = drawn.takes; lacks = drawn.lacks }
+    record { takes = drawn.takes; opened = drawn.opened; lacks = drawn.lacks }
 
 pub report_drawn : Orders → (asked : HostLine) (frame : Frame) (state : State) → Reported asked frame state → DrawsAsked asked frame state
 report_drawn order ListLine frame state tells = quiet_list frame state (quiet_so frame (Report (report.Catalog (catalog_of state.total state.book))) tells (report_quiet _))

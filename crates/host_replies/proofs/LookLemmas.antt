@@ -1,7 +1,6 @@
 -- Reads change nothing but what was read.
 use Rattle.std.proofs.Common.{◌≡◌}
 use Rattle.block_disk.specs.View.{View}
-use Rattle.chart_service.specs.Looking as service
 use Rattle.page_space.specs.declared.superblock.Superblock.{Superblock}
 use Rattle.retention.specs.Moving.{Looks}
 use Rattle.series_catalog.specs.declared.catalog.Catalog.{Catalog}

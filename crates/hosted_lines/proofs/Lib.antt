@@ -3,6 +3,8 @@ pub mod FaultLemmas
 pub mod SyncLemmas
 pub mod LineLemmas
 pub mod RowLemmas
+pub mod AskLemmas
+pub mod AnswersLemmas
 pub mod AmidLemmas
 pub mod SpelledLemmas
 pub mod CountLemmas
@@ -12,7 +14,10 @@ pub mod GroupLemmas
 pub mod ReportLemmas
 pub mod SweepLemmas
 pub mod WorkLemmas
+pub mod StandLemmas
+pub mod OverLemmas
 pub mod TurnLemmas
+pub mod AnyLemmas
 pub mod FrontLemmas
 pub mod EndLemmas
 pub mod SendLemmas

@@ -79,7 +79,7 @@ paused given old text new p all =
     let both = carries_both Does p.earlier (Pause ∷ []) old text new (subst C p.given_are all) in
     ap (λ (h : Hosted). h.ahead) both.others.others.1 ∙ both.others.does.1
 
-none_both : (front rest : List (Option (List ℕ))) → front ++ rest ≡ [] → rest ≡ []
+pub none_both : (front rest : List (Option (List ℕ))) → front ++ rest ≡ [] → rest ≡ []
 none_both [] rest none = none
 none_both (line ∷ front) rest none = absurd (cc (none))
 

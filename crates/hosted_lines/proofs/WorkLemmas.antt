@@ -39,7 +39,7 @@ hosted_at total book held reads syncs ahead sent =
 hosted_is : (h : Hosted) (held : Held) (reads syncs : ℕ) (sent : Option (List ℕ)) → h.held ≡ held → h.reads ≡ reads → h.syncs ≡ syncs → h.sent ≡ sent → h ≡ hosted_at h.total h.book held reads syncs h.ahead sent
 hosted_is h held reads syncs sent one two three four = λ i. hosted_at h.total h.book (one i) (two i) (three i) h.ahead (four i)
 
-none_kept : (it : Given) → KeepsNone it []
+pub none_kept : (it : Given) → KeepsNone it []
 none_kept (Line at line) = tt
 none_kept Pause = refl
 none_kept EndOf = tt

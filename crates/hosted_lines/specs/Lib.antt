@@ -2,6 +2,7 @@ pub mod Input
 pub mod Lives
 pub mod Reads
 pub mod Shown
+pub mod Answers
 pub mod Doing
 pub mod HostCauses
 pub mod GoesLaws
@@ -11,6 +12,7 @@ pub mod Amid
 pub mod Reporting
 pub mod Hosting
 pub mod Working
+pub mod Standing
 pub mod WorkLaws
 pub mod Running
 pub mod Served

@@ -4,6 +4,7 @@ use Rattle.chart_frames.specs.Frames.{Fits}
 use Rattle.chart_frames.specs.declared.frame.Frame.{Frame}
 use Rattle.chart_service.specs.Called.{LooksOnly}
 use Rattle.chart_service.specs.Faulting.{step_fault}
+use Rattle.chart_service.specs.Opening.{OpensBy}
 use Rattle.chart_service.specs.Shown as shown
 use Rattle.chart_service.specs.Stepping.{IsOutside}
 use Rattle.chart_service.specs.declared.failure.ServiceError.{ServiceError}
@@ -12,7 +13,7 @@ use Rattle.chart_world.specs.Faults.{CountsFault, fault_in}
 use Rattle.gate_pages.specs.declared.pages.Pages.{Ghosts}
 use Rattle.host_lines.specs.Grammar.{IsInRange}
 use Rattle.host_lines.specs.declared.asked.HostLine.{HostLine}
-use Rattle.host_replies.specs.Replies.{AsksReport, IsReportCause, ReadsReport, ReadsReportOver, Reported}
+use Rattle.host_replies.specs.Replies.{AsksReport, IsReportCause, MayReport, ReadsReport, ReadsReportOver, Reported}
 
 module _ {P : Type 0} {g : Ghosts P} where
   -- what is asked is a report, and calls may be made
@@ -26,6 +27,8 @@ module _ {P : Type 0} {g : Ghosts P} where
     pub reply : shown.ForBook old (λ total book. IfOk result (λ frame. Reported asked frame (shown.state old total book)))
     pub standing : shown.ForBook old (λ total book. IfErr result IsOutside)
     pub fits : IfOk result Fits
+    pub may : IfOk result (MayReport asked)
+    pub opens : IfOk result (λ frame. OpensBy frame (shown.sessions old) (shown.sessions new))
     pub sessions : shown.sessions new ≡ shown.sessions old
     pub looks : LooksOnly old new
     pub reads : ReadsReport asked (shown.view old).reads (shown.view new).reads

@@ -1,5 +1,5 @@
 -- What takes leave of the work of a host, and what calls move one after the other.
-use Rattle.std.proofs.Common.{◌≡◌, ◌∙◌, ℕ, ◌≤◌, List, Option, None, Some, sym, subst, arith}
+use Rattle.std.proofs.Common.{◌≡◌, ◌∙◌, ℕ, ◌≤◌, List, Option, None, Some, ap, sym, subst, arith}
 use Rattle.block_disk.specs.Streams.{sent_after}
 use Rattle.block_disk.specs.View.{Image, View, DiskKept, Now, Only}
 use Rattle.chart_world.specs.Faults.{CountsFault}
@@ -10,7 +10,8 @@ use Rattle.stored_book.specs.Standing.{StandsForBook}
 use Rattle.zoom_session.specs.declared.session.Session.{Session}
 use Rattle.hosted_lines.specs.Doing.{AreBeside, Goes, Held, Side}
 use Rattle.hosted_lines.specs.GoesLaws.{IsBeside, held_of, held_same, host_cause_later}
-use Rattle.hosted_lines.specs.Working.{AreTold, CausesEnd, Does, Hosted, IsFit, IsHosted, Lasting, Rests}
+use Rattle.hosted_lines.specs.Standing.{Any, DoesFrom, LastsFrom, Over, RestsFrom, Stand, Stands}
+use Rattle.hosted_lines.specs.Working.{AreTold, CausesEnd, Hosted, IsFit, IsHosted}
 
 pub fit_kept : (old new : View) (pending pending' : List ℕ) (edits : List Edit) → DiskKept old new → pending' ≡ pending → IsFit old pending edits → IsFit new pending' edits
 fit_kept old new pending pending' edits kept same fit = record { sound = kept.fit fit.sound; idle = same ∙ fit.idle; few = fit.few; are_edits = fit.are_edits }
@@ -18,8 +19,8 @@ fit_kept old new pending pending' edits kept same fit = record { sound = kept.fi
 pub held_kept : {sessions sessions' : List Session} {followed followed' pending pending' : List ℕ} → sessions' ≡ sessions → followed' ≡ followed → pending' ≡ pending → held_of sessions' followed' pending' ≡ held_of sessions followed pending
 held_kept {sessions} {sessions'} {followed} {followed'} {pending} {pending'} same same_followed same_pending = held_same sessions sessions' followed followed' pending pending' same same_followed same_pending
 
-pub stands_kept : (hosted : Hosted) (edits : List Edit) (told told' : Type 0) (old new : View) (held held' : Held) (before now : Option (List ℕ)) → (told → told') → DiskKept old new → held' ≡ held → now ≡ before → IsHosted hosted edits told old held before → IsHosted hosted edits told' new held' now
-stands_kept hosted edits told told' old new held held' before now more disk same unsent is =
+kept_so : (hosted : Hosted) (edits : List Edit) (told told' : Type 0) (old new : View) (held held' : Held) (before now : Option (List ℕ)) → (told → told') → DiskKept old new → held' ≡ held → now ≡ before → IsHosted hosted edits told old held before → IsHosted hosted edits told' new held' now
+kept_so hosted edits told told' old new held held' before now more disk same unsent is =
     let P : Image → Type 0 = λ i. StandsForBook i hosted.total hosted.book in
     record {
       told_so = more is.told_so;
@@ -33,15 +34,25 @@ stands_kept hosted edits told told' old new held held' before now more disk same
       syncs_are = is.syncs_are ∙ sym disk.syncs;
     }
 
+pub stands_kept : (stand : Stand) (edits : List Edit) (told told' : Type 0) (old new : View) (held held' : Held) (before now : Option (List ℕ)) → (told → told') → DiskKept old new → held' ≡ held → now ≡ before
+    → Stands stand edits told old held before → Stands stand edits told' new held' now
+stands_kept (Any named) edits told told' old new held held' before now more disk same unsent is =
+    record { spell = is.spell; sessions_are = is.sessions_are ∙ sym (ap (λ (h : Held). h.sessions) same) }
+stands_kept (Over hosted) edits told told' old new held held' before now more disk same unsent is =
+    kept_so hosted edits told told' old new held held' before now more disk same unsent is
+
 told_after : (text : List ℕ) (before : Option (List ℕ)) → AreTold before → AreTold (sent_after text before)
 told_after text None told = absurd told
 told_after text (Some bytes) told = tt
 
-pub lasts_on : (old : Hosted) (it : Given) (text : List ℕ) (behind : Hosted) → Does old it text behind → Lasting old → Lasting behind
-lasts_on old it text behind does lasts = subst AreTold (sym does.0.sent_is) (told_after text old.sent lasts)
+pub lasts_on : (stand : Stand) (it : Given) (text : List ℕ) (behind : Stand) → DoesFrom stand it text behind → LastsFrom stand → LastsFrom behind
+lasts_on (Any old) it text behind does lasts = absurd lasts
+lasts_on (Over old) it text (Any new) does lasts = absurd does
+lasts_on (Over old) it text (Over new) does lasts = subst AreTold (sym does.0.sent_is) (told_after text old.sent lasts)
 
-pub now_rests : (hosted : Hosted) (edits : List Edit) (told : Type 0) (at : View) (held : Held) (sent : Option (List ℕ)) → Only at.image (Now at) → IsHosted hosted edits told at held sent → (image : Image) → Now at image → Rests hosted image
-now_rests hosted edits told at held sent only stands image left =
+pub now_rests : (stand : Stand) (edits : List Edit) (told : Type 0) (at : View) (held : Held) (sent : Option (List ℕ)) → Only at.image (Now at) → Stands stand edits told at held sent → (image : Image) → Now at image → RestsFrom stand image
+now_rests (Any named) edits told at held sent only stands image left = tt
+now_rests (Over hosted) edits told at held sent only stands image left =
     let P : Image → Type 0 = λ i. StandsForBook i hosted.total hosted.book in subst P (sym (only image left)) stands.stands
 
 pub no_less : {one other : ℕ} → other ≡ one → one ≤ other

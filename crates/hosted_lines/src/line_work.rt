@@ -8,8 +8,9 @@ ghost use Rattle.hosted_lines.specs.Doing.{Goes, held_by, side_of};
 ghost use Rattle.hosted_lines.specs.GoesLaws.{goes_further, goes_nowhere, goes_streams};
 ghost use Rattle.hosted_lines.specs.Input.{most_bytes};
 ghost use Rattle.hosted_lines.specs.Shown.{pages};
+ghost use Rattle.hosted_lines.specs.Standing.{DoesFrom, LastsFrom, LeavesFrom, RestsFrom, Stand, Stands, StopsFrom};
 ghost use Rattle.hosted_lines.specs.WorkLaws.{besides, causes_later, fit_kept, held_kept, lasts_on, no_less, now_rests, stands_kept};
-ghost use Rattle.hosted_lines.specs.Working.{CausesEnd, Does, Hosted, IsFit, IsHosted, Lasting, Leaves, Rests, Stops};
+ghost use Rattle.hosted_lines.specs.Working.{CausesEnd, IsFit};
 
 use crate::host_turns::HostTurns;
 use crate::keeping::{answer_alone, refuse_long};
@@ -26,7 +27,7 @@ use run_ends::End;
 const MOST_EDITS: usize = 64;
 
 impl<P: PageWorld> LineWork<Live<ServiceStepper<P>>, End> for HostTurns {
-    ghost State = { Hosted };
+    ghost State = { Stand };
 
     ghost view = { λ live. its.view live };
 
@@ -34,17 +35,17 @@ impl<P: PageWorld> LineWork<Live<ServiceStepper<P>>, End> for HostTurns {
 
     ghost fit = { λ turns live at. IsFit (its.view live) (follows.pending live) turns.edits.items };
 
-    ghost stands = { λ hosted turns live. IsHosted hosted turns.edits.items (shown.IsTold (its.service live)) (its.view live) (held_by live) (P.sent (pages live)) };
+    ghost stands = { λ stand turns live. Stands stand turns.edits.items (shown.IsTold (its.service live)) (its.view live) (held_by live) (P.sent (pages live)) };
 
-    ghost lasting = { Lasting };
+    ghost lasting = { LastsFrom };
 
-    ghost rests = { Rests };
+    ghost rests = { RestsFrom };
 
-    ghost does = { Does };
+    ghost does = { DoesFrom };
 
-    ghost stops = { λ hosted it end turns live before. Stops hosted it (its.view live).image (P.sent (pages live)) (its.view live).reads (its.view live).syncs end };
+    ghost stops = { λ stand it end turns live before. StopsFrom stand it (its.view live).image (P.sent (pages live)) (its.view live).reads (its.view live).syncs end };
 
-    ghost leaves = { Leaves };
+    ghost leaves = { LeavesFrom };
 
     ghost goes = { λ old new. Goes (side_of P.Streams old) (side_of P.Streams new) };
 
@@ -98,9 +99,9 @@ impl<P: PageWorld> LineWork<Live<ServiceStepper<P>>, End> for HostTurns {
 
     ghost fit_taken = { λ work old new at takes fit. fit_kept (its.view old) (its.view new) (follows.pending old) (follows.pending new) work.edits.items (P.take_keeps (pages old) (pages new) takes.changed.store_is.pages_are) takes.pending_same fit };
 
-    ghost stands_taken = { λ hosted work old new takes sent stands. stands_kept hosted work.edits.items (shown.IsTold (its.service old)) (shown.IsTold (its.service new)) (its.view old) (its.view new) (held_by old) (held_by new) (P.sent (pages old)) (P.sent (pages new)) (P.take_told (pages old) (pages new) takes.changed.store_is.pages_are) (P.take_keeps (pages old) (pages new) takes.changed.store_is.pages_are) (held_kept takes.changed.sessions takes.followed_same takes.pending_same) sent stands };
+    ghost stands_taken = { λ stand work old new takes sent stands. stands_kept stand work.edits.items (shown.IsTold (its.service old)) (shown.IsTold (its.service new)) (its.view old) (its.view new) (held_by old) (held_by new) (P.sent (pages old)) (P.sent (pages new)) (P.take_told (pages old) (pages new) takes.changed.store_is.pages_are) (P.take_keeps (pages old) (pages new) takes.changed.store_is.pages_are) (held_kept takes.changed.sessions takes.followed_same takes.pending_same) sent stands };
 
-    ghost lasting_on = { λ hosted it text behind did lasting. lasts_on hosted it text behind did lasting };
+    ghost lasting_on = { λ stand it text behind did lasting. lasts_on stand it text behind did lasting };
 
     ghost take_keeps = { λ old new takes. P.take_keeps (pages old) (pages new) takes.changed.store_is.pages_are };
 
@@ -108,7 +109,7 @@ impl<P: PageWorld> LineWork<Live<ServiceStepper<P>>, End> for HostTurns {
 
     ghost take_goes = { λ old new takes sent reads sends pieces. goes_streams _ _ (P.take_keeps (pages old) (pages new) takes.changed.store_is.pages_are) (P.take_told (pages old) (pages new) takes.changed.store_is.pages_are) (P.take_was_told (pages old) (pages new) takes.changed.store_is.pages_are) (P.take_goes_on (pages old) (pages new) takes.changed.store_is.pages_are) reads (no_less sends) };
 
-    ghost now_rests = { λ hosted work from at fit stands lasting. now_rests hosted work.edits.items (shown.IsTold (its.service from)) (its.view from) (held_by from) (P.sent (pages from)) (P.rests (pages from) fit.sound) stands };
+    ghost now_rests = { λ stand work from at fit stands lasting. now_rests stand work.edits.items (shown.IsTold (its.service from)) (its.view from) (held_by from) (P.sent (pages from)) (P.rests (pages from) fit.sound) stands };
 
     ghost goes_none = { λ at. goes_nowhere _ };
 

@@ -295,3 +295,10 @@ syncs_on old mid new left_mid left opens same syncs =
 
 pub syncs_unopened : (old new : View) (left : Option (List ℕ)) → Opens (page_count old.size) old new → IfSome left (λ input. SyncsLiving old new input)
 syncs_unopened old new left opens = told_each left (λ input. SyncsLiving old new input) (λ input. (new.syncs, syncs_few (page_count old.size) old new opens.few, nothing_synced input new.syncs))
+
+-- where no store was opened, the run wasn't done
+pub opening_done : (cause : OpeningCause) → opening_end cause ≡ Done → ⊥
+opening_done (opening.TooSmall blocks) is = cc
+opening_done (opening.Damaged block) is = cc
+opening_done opening.DiskFault is = cc
+opening_done opening.NoMemory is = cc

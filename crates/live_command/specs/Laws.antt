@@ -1,13 +1,15 @@
 -- The law of what a client draws of a run.
 use Rattle.std.specs.Prelude.{ℕ, List, [], Option}
+use Rattle.std.specs.List.{filter}
 use Rattle.line_raster.specs.Canvas.{Canvas}
 use Rattle.chart_client.specs.declared.holding.Holding.{Holding}
 use Rattle.chart_frames.specs.declared.frame.Frame.{Frame}
+use Rattle.chart_service.specs.Alone.{only}
 use Rattle.chart_service.specs.Serving.{told}
 use Rattle.chart_service.specs.State.{IsSound}
 use Rattle.drawn_replies.specs.Mirrors.{Mirrors}
-use Rattle.drawn_replies.specs.Pictures.{AcceptsAll}
-use Rattle.live_command.specs.Drawn.{PicturesLines}
+use Rattle.drawn_replies.specs.Pictures.{AcceptsAll, NoneRejected, names}
+use Rattle.live_command.specs.Drawn.{PicturesLines, PicturesOwn}
 use Rattle.live_service.specs.Showing.{IsFirst}
 use Rattle.hosted_lines.specs.Lives.{LivesBy}
 use Rattle.live_service.specs.LiveReplies.{LiveState}
@@ -18,3 +20,16 @@ RunsDrawTheBook =
     (input : List ℕ) (frames : List Frame) (drawings : List (Option Canvas)) (old new : LiveState) (now : List Holding)
     → IsSound old.state → IsFirst old → LivesBy (told input) frames old new → AcceptsAll [] frames drawings now
     → PicturesLines (told input) frames drawings old new × Mirrors new.state.sessions now
+
+-- The same of the frames of one session alone, whatever else is answered and pushed between them.
+abbrev pub OwnRunsDrawTheBook : Type 0
+OwnRunsDrawTheBook =
+    (n : ℕ) (input : List ℕ) (frames : List Frame) (drawings : List (Option Canvas)) (old new : LiveState) (now : List Holding)
+    → IsSound old.state → IsFirst old → LivesBy (told input) frames old new → AcceptsAll [] (filter (names n) frames) drawings now
+    → PicturesOwn n (told input) frames drawings old new × Mirrors (only n new.state.sessions) now
+
+-- Of these frames none is rejected.
+abbrev pub OwnRunsAreAccepted : Type 0
+OwnRunsAreAccepted =
+    (n : ℕ) (lines : List (Option (List ℕ))) (frames : List Frame) (old new : LiveState)
+    → IsSound old.state → IsFirst old → LivesBy lines frames old new → NoneRejected (filter (names n) frames)

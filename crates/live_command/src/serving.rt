@@ -1,10 +1,13 @@
 //! The lines of a live service's streams are answered, and the pushes behind them made.
 ghost use Rattle.std.specs.Prelude.{◌≡◌, ◌≢◌, ◌≤◌, ◌<◌, ◌^◌, Err, length, IfErr, IfSome, OnOk};
+ghost use Rattle.chart_service.specs.Serving.{told};
 ghost use Rattle.chart_world.specs.Faults.{CountsFault, fault_in};
 ghost use Rattle.chart_world.specs.Reading.{IsReadUp, unread_input};
+ghost use Rattle.live_service.specs.Kinds.{MayAnswerLive};
 ghost use Rattle.live_service.specs.Shown as its;
 ghost use Rattle.live_view.specs.Live as follows;
 ghost use Rattle.run_ends.specs.Faults.{end_fault};
+ghost use Rattle.hosted_lines.specs.Answers.{SendsFor};
 ghost use Rattle.hosted_lines.specs.Doing.{Goes, IsCause, side_of};
 ghost use Rattle.live_command.specs.Syncs.{SyncsLines};
 ghost use Rattle.hosted_lines.specs.Shown.{HoldsSound, pages};
@@ -34,6 +37,8 @@ pub fn serve_live<P: PageWorld>(alloc: Global, live: &mut Live<ServiceStepper<P>
     // the disk is synced for edits alone, at most four times for each
     ensures syncs { IfSome (P.left (pages live.old)) (λ input. SyncsLines input (its.view live.old).syncs (its.view live.new).syncs) }
     // whatever the pages are
+    // each frame names sessions that are open by those before it, and after `Done` one answers each line; the others are pushes
+    ensures answers { result ≡ End.Done → IfSome (P.left (pages live.old)) (λ input. SendsFor P.Streams MayAnswerLive (told input) live.old live.new) }
     ensures whole { result ≡ End.Done → IsReadUp (P.left (pages live.old)) (P.left (pages live.new)) }
     ensures long { result ≡ End.InputTooLong → IfSome (P.left (pages live.old)) (λ input. 2 ^ 32 < length input) }
     ensures goes { Goes (side_of P.Streams live.old) (side_of P.Streams live.new) }
@@ -66,6 +71,7 @@ fn answer_lines<P: PageWorld>(
     ensures crash { its.ForBook live.old (λ total book. LastsFor P.Streams total book live.old live.new) }
     ensures reads { its.ForBook live.old (λ total book. ReadsFew P.Streams total book live.old live.new) }
     ensures syncs { IfSome (P.left (pages live.old)) (λ input. SyncsLines input (its.view live.old).syncs (its.view live.new).syncs) }
+    ensures answers { OnOk result (IfSome (P.left (pages live.old)) (λ input. SendsFor P.Streams MayAnswerLive (told input) live.old live.new)) }
     ensures whole { OnOk result (IsReadUp (P.left (pages live.old)) (P.left (pages live.new))) }
     ensures long { result ≡ Err End.InputTooLong → IfSome (P.left (pages live.old)) (λ input. 2 ^ 32 < length input) }
     ensures goes { Goes (side_of P.Streams live.old) (side_of P.Streams live.new) }

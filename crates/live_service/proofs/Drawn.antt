@@ -2,6 +2,7 @@
 use Rattle.std.proofs.Common.{◌≡◌, ℕ, ◌==◌, Bool, true, false, if◌then◌else◌, ℤ, List, [], ◌∷◌, map, Option, None, Some, refl, sym, ap, ◌∙◌, subst, inl, inr}
 use Rattle.std.specs.Prelude.{⊤}
 use Rattle.std.specs.Option.{option_map}
+use Rattle.std.proofs.lemmas.Bool.{eqb-true}
 use Rattle.chart_client.specs.Accepting.{Rejects}
 use Rattle.chart_client.specs.Holdings.{holding_of}
 use Rattle.chart_client.specs.declared.errors.ClientError.TheVariants.{Missing, BadCoefficient, UnknownSession, NoMemory}
@@ -11,8 +12,13 @@ use Rattle.chart_frames.specs.declared.frame.Frame.TheVariants.{Done, Refused, O
 use Rattle.chart_frames.specs.declared.frame.ViewFrame.{ViewFrame}
 use Rattle.chart_service.proofs.Lasts.{somebody}
 use Rattle.chart_service.specs.Replies.{AnswersBy, MovesLast, MovesIn, RepliesToLine}
+use Rattle.chart_service.proofs.Standing.{only_session}
+use Rattle.chart_service.specs.Alone.{alone, only}
 use Rattle.chart_service.specs.State.{State, IsSound}
+use Rattle.drawn_replies.proofs.OneSession.{picture-alone}
 use Rattle.drawn_replies.specs.Mirrors.{Mirrors, mirrored, DrawsTheBook, OnlyLacksMemory}
+use Rattle.drawn_replies.specs.Pictures.{names}
+use Rattle.drawn_replies.specs.Sent.{FollowsOwn}
 use Rattle.live_service.specs.LiveReplies.{LiveState, LiveReplied, RepliesTo, AnswersItself, Pushed}
 use Rattle.live_view.specs.Lines.{live_line}
 use Rattle.live_view.specs.Replies.{too_large, is_too_large, live_bound, follow_view, follow_reply, unfollow_reply}
@@ -157,6 +163,50 @@ asked_accepted accepts OtherLine text frame old new holdings sound r mirrors = a
 pub line_accepted : Accepted → (line : Option (List ℕ)) (frame : Frame) (old new : LiveState) (holdings : List Holding) → IsSound old.state → LiveReplied line frame old new → Mirrors old.state.sessions holdings → OnlyLacksMemory frame holdings
 line_accepted accepts None frame old new holdings sound r mirrors = accepts None frame old.state new.state holdings sound r.replied.0 mirrors
 line_accepted accepts (Some text) frame old new holdings sound r mirrors = asked_accepted accepts (live_line text) text frame old new holdings sound r mirrors
+
+-- ---- lines, where the client is sent the frames of one session alone
+
+-- what such a client does with the frames that answer lines of a service
+abbrev pub OwnDraws : Type 0
+OwnDraws = (n : ℕ) (line : Option (List ℕ)) (frame : Frame) (old new : State) → IsSound old → RepliesToLine line frame old new → FollowsOwn n frame old new
+
+own_aside : (n : ℕ) (frame : Frame) (ss : List Session) → names n frame ≡ true → IsAside frame ss → IsAside frame (only n ss)
+own_aside n (Done slots) ss named aside = absurd aside
+own_aside n (Refused number a b) ss named aside = tt
+own_aside n (Opened session cache) ss named aside = absurd aside
+own_aside n (Closed session) ss named aside = absurd aside
+own_aside n (ViewOf view) ss named aside = absurd aside
+own_aside n (Rows rows) ss named aside = absurd aside
+own_aside n (LiveOf m on) ss named aside =
+    let is : m ≡ n = eqb-true m n named in
+    (aside.0, ap (λ k. session_of k (only n ss)) is ∙ only_session n ss ∙ ap (λ k. session_of k ss) (sym is) ∙ aside.1)
+own_aside n (Report report) ss named aside = absurd aside
+
+aside_follows : (n : ℕ) (frame : Frame) (old new : State) → IsAside frame old.sessions → new ≡ old → FollowsOwn n frame old new
+aside_follows n frame old new aside same = record {
+  draws = λ named h m d now a.
+      let drawn = aside_draws frame (alone n old) (alone n new) h (own_aside n frame old.sessions named aside) (ap (alone n) same) m d now a in
+      (drawn.0, picture-alone n frame d old new named drawn.1);
+  accepts = λ named h m. aside_accepts frame (only n old.sessions) h (own_aside n frame old.sessions named aside) m;
+  stays = λ other. ap (λ (s : State). only n s.sessions) same;
+}
+
+itself_follows : (n : ℕ) (reply frame : Frame) (old new : LiveState) → AnswersItself reply frame old new → IsAside reply old.state.sessions → FollowsOwn n frame old.state new.state
+itself_follows n reply frame old new a aside =
+    let A : Frame → Type 0 = λ f. IsAside f old.state.sessions in
+    aside_follows n frame old.state new.state (subst A (sym a.is) aside) a.state
+
+asked_follows : OwnDraws → (n : ℕ) (asked : LiveLine) (text : List ℕ) (frame : Frame) (old new : LiveState) → IsSound old.state → RepliesTo asked text frame old new → FollowsOwn n frame old.state new.state
+asked_follows own n (Follow m) text frame old new sound r = itself_follows n _ frame old new r (follow_aside m (session_of m old.state.sessions) old.state.sessions refl)
+asked_follows own n (Unfollow m) text frame old new sound r = itself_follows n _ frame old new r (unfollow_aside m (is_open m old.state.sessions) old.state.sessions refl)
+asked_follows own n (Bad at) text frame old new sound r = itself_follows n _ frame old new r tt
+asked_follows own n OtherLine text frame old new sound r = own n (Some text) frame old.state new.state sound r.replied.0
+
+pub line_follows : OwnDraws → (n : ℕ) (line : Option (List ℕ)) (frame : Frame) (old new : LiveState) → IsSound old.state → LiveReplied line frame old new → FollowsOwn n frame old.state new.state
+line_follows own n None frame old new sound r = own n None frame old.state new.state sound r.replied.0
+line_follows own n (Some text) frame old new sound r = asked_follows own n (live_line text) text frame old new sound r
+
+-- ---- the state stays sound
 
 itself_sound : (old new : State) → new ≡ old → IsSound old → IsSound new
 itself_sound old new same sound = let S : State → Type 0 = λ s. IsSound s in subst S (sym same) sound

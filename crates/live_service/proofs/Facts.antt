@@ -1,14 +1,16 @@
 -- What is said of a live service's calls, by the relations of its stepper.
-use Rattle.std.proofs.Common.{◌≡◌, ℕ, true, List, [], ◌∷◌, IsTrue, Option, None, Some, Result, Ok, Err, IfOk, IfErr, refl, sym, ap, ◌∙◌, subst, inr, arith}
+use Rattle.std.proofs.Common.{◌≡◌, ℕ, true, false, List, [], ◌∷◌, IsTrue, Option, None, Some, Result, Ok, Err, IfOk, IfErr, refl, sym, ap, ◌∙◌, subst, inr, arith}
 use Rattle.std.specs.Prelude.{IfNone, IfSome, is_some, ◌<◌, length, ◌↔◌}
 use Rattle.block_disk.specs.Counts.{HasRisen}
 use Rattle.block_disk.specs.View.{Now, Passes}
 use Rattle.block_disk.specs.declared.streams.Streams.{Ghosts as StreamGhosts}
 use Rattle.block_disk.proofs.Passing.{passes_none}
 use Rattle.chart_frames.specs.declared.frame.Frame.{Frame}
+use Rattle.chart_frames.specs.Frames.{Fits}
 use Rattle.chart_service.proofs.LookLemmas.{unchanged_so}
 use Rattle.chart_service.specs.Called.{AnswersSo, CommitsOnly, IsCause}
 use Rattle.chart_service.specs.Faulting.{step_fault}
+use Rattle.chart_service.specs.Opening.{OpensBy}
 use Rattle.chart_service.specs.ReadingBlocks.{ReadsLine}
 use Rattle.chart_service.specs.Replies.{line_text, own_zoom}
 use Rattle.chart_service.specs.Shown as shown
@@ -21,12 +23,14 @@ use Rattle.chart_world.specs.Faults.{CountsFault, fault_in}
 use Rattle.gate_pages.specs.GateLaws.{goes_none}
 use Rattle.gate_pages.specs.Pages.{GoesOn, Quiet}
 use Rattle.gate_pages.specs.declared.pages.Pages.{Ghosts}
+use Rattle.live_service.specs.Kinds.{MayAnswerAsked, MayAnswerLive, MayFollow, MayPush}
 use Rattle.live_service.specs.LiveReplies.{LiveReplied, Pushed, ReadsPush, changed_in}
 use Rattle.live_service.specs.Shown as its
 use Rattle.live_service.specs.Shown.{IsBeforeOrAfter}
 use Rattle.live_service.specs.Steps.{AnswersLine, RepeatsView}
 use Rattle.live_service.specs.declared.stepper.ServiceStepper.{ServiceStepper}
-use Rattle.live_service.proofs.Replying.{changes_in, disk_cause, lacks_no_disk, never_fails, one_fewer, other_replied, other_moments, own_replied, same_error, unread, unread_push}
+use Rattle.live_service.proofs.KindLemmas.{follow_stays, may_follow, may_other, may_own, may_push, may_unfollow, refused_stays, unfollow_stays}
+use Rattle.live_service.proofs.Replying.{changes_in, disk_cause, lacks_no_disk, never_fails, one_fewer, other_replied, other_moments, own_reads, own_replied, same_error, unread, unread_push}
 use Rattle.live_view.specs.Live as follows
 use Rattle.live_view.specs.Lines.{live_line}
 use Rattle.live_view.specs.Meaning.{meaning_of}
@@ -115,6 +119,8 @@ module _ {P : Type 0} {g : Ghosts P} {h : StepperGhosts (ServiceStepper P g) Ser
     pub standing : its.ForBook old (λ total book. IfErr result IsOutside)
     pub moments : its.ForBook old (λ total book. its.PassesBy (LiveReplied (line_text line)) total book old new)
     pub reads : its.ForBook old (λ total book. its.ReadsFewFor (line_text line) total book old new)
+    pub may : IfOk result (λ frame. MayAnswerLive (line_text line) frame)
+    pub opens : IfOk result (λ frame. OpensBy frame (shown.sessions (its.service old)) (shown.sessions (its.service new)))
     pub unchanged : CommitsOnly result (its.service old) (its.service new)
     pub idle : edit_of (line_text line) ≡ [] → IsUnchanged (shown.IsTold (its.service old)) (its.view old) (its.view new)
     pub disk : result ≡ Err DiskFault → HasRisen (its.view old).faults (its.view new).faults
@@ -137,9 +143,10 @@ module _ {P : Type 0} {g : Ghosts P} {h : StepperGhosts (ServiceStepper P g) Ser
 
   -- a line that asks for a following
   own_facts : (line : List ℕ) (frame reply : Frame) (asked : LiveLine) (old new : Live (ServiceStepper P g) ServiceError h streams) → live_line line ≡ asked → (Other ≡ asked → ⊥) → new.stepper ≡ old.stepper
-      → ((total : ℕ) (book : List Series) → LiveReplied (line_text line) frame (its.state old total book) (its.state new total book)) → LineFacts line (Ok frame) old new
-  own_facts line frame reply asked old new is other same replied =
+      → MayAnswerAsked asked line frame → OpensBy frame old.stepper.service.sessions old.stepper.service.sessions → ((total : ℕ) (book : List Series) → LiveReplied (line_text line) frame (its.state old total book) (its.state new total book)) → LineFacts line (Ok frame) old new
+  own_facts line frame reply asked old new is other same may opens replied =
       let rest = rests_so old new same in
+      let O : ServiceStepper P g → Type 0 = λ s. OpensBy frame old.stepper.service.sessions s.service.sessions in
       record {
         reply = λ total book told stands. record { book = book; stands = stands_so old new total book same stands; so = replied total book };
         standing = λ total book told stands. tt;
@@ -147,6 +154,8 @@ module _ {P : Type 0} {g : Ghosts P} {h : StepperGhosts (ServiceStepper P g) Ser
             let Q : ServiceStepper P g → Type 0 = λ s. Passes (its.view old) (shown.view s.service) (IsBeforeOrAfter (LiveReplied (line_text line)) total (its.state old total book)) (Quiet (its.view old)) in
             subst Q (sym same) (passes_none (its.view old) _ _);
         reads = λ total book told stands. unread_so line old new total book same;
+        may = may_own line asked frame is other may;
+        opens = subst O (sym same) opens;
         unchanged = unchanged_so (Ok frame) _ _ _ rest.unchanged;
         idle = λ none. rest.unchanged;
         disk = λ is. absurd (never_fails Frame frame DiskFault is);
@@ -179,6 +188,8 @@ module _ {P : Type 0} {g : Ghosts P} {h : StepperGhosts (ServiceStepper P g) Ser
         standing = λ total book told stands. tt;
         moments = λ total book told stands. other_moments line total book old.stepper.service.sessions old.followed.items old.pending.items (its.view old) (its.view new) asked (answers.moments total book told stands);
         reads = answers.reads;
+        may = may_other line frame asked answers.may;
+        opens = answers.opens;
         unchanged = answers.unchanged;
         idle = answers.idle;
         disk = answers.disk;
@@ -190,32 +201,45 @@ module _ {P : Type 0} {g : Ghosts P} {h : StepperGhosts (ServiceStepper P g) Ser
       }
 
   -- a line that is answered
-  pub line_answered : Means h → (asked : LiveLine) (line : List ℕ) (frame : Frame) (old new : Live (ServiceStepper P g) ServiceError h streams) → live_line line ≡ asked → (its.view new).fit → follows.RepliesTo asked line frame old new → LineFacts line (Ok frame) old new
-  line_answered m (Follow n) line frame old new is fit r =
-      own_facts line frame (follow_reply n (session_of n old.stepper.service.sessions)) (Follow n) old new is (not_follow n) r.stepper (λ total book.
+  pub line_answered : Means h → (asked : LiveLine) (line : List ℕ) (frame : Frame) (old new : Live (ServiceStepper P g) ServiceError h streams) → live_line line ≡ asked → (its.view new).fit → Fits frame → follows.RepliesTo asked line frame old new → LineFacts line (Ok frame) old new
+  line_answered m (Follow n) line frame old new is fit fits r =
+      let own = old.stepper.service.sessions in
+      let reply : frame ≡ follow_reply n (session_of n own) = r.is ∙ ap (λ ss. follow_reply n (session_of n ss)) (m.sessions old.stepper) in
+      let M : Frame → Type 0 = λ f. MayFollow n true f in
+      let O : Frame → Type 0 = λ f. OpensBy f own own in
+      own_facts line frame (follow_reply n (session_of n own)) (Follow n) old new is (not_follow n) r.stepper (subst M (sym reply) (may_follow n (session_of n own))) (subst O (sym reply) (follow_stays n own)) (λ total book.
       own_replied line (Follow n) frame (its.state old total book) (its.state new total book) is (not_follow n) (record {
-        is = r.is ∙ ap (λ ss. follow_reply n (session_of n ss)) (m.sessions old.stepper);
+        is = reply;
+        fits = fits;
         state = state_so old new total book r.stepper;
         followed_now = r.followed_now ∙ ap (λ ss. followed_by (follow_reply n (session_of n ss)) old.followed.items) (m.sessions old.stepper);
         idle = r.idle;
       }))
-  line_answered m (Unfollow n) line frame old new is fit r =
-      own_facts line frame (unfollow_reply n (is_open n old.stepper.service.sessions)) (Unfollow n) old new is (not_unfollow n) r.stepper (λ total book.
+  line_answered m (Unfollow n) line frame old new is fit fits r =
+      let own = old.stepper.service.sessions in
+      let reply : frame ≡ unfollow_reply n (is_open n own) = r.is ∙ ap (λ ss. unfollow_reply n (is_open n ss)) (m.sessions old.stepper) in
+      let M : Frame → Type 0 = λ f. MayFollow n false f in
+      let O : Frame → Type 0 = λ f. OpensBy f own own in
+      own_facts line frame (unfollow_reply n (is_open n own)) (Unfollow n) old new is (not_unfollow n) r.stepper (subst M (sym reply) (may_unfollow n (is_open n own))) (subst O (sym reply) (unfollow_stays n own)) (λ total book.
       own_replied line (Unfollow n) frame (its.state old total book) (its.state new total book) is (not_unfollow n) (record {
-        is = r.is ∙ ap (λ ss. unfollow_reply n (is_open n ss)) (m.sessions old.stepper);
+        is = reply;
+        fits = fits;
         state = state_so old new total book r.stepper;
         followed_now = r.followed_now ∙ ap (λ ss. followed_by (unfollow_reply n (is_open n ss)) old.followed.items) (m.sessions old.stepper);
         idle = r.idle;
       }))
-  line_answered m (Bad at) line frame old new is fit r =
-      own_facts line frame (refused (BadLine at)) (Bad at) old new is (not_bad at) r.stepper (λ total book.
+  line_answered m (Bad at) line frame old new is fit fits r =
+      let own = old.stepper.service.sessions in
+      let O : Frame → Type 0 = λ f. OpensBy f own own in
+      own_facts line frame (refused (BadLine at)) (Bad at) old new is (not_bad at) r.stepper r.is (subst O (sym r.is) (refused_stays (BadLine at) own)) (λ total book.
       own_replied line (Bad at) frame (its.state old total book) (its.state new total book) is (not_bad at) (record {
         is = r.is;
+        fits = fits;
         state = state_so old new total book r.stepper;
         followed_now = r.followed_now;
         idle = r.idle;
       }))
-  line_answered m Other line frame old new is fit r = other_facts m line frame old new is fit r
+  line_answered m Other line frame old new is fit fits r = other_facts m line frame old new is fit r
 
   -- a line at which the service failed
   pub line_failed : Means h → (line : List ℕ) (error : ServiceError) (old new : Live (ServiceStepper P g) ServiceError h streams) → follows.FailsAt line error old new → LineFacts line (Err error) old new
@@ -226,6 +250,8 @@ module _ {P : Type 0} {g : Ghosts P} {h : StepperGhosts (ServiceStepper P g) Ser
         standing = answers.standing;
         moments = λ total book told stands. other_moments line total book old.stepper.service.sessions old.followed.items old.pending.items (its.view old) (its.view new) fails.other (answers.moments total book told stands);
         reads = answers.reads;
+        may = tt;
+        opens = tt;
         unchanged = answers.unchanged;
         idle = answers.idle;
         disk = answers.disk;
@@ -247,6 +273,8 @@ module _ {P : Type 0} {g : Ghosts P} {h : StepperGhosts (ServiceStepper P g) Ser
             let Q : ServiceStepper P g → Type 0 = λ s. Passes (its.view old) (shown.view s.service) (IsBeforeOrAfter (LiveReplied (line_text line)) total (its.state old total book)) (Quiet (its.view old)) in
             subst Q (sym stays.stepper) (passes_none (its.view old) _ _);
         reads = λ total book told stands. unread_so line old new total book stays.stepper;
+        may = tt;
+        opens = tt;
         unchanged = unchanged_so (Err NoMemory) _ _ _ rest.unchanged;
         idle = λ none. rest.unchanged;
         disk = λ is. absurd (lacks_no_disk Frame is);
@@ -264,6 +292,8 @@ module _ {P : Type 0} {g : Ghosts P} {h : StepperGhosts (ServiceStepper P g) Ser
     pub fewer : IfOk result (λ some. IfSome some (λ frame. length new.pending.items < length old.pending.items))
     pub standing : its.ForBook old (λ total book. IfErr result IsOutside)
     pub reads : its.ForBook old (λ total book. its.ReadsNext total book old new)
+    pub may : IfOk result (λ some. IfSome some MayPush)
+    pub opens : IfOk result (λ some. IfSome some (λ frame. OpensBy frame (shown.sessions (its.service old)) (shown.sessions (its.service new))))
     pub moments : shown.PassesTo (Now (its.view old)) (its.service old) (its.service new)
     pub unchanged : IsUnchanged (shown.IsTold (its.service old)) (its.view old) (its.view new)
     pub disk : result ≡ Err DiskFault → HasRisen (its.view old).faults (its.view new).faults
@@ -280,6 +310,8 @@ module _ {P : Type 0} {g : Ghosts P} {h : StepperGhosts (ServiceStepper P g) Ser
       record {
         reply = λ total book told stands. tt;
         fewer = tt;
+        may = tt;
+        opens = tt;
         standing = λ total book told stands. tt;
         reads = λ total book told stands.
             let Q : ServiceStepper P g → Type 0 = λ s. ReadsPush old.pending.items (shown.state old.stepper.service total book) (its.view old).reads (shown.view s.service).reads in
@@ -310,7 +342,8 @@ module _ {P : Type 0} {g : Ghosts P} {h : StepperGhosts (ServiceStepper P g) Ser
       let viewed = pending_view m old session new.pending.items repeated.first in
       let R : Option ViewSpec → Type 0 = λ o. IfSome o (λ last. shown.ForBook old.stepper.service (λ total book. ReadsFew (own_zoom session last) book old.stepper.service.sessions (its.view old).reads (its.view new).reads)) in
       let N : List ℕ → Type 0 = λ l. ReadsPush l (shown.state old.stepper.service total book) (its.view old).reads (its.view new).reads in
-      subst N (sym repeated.first) (subst R viewed.1 repeats.reads total book told stands)
+      let own = own_reads book (last_of (session_of session old.stepper.service.sessions)) viewed.0 _ _ viewed.1 (subst R viewed.1 repeats.reads total book told stands) in
+      subst N (sym repeated.first) own
 
   -- it is made
   pub one_pushed : Means h → (frame : Frame) (old new : Live (ServiceStepper P g) ServiceError h streams) → follows.Pushes frame old new → PushFacts (Ok (Some frame)) old new
@@ -338,6 +371,8 @@ module _ {P : Type 0} {g : Ghosts P} {h : StepperGhosts (ServiceStepper P g) Ser
         fewer = one_fewer session old.pending.items new.pending.items pushes.repeated.first;
         standing = λ total book told stands. tt;
         reads = push_reads m (Ok frame) old new pushes.repeated;
+        may = may_push session frame repeats.may;
+        opens = repeats.opens;
         moments = repeats.moments;
         unchanged = repeats.idle;
         disk = λ is. absurd (never_fails (Option Frame) (Some frame) DiskFault is);
@@ -358,11 +393,13 @@ module _ {P : Type 0} {g : Ghosts P} {h : StepperGhosts (ServiceStepper P g) Ser
       record {
         reply = λ total book told stands. tt;
         fewer = tt;
+        may = tt;
+        opens = tt;
         standing = repeats.standing;
         reads = push_reads m (Err error) old new fails.repeated;
         moments = repeats.moments;
         unchanged = repeats.idle;
-        disk = λ is. disk_cause (own_zoom session viewed.0) error _ _ _ (its.view old) (its.view new) (subst C viewed.1 repeats.cause) (same_error (Option Frame) error DiskFault is);
+        disk = λ is. disk_cause (own_zoom session viewed.0) error _ _ _ _ (its.view old) (its.view new) (subst C viewed.1 repeats.cause) (same_error (Option Frame) error DiskFault is);
         faults = repeats.faults;
         bad = repeats.bad;
         steps = repeats.steps;

@@ -1,4 +1,5 @@
 pub mod Replying
+pub mod KindLemmas
 pub mod Facts
 pub mod Grouping
 pub mod Followed

@@ -1,6 +1,6 @@
 -- What a live service's answers are over a plain book.
 use Rattle.std.proofs.Common.{◌≡◌, ℕ, Bool, true, false, if◌then◌else◌, List, [], ◌∷◌, length, ◌<◌, Option, None, Some, Result, Ok, Err, refl, sym, ap, ◌∙◌, subst, inl, inr, arith}
-use Rattle.std.specs.Prelude.{nat_lt, slice_get}
+use Rattle.std.specs.Prelude.{nat_lt}
 use Rattle.block_disk.specs.Counts.{HasRisen}
 use Rattle.block_disk.specs.View.{Image, View, Passes}
 use Rattle.block_disk.proofs.Passing.{passes_weaker}
@@ -9,7 +9,8 @@ use Rattle.chart_frames.specs.declared.frame.Frame.TheVariants.{Done, Refused, O
 use Rattle.chart_service.specs.Replies.{Replied, line_text, refused as refused_by}
 use Rattle.chart_service.specs.State.{State}
 use Rattle.chart_service.specs.ReadingBlocks.{ReadsLine, ReadsRead}
-use Rattle.chart_service.specs.Stepping.{IsBeforeOrAfter as IsBeforeOrAfterReply, IsStepCause, ReadsFew, ReadsFor, ReadsLast, series_at, state_of}
+use Rattle.chart_service.specs.Stepping.{IsBeforeOrAfter as IsBeforeOrAfterReply, IsStepCause, ReadsLast, state_of}
+use Rattle.chart_service.proofs.ReadLemmas.{reads_last, reads_none}
 use Rattle.chart_service.specs.declared.failure.ServiceError.{ServiceError}
 use Rattle.chart_service.specs.declared.failure.ServiceError.TheVariants.{DiskFault, Damaged, NoMemory}
 use Rattle.gate_pages.specs.Pages.{Quiet}
@@ -25,7 +26,6 @@ use Rattle.live_view.specs.Replies.{ended, still_followed, followers, Changes}
 use Rattle.page_space.specs.declared.superblock.Superblock.{Superblock}
 use Rattle.request_lines.specs.Requests.{read_line}
 use Rattle.request_lines.specs.declared.requests.Request.{Request}
-use Rattle.request_lines.specs.declared.requests.Request.TheVariants as request
 use Rattle.request_lines.specs.Tokens.{tokens}
 use Rattle.series_book.specs.declared.one_series.Series.{Series}
 use Rattle.series_book.specs.declared.refusals.Refusal.TheVariants.{LineTooLong}
@@ -102,7 +102,7 @@ other_moments line total book ss followed waiting old new asked passes =
 -- ---- a line that asks for a following
 
 -- such a line isn't too long
-short_by : (line : List ℕ) (asked : LiveLine) → live_line line ≡ asked → (OtherLine ≡ asked → ⊥) → line_text line ≡ Some line
+pub short_by : (line : List ℕ) (asked : LiveLine) → live_line line ≡ asked → (OtherLine ≡ asked → ⊥) → line_text line ≡ Some line
 unfolding live_line
 short_by line asked is other =
     (elim (nat_lt 8192 (length line)) as (λ (b : Bool). (if b then OtherLine else tokens_ask (length line) (tokens line)) ≡ asked → (if b then None else Some line) ≡ Some line) [
@@ -118,26 +118,9 @@ own_replied line asked frame old new is other replied =
 
 -- ---- nothing is read
 
-unread_for : (w : ℕ) (series : Option Series) (count : ℕ) → ReadsFor w series count count
-unread_for w None count = refl
-unread_for w (Some one) count = omega arith
-
-unread_last : (book : List Series) (last : Option ViewSpec) (count : ℕ) → ReadsLast book last count count
-unread_last book None count = refl
-unread_last book (Some last) count = λ none. unread_for last.grid.w (slice_get book last.series) count
-
-unread_by : (asked : Request) (book : List Series) (ss : List Session) (count : ℕ) → ReadsFew asked book ss count count
-unread_by (request.Edit edit) book ss count = omega arith
-unread_by (request.Open number cache) book ss count = refl
-unread_by (request.View number name w h t0 t1 word None) book ss count = unread_for w (series_at book (id_of name book)) count
-unread_by (request.View number name w h t0 t1 word (Some text)) book ss count = tt
-unread_by (request.Zoom number t0 t1) book ss count = unread_last book (last_of (session_of number ss)) count
-unread_by (request.Pan number by) book ss count = unread_last book (last_of (session_of number ss)) count
-unread_by (request.Close number) book ss count = refl
-
 unread_read : (asked : Result Request ℕ) (state : State) (count : ℕ) → ReadsRead asked state count count
 unread_read (Err at) state count = refl
-unread_read (Ok asked) state count = unread_by asked state.book state.sessions count
+unread_read (Ok asked) state count = reads_none asked state.book state.sessions count
 
 -- a line may read nothing
 pub unread : (line : Option (List ℕ)) (state : State) (count : ℕ) → ReadsLine line state count count
@@ -147,15 +130,22 @@ unread (Some text) state count = unread_read (read_line text) state count
 -- and so may a push
 pub unread_push : (pending : List ℕ) (state : State) (count : ℕ) → ReadsPush pending state count count
 unread_push [] state count = refl
-unread_push (session ∷ later) state count = unread_last state.book (last_of (session_of session state.sessions)) count
+unread_push (session ∷ later) state count = reads_last state.book count (λ (last : ViewSpec). (last.grid.t0, last.grid.t1)) (last_of (session_of session state.sessions))
+
+-- a zoom to the window of the last view
+pub own_reads : (book : List Series) (o : Option ViewSpec) (last : ViewSpec) (old new : ℕ) → o ≡ Some last → ReadsLast book o (λ l. (last.grid.t0, last.grid.t1)) old new → ReadsLast book o (λ l. (l.grid.t0, l.grid.t1)) old new
+own_reads book o last old new is reads =
+    let A : Option ViewSpec → Type 0 = λ q. ReadsLast book q (λ l. (last.grid.t0, last.grid.t1)) old new in
+    let B : Option ViewSpec → Type 0 = λ q. ReadsLast book q (λ l. (l.grid.t0, l.grid.t1)) old new in
+    subst B (sym is) (subst A is reads)
 
 -- ---- errors
 
 -- a fault of the disk has its cause
-pub disk_cause : (asked : Request) (error : ServiceError) (told : Type 0) (catalog : List StoredSeries) (s : Superblock) (old new : View) → IsStepCause asked error told catalog s old new → error ≡ DiskFault → HasRisen old.faults new.faults
-disk_cause asked DiskFault told catalog s old new cause is = cause
-disk_cause asked (Damaged page) told catalog s old new cause is = cc
-disk_cause asked NoMemory told catalog s old new cause is = cc
+pub disk_cause : (asked : Request) (error : ServiceError) (told : Type 0) (catalog : List StoredSeries) (sessions : List Session) (s : Superblock) (old new : View) → IsStepCause asked error told catalog sessions s old new → error ≡ DiskFault → HasRisen old.faults new.faults
+disk_cause asked DiskFault told catalog sessions s old new cause is = cause
+disk_cause asked (Damaged page) told catalog sessions s old new cause is = cc
+disk_cause asked NoMemory told catalog sessions s old new cause is = cc
 
 pub same_error : (T : Type 0) (one other : ServiceError) → ◌≡◌ {A = Result T ServiceError} (Err one) (Err other) → one ≡ other
 same_error T one other is = cc

@@ -5,6 +5,7 @@ use Rattle.chart_frames.specs.declared.frame.Frame.{Frame}
 use Rattle.chart_service.specs.EditGroups.{SpellsEdit}
 use Rattle.chart_service.specs.State.{IsSound}
 use Rattle.drawn_replies.specs.Mirrors.{Mirrors, DrawsTheBook, OnlyLacksMemory}
+use Rattle.drawn_replies.specs.Sent.{FollowsOwn}
 use Rattle.live_service.specs.LiveReplies.{GroupReplied, LiveState, LiveReplied, Pushed}
 use Rattle.series_book.specs.declared.edits.Edit.{Edit}
 
@@ -25,6 +26,17 @@ abbrev pub LinesAreAccepted : Type 0
 LinesAreAccepted =
     (line : Option (List ℕ)) (frame : Frame) (old new : LiveState) (holdings : List Holding)
     → IsSound old.state → LiveReplied line frame old new → Mirrors old.state.sessions holdings → OnlyLacksMemory frame holdings
+
+-- The client of one session, which is sent the frames that name it alone, follows the frame that answers a line.
+abbrev pub OwnLinesAreDrawn : Type 0
+OwnLinesAreDrawn =
+    (n : ℕ) (line : Option (List ℕ)) (frame : Frame) (old new : LiveState)
+    → IsSound old.state → LiveReplied line frame old new → FollowsOwn n frame old.state new.state
+
+-- And so it does a push.
+abbrev pub OwnPushesAreDrawn : Type 0
+OwnPushesAreDrawn =
+    (n : ℕ) (frame : Frame) (old new : LiveState) → IsSound old.state → Pushed frame old new → FollowsOwn n frame old.state new.state
 
 -- The frame that answers a line, and what the service holds behind it, are determined by what it holds before.
 abbrev pub LiveRepliesAreOne : Type 0

@@ -2,5 +2,6 @@ pub mod Steps
 pub mod LiveReplies
 pub mod Following
 pub mod Shown
+pub mod Kinds
 pub mod Laws
 pub mod Showing

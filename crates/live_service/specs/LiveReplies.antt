@@ -2,6 +2,7 @@
 use Rattle.std.specs.Prelude.{ℕ, ◌≡◌, List, [], ◌∷◌, Option, None, Some}
 use Rattle.chart_frames.specs.declared.frame.Frame.{Frame}
 use Rattle.chart_frames.specs.declared.frame.Frame.TheVariants.{Done, Refused, Opened, Closed, View as ViewOf, Rows, Live, Report}
+use Rattle.chart_frames.specs.Frames.{Fits}
 use Rattle.chart_service.specs.EditGroups.{RepliesToEdits}
 use Rattle.chart_service.specs.Replies.{Replied, own_zoom}
 use Rattle.chart_service.specs.State.{State}
@@ -41,9 +42,11 @@ changed_in book (Edit name) (Rows rows) = None
 changed_in book (Edit name) (Live session on) = None
 changed_in book (Edit name) (Report report) = None
 
--- a line that asks for a following is answered by this frame, and changes no more than which sessions are followed
+-- a line that asks for a following is answered by this frame, whose fields meet their rules, and changes no more than which
+-- sessions are followed
 pub record AnswersItself (reply frame : Frame) (old new : LiveState) : Type 0 where
   pub is : frame ≡ reply
+  pub fits : Fits frame
   pub state : new.state ≡ old.state
   pub followed_now : new.followed ≡ followed_by reply old.followed
   pub idle : new.pending ≡ []
@@ -95,8 +98,8 @@ pub record Pushed (frame : Frame) (old new : LiveState) : Type 0 where
   pub replied : RepliedTo (own_zoom session last) frame old.state new.state
   pub followed_same : new.followed ≡ old.followed
 
--- how many blocks the push of the first of these sessions reads at most, where there is a bound: as many as a zoom of its last
--- view; none where no push is pending
+-- how many blocks the push of the first of these sessions reads at most: as many as a zoom to the window of its last view; none
+-- where no push is pending
 abbrev pub ReadsPush : List ℕ → State → ℕ → ℕ → Type 0
 ReadsPush [] state old new = new ≡ old
-ReadsPush (session ∷ later) state old new = ReadsLast state.book (last_of (session_of session state.sessions)) old new
+ReadsPush (session ∷ later) state old new = ReadsLast state.book (last_of (session_of session state.sessions)) (λ last. (last.grid.t0, last.grid.t1)) old new

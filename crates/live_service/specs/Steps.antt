@@ -1,5 +1,5 @@
 -- What a service's answer to a line does, and a repeat of a view: all that the contracts of these calls say.
-use Rattle.std.specs.Prelude.{ℕ, ◌≡◌, ◌≢◌, ◌≤◌, ◌+◌, ◌*◌, List, [], length, None, Some, Result, Err, IfOk, IfErr, OnErr}
+use Rattle.std.specs.Prelude.{ℕ, ◌≡◌, ◌≢◌, ◌≤◌, ◌+◌, ◌*◌, List, [], length, All, None, Some, Result, Err, IfOk, IfErr, OnErr}
 use Rattle.block_disk.specs.Counts.{HasRisen}
 use Rattle.block_disk.specs.View.{Now}
 use Rattle.chart_frames.specs.declared.frame.Frame.{Frame}
@@ -10,7 +10,8 @@ use Rattle.chart_service.specs.Alone.{session_named}
 use Rattle.chart_world.specs.Faults.{CountsFault, fault_in}
 use Rattle.chart_service.specs.Faulting.{step_fault}
 use Rattle.chart_service.specs.Called.{AnswersSo, CommitsOnly, ForLast, IsCause, IsCauseOfLine, ReadsFewFor}
-use Rattle.chart_service.specs.EditGroups.{AnswersSome, RepliesToEdits}
+use Rattle.chart_service.specs.EditGroups.{AnswersSome, IsEditReply, RepliesToEdits}
+use Rattle.chart_service.specs.Kinds.{MayAnswerLine, MayShow}
 use Rattle.chart_service.specs.Opening.{OpensBy, LosesAtMost}
 use Rattle.chart_service.specs.Replies.{Replied, line_text, own_zoom}
 use Rattle.chart_service.specs.Shown as shown
@@ -30,6 +31,7 @@ module _ {P : Type 0} {g : Ghosts P} where
     pub reads : shown.ForBook old (λ total book. ReadsFewFor (line_text line) total book old new)
     pub opens : IfOk result (λ frame. OpensBy frame (shown.sessions old) (shown.sessions new))
     pub sessions : OnErr result (LosesAtMost (session_named (line_text line)) (shown.sessions old) (shown.sessions new))
+    pub may : IfOk result (λ frame. MayAnswerLine (line_text line) frame)
     pub unchanged : CommitsOnly result old new
     pub idle : edit_of (line_text line) ≡ [] → IsUnchanged (shown.IsTold old) (shown.view old) (shown.view new)
     pub cause : IfErr result (IsCauseOfLine (line_text line) old new)
@@ -48,6 +50,7 @@ module _ {P : Type 0} {g : Ghosts P} where
     pub reads : ForLast session old (λ last. shown.ForBook old (λ total book. ReadsFew (own_zoom session last) book (shown.sessions old) (shown.view old).reads (shown.view new).reads))
     pub opens : IfOk result (λ frame. OpensBy frame (shown.sessions old) (shown.sessions new))
     pub sessions : OnErr result (LosesAtMost (Some session) (shown.sessions old) (shown.sessions new))
+    pub may : IfOk result (λ frame. MayShow session frame)
     pub idle : IsUnchanged (shown.IsTold old) (shown.view old) (shown.view new)
     pub cause : ForLast session old (λ last. IfErr result (IsCause (own_zoom session last) old new))
     pub faults : CountsFault (fault_in step_fault result) (shown.view old) (shown.view new)
@@ -70,6 +73,7 @@ module _ {P : Type 0} {g : Ghosts P} where
   pub record AnswersEdits (edits : List Edit) (frames : List Frame) (old new : Service P g) : Type 0 where
     pub reply : shown.ForBook old (λ total book. shown.StandsSo total new (RepliesToEdits edits frames (shown.state old total book)))
     pub left : shown.ForBook old (λ total book. AnswersSome edits (shown.state old total book) (shown.image new))
+    pub replies : All IsEditReply frames
     pub does : DoesTogether edits old new
     pub faults : CountsFault None (shown.view old) (shown.view new)
 

@@ -4,7 +4,9 @@ ghost use Rattle.block_disk.specs.Counts.{HasRisen};
 ghost use Rattle.block_disk.specs.View.{Now};
 ghost use Rattle.chart_frames.specs.Frames.{Fits};
 ghost use Rattle.chart_service.specs.Called.{CommitsOnly};
+ghost use Rattle.chart_service.specs.EditGroups.{IsEditReply};
 ghost use Rattle.chart_service.specs.Faulting.{step_fault};
+ghost use Rattle.chart_service.specs.Opening.{OpensBy};
 ghost use Rattle.chart_service.specs.Replies.{line_text};
 ghost use Rattle.chart_service.specs.Shown as shown;
 ghost use Rattle.chart_service.specs.Stepping.{NamesBad, IsOutside, Steps};
@@ -12,6 +14,7 @@ ghost use Rattle.chart_service.specs.Serving.{most_ahead};
 ghost use Rattle.chart_service.specs.Syncing.{edit_of, group_syncs};
 ghost use Rattle.chart_world.specs.Faults.{CountsFault, fault_in};
 ghost use Rattle.gate_pages.specs.Pages.{GoesOn};
+ghost use Rattle.live_service.specs.Kinds.{MayAnswerLive, MayPush};
 ghost use Rattle.live_service.specs.LiveReplies.{GroupReplied, LiveReplied, Pushed};
 ghost use Rattle.live_service.specs.Shown as its;
 ghost use Rattle.live_view.specs.Live as follows;
@@ -41,6 +44,9 @@ pub fn step_line<P: PageWorld>(
     ensures reads { its.ForBook live.old (λ total book. its.ReadsFewFor (line_text line.now) total book live.old live.new) }
     // whatever the pages are
     ensures fits { IfOk result Fits }
+    // a frame is of the kind, and in the session, that its line asks for
+    ensures may { IfOk result (λ frame. MayAnswerLive (line_text line.now) frame) }
+    ensures opens { IfOk result (λ frame. OpensBy frame (shown.sessions (its.service live.old)) (shown.sessions (its.service live.new))) }
     ensures ended { IfErr result (λ error. follows.IsIdle live.new) }
     ensures unchanged { CommitsOnly result (its.service live.old) (its.service live.new) }
     // a line that spells no edit commits nothing
@@ -83,6 +89,7 @@ pub fn step_edits<P: PageWorld>(
     // whatever the pages are
     ensures each { IfOk result (λ frames. length frames.items ≡ length edits.now) }
     ensures fits { IfOk result (λ frames. All Fits frames.items) }
+    ensures replies { IfOk result (λ frames. All IsEditReply frames.items) }
     ensures ended { IfErr result (λ error. follows.IsIdle live.new) }
     ensures sessions { shown.sessions (its.service live.new) ≡ shown.sessions (its.service live.old) }
     ensures followed { follows.followed live.new ≡ follows.followed live.old }
@@ -113,6 +120,8 @@ pub fn push<P: PageWorld>(live: &mut Live<ServiceStepper<P>>) -> Result<Option<F
     ensures reads { its.ForBook live.old (λ total book. its.ReadsNext total book live.old live.new) }
     // whatever the pages are
     ensures fits { IfOk result (λ some. IfSome some Fits) }
+    ensures may { IfOk result (λ some. IfSome some MayPush) }
+    ensures opens { IfOk result (λ some. IfSome some (λ frame. OpensBy frame (shown.sessions (its.service live.old)) (shown.sessions (its.service live.new)))) }
     ensures moments { shown.PassesTo (Now (its.view live.old)) (its.service live.old) (its.service live.new) }
     ensures unchanged { IsUnchanged (shown.IsTold (its.service live.old)) (its.view live.old) (its.view live.new) }
     ensures disk { result ≡ Err ServiceError.DiskFault → HasRisen (its.view live.old).faults (its.view live.new).faults }

@@ -6,12 +6,15 @@ ghost use Rattle.chart_service.specs.State.{IsSound};
 ghost use Rattle.drawn_replies.specs.Mirrors.{Mirrors, OnlyLacksMemory};
 ghost use Rattle.chart_service.specs.Replies.{line_text};
 ghost use Rattle.live_service.specs.Following.{FollowsWell, ShowsView};
+ghost use Rattle.live_service.specs.Kinds.{MayAnswerLive, MayPush};
 ghost use Rattle.live_service.specs.LiveReplies.{GroupReplied, LiveState, LiveReplied, Pushed};
-ghost use Rattle.live_service.specs.Laws.{PushesAreDrawn, LinesAreDrawn, LinesAreAccepted, LiveRepliesAreOne, PushesAreOne, GroupsAreOne, GroupsOfOneAreLines};
+ghost use Rattle.live_service.specs.Laws.{PushesAreDrawn, LinesAreDrawn, LinesAreAccepted, OwnLinesAreDrawn, OwnPushesAreDrawn, LiveRepliesAreOne, PushesAreOne, GroupsAreOne, GroupsOfOneAreLines};
 ghost use Rattle.series_book.specs.declared.edits.Edit.{Edit};
 
-use chart_service::laws::replies_are_one;
-use drawn_replies::laws::{clients_draw_requests, clients_draw_the_book};
+use chart_service::laws::{replies_are_one, replies_may_answer};
+use drawn_replies::laws::{
+    clients_draw_requests, clients_draw_the_book, one_session_draws_each_frame,
+};
 use live_view::laws::followed_views_fit;
 
 /// A client that holds the list of each open session as the service keeps it, and gets the next push, draws
@@ -34,6 +37,16 @@ pub fn clients_draw_lines()
     ensures sound { (line : Option (List ℕ)) (frame : Frame) (old new : LiveState) → IsSound old.state → LiveReplied line frame old new → IsSound new.state }
 {
     clients_draw_the_book();
+}
+
+/// A client that is sent the frames of one session alone, and holds that session's list as the service keeps it, draws the
+/// picture of the book of each of them, whether it answers a line or is pushed, and goes on holding the list. Nothing but want
+/// of memory can come in its way. Behind another session's frame the list is as it was.
+pub fn one_session_draws_live_frames()
+    ensures lines { OwnLinesAreDrawn }
+    ensures pushes { OwnPushesAreDrawn }
+{
+    one_session_draws_each_frame();
 }
 
 /// The followed sessions can follow: they are open and have had a view, which has a filter or can't need more
@@ -69,3 +82,13 @@ pub fn live_replies_are_one()
 pub fn groups_of_one_are_lines()
     ensures { GroupsOfOneAreLines }
 {}
+
+/// The reply to a line by a book is one that may answer the line whatever the book is, and a push of a session that can follow
+/// is one that may be pushed.
+pub fn live_replies_may_answer()
+    ensures lines { (line : Option (List ℕ)) (frame : Frame) (old new : LiveState) → LiveReplied line frame old new → MayAnswerLive line frame }
+    ensures pushes { (frame : Frame) (old new : LiveState) → FollowsWell old → Pushed frame old new → MayPush frame }
+{
+    replies_may_answer();
+    pushes_show_views();
+}

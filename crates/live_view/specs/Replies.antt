@@ -3,7 +3,7 @@ use Rattle.std.specs.Prelude.{◌≡◌, ℕ, ◌+◌, ◌*◌, Bool, true, fals
 use Rattle.series_book.specs.declared.refusals.Refusal.{Refusal}
 use Rattle.series_book.specs.declared.refusals.Refusal.TheVariants.{UnknownSession, NoView}
 use Rattle.series_book.specs.Refusals.{number_of, pair_of}
-use Rattle.chart_frames.specs.declared.refusals.TheConstants.{LIVE_TOO_LARGE}
+use Rattle.series_book.specs.declared.refusal_numbers.TheConstants.{LIVE_TOO_LARGE}
 use Rattle.chart_frames.specs.declared.frame.Frame.{Frame}
 use Rattle.chart_frames.specs.declared.frame.Frame.TheVariants.{Done, Refused, Opened, Closed, View as ViewOf, Rows, Live, Report}
 use Rattle.zoom_session.specs.declared.session.Session.{Session}

@@ -10,8 +10,8 @@ use crate::numbers::{take_out, with_number};
 use crate::passing::is_open;
 use crate::stepper::Stepper;
 use chart_frames::Frame;
-use chart_frames::refusals::LIVE_TOO_LARGE;
 use series_book::Refusal;
+use series_book::refusal_numbers::LIVE_TOO_LARGE;
 use std::alloc::AllocError;
 use zoom_session::ViewSpec;
 

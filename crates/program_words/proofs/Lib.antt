@@ -5,3 +5,4 @@ pub mod ReadLemmas
 pub mod FoundLemmas
 pub mod Commands
 pub mod ExportWords
+pub mod StoreWords

@@ -9,6 +9,8 @@
 
 mod errors;
 mod reading;
+mod stores;
 mod words;
 
+pub use stores::uses_no_store;
 pub use words::{Command, WordsEnd, command_of};

@@ -1,10 +1,11 @@
 -- How lines end over the store of a disk, in the words of the disk.
-use Rattle.std.proofs.Common.{◌≡◌, ◌≢◌, ◌∙◌, ℕ, ◌≤◌, Bool, List, Option, Some, None, IfSome, refl, sym, subst, inl, inr, arith}
+use Rattle.std.proofs.Common.{◌≡◌, ◌≢◌, ◌∙◌, ℕ, ◌+◌, ◌*◌, ◌≤◌, Bool, List, length, Option, Some, None, IfSome, refl, sym, subst, inl, inr, arith}
 use Rattle.block_disk.specs.SentLaws.{sent_none}
 use Rattle.block_disk.specs.View.{Image, View, Honest, sent_now}
 use Rattle.chart_service.specs.MomentLaws.{since_both}
 use Rattle.chart_service.specs.Moments.{Since}
 use Rattle.chart_service.proofs.DiskKept.{risen_since}
+use Rattle.chart_world.specs.LineLaws.{told_so}
 use Rattle.disk_store.proofs.Lowered.{lowered_is, lowered_readable}
 use Rattle.disk_store.specs.Held.{HoldsBook}
 use Rattle.disk_store.specs.Openings.{Opens}
@@ -17,7 +18,10 @@ use Rattle.run_ends.specs.Statuses.{block_of}
 use Rattle.run_ends.specs.declared.ending.End.{End}
 use Rattle.run_ends.specs.declared.ending.End.TheVariants.{Done, NoMemory, ReadFault, SendFault, DiskFault, DamagedPage}
 use Rattle.run_ends.specs.declared.ending.End.TheVariants.{BadInput, InputTooLong, NoSeries}
+use Rattle.retention.specs.Moving.{clear_reads}
 use Rattle.series_book.specs.declared.one_series.Series.{Series}
+use Rattle.series_catalog.specs.declared.stored_series.StoredSeries.{StoredSeries}
+use Rattle.series_store.specs.Asking.{LacksName}
 use Rattle.stored_book.proofs.CurrentLemmas.{recovers_new}
 use Rattle.stored_book.specs.Damage.{IsBadForRequest}
 use Rattle.stored_book.specs.Standing.{StandsForBook, RecoversTo}
@@ -26,17 +30,19 @@ use Rattle.store_commands.proofs.Held.{RestsNew, held, holds_so, stands_held, wi
 use Rattle.store_commands.proofs.HoldsAgain.{again_opened, again_told}
 use Rattle.store_commands.proofs.InputLemmas.{any_told}
 use Rattle.store_commands.proofs.Moments.{opened_goes, opened_quiet, since_opened}
+use Rattle.store_commands.proofs.SpendLemmas.{spends_behind, spends_opening}
 use Rattle.store_commands.proofs.WorldLemmas.{IsUnopened}
 use Rattle.store_commands.specs.Books.{HoldsAgain, OfBook, OfPages, Stands, Holds}
 use Rattle.store_commands.specs.Codes.{too_small, unopened}
 use Rattle.store_commands.specs.Damaged.{IsDamagedLater}
+use Rattle.store_commands.specs.Lacking.{LacksRecord}
 use Rattle.store_commands.specs.Sides.{Side}
 use Rattle.store_commands.specs.Status.{opening_end}
 use Rattle.store_commands.specs.Traffic.{IsLong, Traffic, WasRead}
 use Rattle.retain_command.specs.Answers.{book_behind}
-use Rattle.retain_command.specs.Doing.{Goes, IsCause}
-use Rattle.retain_command.specs.Retained.{IsRetainCause, LeavesSwept, RetainEnds}
-use Rattle.retain_command.specs.Sweeping.{EndsSo, IsAhead, SweepsAll, SweepsFirst, left_by}
+use Rattle.retain_command.specs.Doing.{Goes, IsCause, RuleCosts}
+use Rattle.retain_command.specs.Retained.{IsAtLine, IsRetainCause, LeavesSwept, RetainEnds, RetainsFew}
+use Rattle.retain_command.specs.Sweeping.{EndsSo, Faults, IsAhead, SweepsAll, SweepsFew, SweepsFirst, clears_of, left_by}
 use Rattle.retain_command.proofs.RuleLemmas.{no_rules}
 
 -- ---- the same of a book that is there otherwise
@@ -158,6 +164,43 @@ module _ (count count' : ℕ) (sound sound' : Bool) (first old new : View) (tota
       since_both first old new (Leaves n (sent_now first)) (since_opened (Leaves n (sent_now first)) first old total book opens holds (λ image is. ahead_none total book input (sent_now first) n image is))
       (subst F (opened_quiet first old opens) (subst C counted later))
 
+  -- what the sweeps cost
+  costs_on : (left : Option (List ℕ)) → OfPages count old (λ total book. IfSome left (λ input. SweepsFew (λ rules clears. RuleCosts rules clears (pages_view count sound old) (pages_view count' sound' new)) total book input))
+      → IfSome left (RetainsFew (page_count first.size) first new)
+  costs_on None all = tt
+  costs_on (Some input) all = λ total book holds.
+      let here = held_open total book holds in
+      let c = all total book here.honest (stands_held count total book old rests here) in
+      let rules = length c.first.rules + 1 in
+      let clears = clears_of total book c.first.rules + c.more in
+      record {
+        first = c.first;
+        more = c.more;
+        next = c.next;
+        cost = spends_behind (page_count first.size) (clear_reads * (clears + rules)) (4 * clears) (87 * clears) first old new opens c.cost.reads c.cost.syncs c.cost.writes;
+      }
+
+  -- the line that stopped the run
+  fault_on : (catalog : List StoredSeries) (input : List ℕ) (end : End) → (end ≢ DiskFault → (name : List ℕ) → LacksName catalog name → LacksRecord count' new name)
+      → Faults catalog input end → IsAtLine (page_count first.size) new input end
+  fault_on catalog input (BadInput at) lacking is = is
+  fault_on catalog input (NoSeries at) lacking is =
+      let C : ℕ → Type 0 = λ n. LacksRecord n new is.name in
+      record {
+        front = is.front;
+        rest = is.rest;
+        begins = is.begins;
+        at_is = is.at_is;
+        line = is.line;
+        next = is.next;
+        rule = is.rule;
+        says_it = is.says_it;
+        name = is.name;
+        names = is.names;
+        lacks = subst C (goes.size ∙ counted) (lacking (λ same. cc) is.name is.lacks);
+      }
+  fault_on catalog input end lacking is = tt
+
   next_held : (n total : ℕ) (book : List Series) (input : List ℕ) (end : End) → end ≢ DiskFault → SweptBy n total book input end → (next : List Series) × HoldsBook n total next new
   next_held n total book input Done other s = (_, s.there)
   next_held n total book input NoMemory other (inl s) = (_, s.there)
@@ -174,8 +217,11 @@ module _ (count count' : ℕ) (sound sound' : Bool) (first old new : View) (tota
       → (end ≢ Done → IsCause end (disk_side count sound old total t.reads t.sends) (disk_side count' sound' new total' t.reads_now t.sends_now))
       → OfPages count old (λ total book. IfSome t.left (λ input. SweptOn total book input end))
       → OfPages count old (λ total book. IfSome t.left (λ input. IfSome t.sent (λ bytes. Since (pages_view count sound old) (pages_view count' sound' new) (λ pages sent. IsAhead (Stands total pages) total book input (sent_now (pages_view count sound old)) sent))))
-      → (end ≢ DiskFault → IsClosed new) → RetainEnds first new t end
-  retained_by end whole long cause ends crash closed =
+      → (end ≢ DiskFault → IsClosed new)
+      → OfPages count old (λ total book. IfSome t.left (λ input. SweepsFew (λ rules clears. RuleCosts rules clears (pages_view count sound old) (pages_view count' sound' new)) total book input))
+      → (catalog : List StoredSeries) → IfSome t.left (λ input. Faults catalog input end)
+      → (end ≢ DiskFault → (name : List ℕ) → LacksName catalog name → LacksRecord count' new name) → RetainEnds first new t end
+  retained_by end whole long cause ends crash closed costs catalog faults lacking =
       let n = page_count first.size in
       let does = does_on t.left end ends closed in
       record {
@@ -183,6 +229,8 @@ module _ (count count' : ℕ) (sound sound' : Bool) (first old new : View) (tota
         does = does;
         holds = λ other. again_told n first new t.left (λ total book input. SweptBy n total book input end) (λ total book input s. next_held n total book input end other s) does;
         crash = crash_on t.left t.sent crash;
+        costs = costs_on t.left costs;
+        faulty = told_so (λ input. Faults catalog input end) (λ input. IsAtLine (page_count first.size) new input end) t.left (λ input is. fault_on catalog input end lacking is) faults;
         honest = λ h. goes.is_told (opens.honest h);
         goes_on = goes_then first old new (opened_goes first old opens) goes.goes_on;
       }
@@ -208,6 +256,16 @@ module _ (old new : View) (t : Traffic) where
       let n = page_count old.size in
       since_opened (λ image sent. IsAhead (λ after. RecoversTo n image total after) total book input (sent_now old) sent) old new total book opens holds (λ image is. ahead_none total book input (sent_now old) n image is)
 
+  unopened_costs : (input : List ℕ) → Opens (page_count old.size) old new → RetainsFew (page_count old.size) old new input
+  unopened_costs input opens = λ total book holds.
+      record { first = no_rules total book input; more = 0; next = inl refl; cost = spends_opening (page_count old.size) (clear_reads * (0 + 1)) (4 * 0) (87 * 0) old new opens }
+
+  unopened_fault : (input : List ℕ) (cause : OpeningCause) → IsAtLine (page_count old.size) new input (opening_end cause)
+  unopened_fault input (opening.TooSmall size) = tt
+  unopened_fault input (opening.Damaged block) = tt
+  unopened_fault input opening.DiskFault = tt
+  unopened_fault input opening.NoMemory = tt
+
   pub unopened_ends : (cause : OpeningCause) (end : End) → end ≡ opening_end cause → IsUnopened old new t.left t.left_now t.sent t.sent_now cause → RetainEnds old new t end
   unopened_ends cause end same u =
       let E : End → Type 0 = λ e. RetainEnds old new t e in
@@ -216,6 +274,8 @@ module _ (old new : View) (t : Traffic) where
         does = any_told t.left _ (λ input. unopened_does input cause u);
         holds = λ other. any_told t.left (λ input. HoldsAgain (page_count old.size) old new) (λ input. again_opened old new u.opens);
         crash = any_told t.left (λ input. IfSome t.sent (λ bytes. LeavesSwept (page_count old.size) input old new)) (λ input. any_told t.sent (λ bytes. LeavesSwept (page_count old.size) input old new) (λ bytes. unopened_crash input u.opens));
+        costs = any_told t.left (RetainsFew (page_count old.size) old new) (λ input. unopened_costs input u.opens);
+        faulty = any_told t.left (λ input. IsAtLine (page_count old.size) new input (opening_end cause)) (λ input. unopened_fault input cause);
         honest = u.opens.honest;
         goes_on = opened_goes old new u.opens;
       })

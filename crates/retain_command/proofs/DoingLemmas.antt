@@ -12,16 +12,18 @@ use Rattle.run_ends.specs.declared.ending.End.{End}
 use Rattle.run_ends.specs.declared.ending.End.TheVariants.{NoMemory, SendFault, DiskFault, BadInput, NoSeries}
 use Rattle.series_book.specs.declared.one_series.Series.{Series}
 use Rattle.series_book.specs.EditLists.{after_edits}
+use Rattle.series_catalog.specs.declared.stored_series.StoredSeries.{StoredSeries}
 use Rattle.stored_book.specs.Standing.{StandsForBook}
 use Rattle.retention.specs.Drops.{book_swept}
+use Rattle.retention.specs.Moving.{CommitsFew, ReadsFew}
 use Rattle.retention.specs.Sweeping.{IsAfterSome, IsSwept, StopsSo}
-use Rattle.retention.specs.Sweeps.{NamesNone, sweeps}
+use Rattle.retention.specs.Sweeps.{LacksNamed, NamesNone, sweeps}
 use Rattle.retention.specs.declared.rule.Rule.{Rule}
 use Rattle.retention.specs.declared.sweep_error.SweepError.{SweepError}
 use Rattle.retention.specs.declared.sweep_error.SweepError.TheVariants as sweep
 use Rattle.retention.specs.declared.swept.Swept.{Swept}
 use Rattle.retain_command.specs.Answers.{answer, swept_text}
-use Rattle.retain_command.specs.Doing.{DoesLine, DoesRule, LineMoment, LineStops, RuleMoment, RuleStops, TextStops, Untouched, end_at}
+use Rattle.retain_command.specs.Doing.{DoesLine, DoesRule, IsFaulty, IsLacking, LineMoment, LineSays, LineStops, RuleCosts, RuleMoment, RuleStops, SaysSome, TextStops, Untouched, end_at}
 use Rattle.retain_command.specs.Rules.{Spells, SaysNone}
 
 abbrev failed : SweepError → Result Swept SweepError
@@ -39,6 +41,23 @@ there_ok book rule swept unknown none = let is = unknown.1 none in cc
 
 there_err : (book : List Series) (rule : Rule) (error : SweepError) → (failed error ≡ failed sweep.UnknownSeries) ↔ NamesNone book rule → error ≢ sweep.UnknownSeries → NamesNone book rule → ⊥
 there_err book rule error unknown other none = other (same_error error sweep.UnknownSeries (unknown.1 none))
+
+-- ---- what it costs
+
+-- a text is sent besides
+costs_sent : (looks clears : ℕ) (old mid new : View) → DiskKept mid new → RuleCosts looks clears old mid → RuleCosts looks clears old new
+costs_sent looks clears old mid new kept costs = record {
+  reads = omega (arith, kept.reads, costs.reads);
+  syncs = omega (arith, kept.syncs, costs.syncs);
+  writes = omega (arith, kept.writes, costs.writes);
+}
+
+costs_none : (looks : ℕ) (at : View) → RuleCosts looks 0 at at
+costs_none looks at = record { reads = omega arith; syncs = omega arith; writes = omega arith }
+
+-- by what a sweep says
+pub costs_of : (clears : ℕ) (old new : View) → ReadsFew clears old new → CommitsFew clears old new → RuleCosts 1 clears old new
+costs_of clears old new reads commits = record { reads = reads; syncs = commits.syncs; writes = commits.writes }
 
 -- ---- the clears
 
@@ -74,10 +93,10 @@ module _ (total : ℕ) (book : List Series) (rule : Rule) (at : ℕ) (old new : 
   stop_so sweep.NoMemory unknown same stands unsent stops = record { there = there_err book rule sweep.NoMemory unknown (λ is. cc); some = stops; unsent = unsent }
 
   pub rule_stopped : {T : Type 0} (error : SweepError) (end : End) → end ≡ end_at at error → (failed error ≡ failed sweep.UnknownSeries) ↔ NamesNone book rule → (failed error ≡ failed sweep.UnknownSeries → new ≡ old) → StandsForBook old.image total book → now ≡ before → StopsSo total book rule new.image error → Passes old new (IsAfterSome total book rule) (Quiet old)
-      → DoesRule {T = T} total book rule at (Err end) old new before now
-  rule_stopped {T} error end is unknown same stands unsent stops passes =
+      → RuleCosts 1 (length (sweeps total book rule)) old new → DoesRule {T = T} total book rule at (Err end) old new before now
+  rule_stopped {T} error end is unknown same stands unsent stops passes costs =
       let P : End → Type 0 = λ e. RuleStops total book rule at new.image before now e in
-      record { done = tt; stops = subst P (sym is) (stop_so error unknown same stands unsent stops); moments = stop_moments error unknown same passes }
+      record { costs = costs; done = tt; stops = subst P (sym is) (stop_so error unknown same stands unsent stops); moments = stop_moments error unknown same passes }
 
 -- ---- the answer
 
@@ -118,17 +137,19 @@ module _ (total : ℕ) (book : List Series) (rule : Rule) (at : ℕ) (swept : Sw
   text_stops text is end stops = absurd stops
 
   pub rule_answered : {T : Type 0} (result : Result T End) → OnOk result (now ≡ sent_after (swept_text swept.clears swept.used) between) → IfErr result (TextStops (swept_text swept.clears swept.used) between now) → Only mid.image (Now mid) → Passes mid new (Now mid) (λ count. (sent_now mid ≤ count) × (count ≤ sent_now new)) → sent_now new ≤ sent_now mid + length (swept_text swept.clears swept.used)
-      → DoesRule total book rule at result old new before now
-  rule_answered {T} (Ok v) whole stops only sends most =
+      → RuleCosts 1 (length (sweeps total book rule)) old mid → DoesRule total book rule at result old new before now
+  rule_answered {T} (Ok v) whole stops only sends most costs =
       let is = said_so total book rule swept mid.image done in
       record {
+        costs = costs_sent 1 (length (sweeps total book rule)) old mid new kept costs;
         done = record { there = there; stands = stands_still; sent = whole ∙ ap (λ t. sent_after t between) is ∙ ap (sent_after (answer total book rule)) unsent };
         stops = tt;
         moments = sent_moments (swept_text swept.clears swept.used) is only sends most;
       }
-  rule_answered {T} (Err end) whole stops only sends most =
+  rule_answered {T} (Err end) whole stops only sends most costs =
       let is = said_so total book rule swept mid.image done in
       record {
+        costs = costs_sent 1 (length (sweeps total book rule)) old mid new kept costs;
         done = tt;
         stops = text_stops (swept_text swept.clears swept.used) is end stops;
         moments = sent_moments (swept_text swept.clears swept.used) is only sends most;
@@ -153,8 +174,8 @@ module _ (total : ℕ) (book : List Series) (text : List ℕ) (at : ℕ) (old ne
   line_moments rule spells = through_so old new (RuleMoment total book rule (sent_now old)) (LineMoment total book text (sent_now old)) (λ image count is. (rule, spells, is))
 
   pub line_of_rule : {T : Type 0} (result : Result T End) (rule : Rule) → Spells rule text → DoesRule total book rule at result old new before now → DoesLine total book text at result old new before now
-  line_of_rule {T} (Ok v) rule spells does = record { done = inr (rule, spells, does.done); stops = tt; moments = line_moments rule spells does.moments }
-  line_of_rule {T} (Err end) rule spells does = record { done = tt; stops = rule_stops_line rule spells end does.stops; moments = line_moments rule spells does.moments }
+  line_of_rule {T} (Ok v) rule spells does = record { most = (length (sweeps total book rule), inr (rule, spells, refl), does.costs); done = inr (rule, spells, does.done, does.costs); stops = tt; moments = line_moments rule spells does.moments }
+  line_of_rule {T} (Err end) rule spells does = record { most = (length (sweeps total book rule), inr (rule, spells, refl), does.costs); done = tt; stops = rule_stops_line rule spells end does.stops; moments = line_moments rule spells does.moments }
 
 module _ (total : ℕ) (book : List Series) (text : List ℕ) (at : ℕ) (old : View) (before : Option (List ℕ)) (stands : StandsForBook old.image total book) where
   rests : Untouched total book old.image before before
@@ -165,12 +186,61 @@ module _ (total : ℕ) (book : List Series) (text : List ℕ) (at : ℕ) (old : 
 
   -- that is empty
   pub line_empty : {T : Type 0} (v : T) → text ≡ [] → DoesLine {T = T} total book text at (Ok v) old old before before
-  line_empty {T} v none = record { done = inl (none, rests); stops = tt; moments = no_moments }
+  line_empty {T} v none = record { most = (0, inl refl, costs_none 1 old); done = inl (none, rests, costs_none 0 old); stops = tt; moments = no_moments }
 
   -- that is no rule
   pub line_bad : {T : Type 0} → 0 < length text → SaysNone (Some text) → DoesLine {T = T} total book text at (Err (BadInput at)) old old before before
-  line_bad {T} some none = record { done = tt; stops = record { place_is = refl; some = some; none = none; stays = rests }; moments = no_moments }
+  line_bad {T} some none = record { most = (0, inl refl, costs_none 1 old); done = tt; stops = record { place_is = refl; some = some; none = none; stays = rests }; moments = no_moments }
 
   -- for which there was no memory
   pub line_no_memory : {T : Type 0} → DoesLine {T = T} total book text at (Err NoMemory) old old before before
-  line_no_memory {T} = record { done = tt; stops = inl rests; moments = no_moments }
+  line_no_memory {T} = record { most = (0, inl refl, costs_none 1 old); done = tt; stops = inl rests; moments = no_moments }
+
+-- ---- whatever the pages are
+
+-- what was sent of an answer
+pub says_some : {T : Type 0} (result : Result T End) (text : List ℕ) (before between now : Option (List ℕ)) → between ≡ before
+    → OnOk result (now ≡ sent_after text between) → OnOk result (SaysSome before now)
+says_some {T} (Ok v) text before between now same sent = (text, sent ∙ ap (sent_after text) same)
+says_some {T} (Err end) text before between now same sent = tt
+
+text_lacks : (rule : Rule) (at : ℕ) (catalog : List StoredSeries) (text : List ℕ) (before now : Option (List ℕ)) (end : End)
+    → TextStops text before now end → IsLacking rule at catalog end
+text_lacks rule at catalog text before now NoMemory stops = tt
+text_lacks rule at catalog text before now SendFault stops = tt
+text_lacks rule at catalog text before now end stops = absurd stops
+
+pub unsent_lacks : {T : Type 0} (result : Result T End) (rule : Rule) (at : ℕ) (catalog : List StoredSeries) (text : List ℕ)
+    (before now : Option (List ℕ)) → IfErr result (TextStops text before now) → IfErr result (IsLacking rule at catalog)
+unsent_lacks {T} (Ok v) rule at catalog text before now stops = tt
+unsent_lacks {T} (Err end) rule at catalog text before now stops = text_lacks rule at catalog text before now end stops
+
+-- why a rule wasn't swept
+pub sweep_lacks : (error : SweepError) (rule : Rule) (at : ℕ) (catalog : List StoredSeries) (end : End) → end ≡ end_at at error
+    → (failed error ≡ failed sweep.UnknownSeries → LacksNamed catalog rule) → IsLacking rule at catalog end
+sweep_lacks error rule at catalog end is lacks =
+    let P : End → Type 0 = λ e. IsLacking rule at catalog e in
+    subst P (sym is) (by error lacks)
+  where
+    by : (error : SweepError) → (failed error ≡ failed sweep.UnknownSeries → LacksNamed catalog rule) → IsLacking rule at catalog (end_at at error)
+    by sweep.UnknownSeries lacks = (refl, lacks refl)
+    by sweep.DiskFault lacks = tt
+    by (sweep.Damaged page) lacks = tt
+    by sweep.NoMemory lacks = tt
+
+-- a line that is a rule
+pub rule_says : {T : Type 0} (result : Result T End) (text : List ℕ) (rule : Rule) (before now : Option (List ℕ)) → Spells rule text
+    → OnOk result (SaysSome before now) → OnOk result (LineSays text before now)
+rule_says {T} (Ok v) text rule before now spells says = inr (rule, spells, says)
+rule_says {T} (Err end) text rule before now spells says = tt
+
+lacking_faulty : (text : List ℕ) (rule : Rule) (at : ℕ) (catalog : List StoredSeries) (end : End) → Spells rule text
+    → IsLacking rule at catalog end → IsFaulty text at catalog end
+lacking_faulty text rule at catalog (BadInput place) spells lacking = absurd lacking
+lacking_faulty text rule at catalog (NoSeries place) spells lacking = (lacking.0, (rule, spells, lacking.1))
+lacking_faulty text rule at catalog end spells lacking = tt
+
+pub rule_faulty : {T : Type 0} (result : Result T End) (text : List ℕ) (rule : Rule) (at : ℕ) (catalog : List StoredSeries)
+    → Spells rule text → IfErr result (IsLacking rule at catalog) → IfErr result (IsFaulty text at catalog)
+rule_faulty {T} (Ok v) text rule at catalog spells lacking = tt
+rule_faulty {T} (Err end) text rule at catalog spells lacking = lacking_faulty text rule at catalog end spells lacking

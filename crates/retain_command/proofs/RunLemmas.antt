@@ -1,5 +1,5 @@
 -- What lines of `retain` did, by what a run of lines says.
-use Rattle.std.proofs.Common.{◌≡◌, ◌∙◌, ℕ, ◌+◌, Bool, true, cond, List, [], ◌∷◌, ◌++◌, length, map, Option, Some, None, IfSome, refl, ap, sym, subst, arith, inl, inr}
+use Rattle.std.proofs.Common.{◌≡◌, ◌∙◌, ℕ, ◌+◌, ◌≤◌, ◌^◌, ◌⊎◌, Bool, true, false, cond, List, [], ◌∷◌, ◌++◌, length, map, Option, Some, None, IfSome, refl, ap, sym, subst, arith, inl, inr}
 use Rattle.std.specs.Prelude.{OnOk, IfErr, Result, Ok, Err}
 use Rattle.std.specs.List.{filter}
 use Rattle.std.proofs.lemmas.List.{append-nil}
@@ -24,37 +24,55 @@ use Rattle.line_runs.specs.declared.lines_stop.LinesStop.TheVariants as stop
 use Rattle.run_ends.specs.declared.ending.End.{End}
 use Rattle.run_ends.specs.declared.ending.End.TheVariants as ends
 use Rattle.series_book.specs.declared.one_series.Series.{Series}
+use Rattle.retention.specs.Drops.{book_swept}
+use Rattle.retention.specs.Sweeps.{sweeps}
+use Rattle.series_catalog.specs.declared.stored_series.StoredSeries.{StoredSeries}
 use Rattle.stored_book.specs.Standing.{StandsForBook}
 use Rattle.store_commands.specs.Books.{Stands}
-use Rattle.store_commands.specs.InputLines.{NextLine, Unended}
+use Rattle.store_commands.specs.InputLines.{NextLine, NoneIs, Unended}
 use Rattle.retention.specs.declared.rule.Rule.{Rule}
 use Rattle.retain_command.specs.Answers.{AreRules, answer, answers, book_behind}
-use Rattle.retain_command.specs.Doing.{Untouched}
-use Rattle.retain_command.specs.Rules.{Says}
-use Rattle.retain_command.specs.Sweeping.{EndsSo, FirstRules, IsAhead, SweepsAll, SweepsFirst, left_by, said_to}
-use Rattle.retain_command.specs.Working.{Held, LineDoes, LineLeaves, LineStopsSo, held_swept}
+use Rattle.retain_command.specs.Doing.{IsFaulty, RuleCosts, Untouched}
+use Rattle.retain_command.specs.Rules.{Says, SaysNone}
+use Rattle.retain_command.specs.Sweeping.{ClearsNext, EndsSo, Faults, FirstRules, IsAhead, SweepsAll, SweepsFew, SweepsFirst, clears_of, left_by, said_to}
+use Rattle.retain_command.specs.WorkLaws.{known_on}
+use Rattle.retain_command.specs.Working.{Costs, Counted, Held, IsFaultyGiven, IsHeldIfKnown, LineDoes, LineLeaves, LineStopped, LineStopsSo, NextGiven, counted_more, held_swept}
 use Rattle.retain_command.proofs.RuleLemmas.{no_rules, spells_some}
-use Rattle.retain_command.proofs.WorkLemmas.{IsHeld}
 
-abbrev held_by : ℕ → List Series → Held
-held_by total book = record { total = total; book = book }
+-- a book that is known
+abbrev pub held_by : ℕ → List Series → Counted → Held
+held_by total book counted = record { known = true; total = total; book = book; counted = counted }
+
+-- the counts behind these rules
+abbrev counted_behind : ℕ → List Series → Counted → List Rule → Counted
+counted_behind total book counted [] = counted
+counted_behind total book counted (rule ∷ rules) =
+    counted_behind total (book_swept total book rule) (counted_more counted (length (sweeps total book rule))) rules
+
+known_is : (held : Held) → held.known ≡ true → held ≡ held_by held.total held.book held.counted
+known_is held known = (λ i. record { known = known i; total = held.total; book = held.book; counted = held.counted })
+
+-- what stopped a run that left this
+abbrev StopsBy : View → List StoredSeries → Option (List ℕ) → Held → Given → End → Option (List ℕ) → Type 0
+StopsBy view catalog now held it end was = (held.known ≡ true → LineStopped held it view was now end) × IsFaultyGiven it catalog end
 
 -- the rules of lines that were done
 record Ruled (held : Held) (all : List (Option (List ℕ))) (text : List ℕ) (behind : Held) : Type 0 where
   pub rules : List Rule
   pub are : AreRules held.total held.book (filter says all) rules
   pub text_is : text ≡ answers held.total held.book rules
-  pub behind_is : behind ≡ held_by held.total (book_behind held.total held.book rules)
+  pub behind_is : behind ≡ held_by held.total (book_behind held.total held.book rules) (counted_behind held.total held.book held.counted rules)
 
 line_says : (line : Option (List ℕ)) (rule : Rule) → Says line rule → says line ≡ true
 line_says None rule none = absurd none
 line_says (Some text) rule spells = says_text text (spells_some rule text spells)
 
-ruled_from : (at : ℕ) (parts : List (List ℕ)) (held : Held) (text : List ℕ) (behind : Held)
+ruled_from : (at : ℕ) (parts : List (List ℕ)) (held : Held) (text : List ℕ) (behind : Held) → held.known ≡ true
     → Carries LineDoes held (given_from at parts) text behind → Ruled held (map text_of parts) text behind
-ruled_from at [] held text behind (none, same) = record { rules = []; are = tt; text_is = none; behind_is = same }
-ruled_from at (part ∷ parts) held text behind follows =
-    by (text_of part) follows.does (ruled_from (at + length part + 1) parts follows.between follows.more behind follows.others)
+ruled_from at [] held text behind known (none, same) = record { rules = []; are = tt; text_is = none; behind_is = same ∙ known_is held known }
+ruled_from at (part ∷ parts) held text behind known follows =
+    by (text_of part) follows.does (ruled_from (at + length part + 1) parts follows.between follows.more behind
+    (known_on held (given.Line at (text_of part)) follows.first follows.between follows.does known) follows.others)
   where
     by : (line : Option (List ℕ)) → LineDoes held (given.Line at line) follows.first follows.between
         → Ruled follows.between (map text_of parts) follows.more behind → Ruled held (line ∷ map text_of parts) text behind
@@ -75,60 +93,126 @@ ruled_from at (part ∷ parts) held text behind follows =
         (cond v (line ∷ filter says (map text_of parts)) (filter says (map text_of parts))) (does.rule ∷ here.rules) in
         record {
           rules = does.rule ∷ here.rules;
-          are = subst R (sym (line_says line does.rule does.says_it)) (does.says_it, does.there, here.are);
-          text_is = follows.texts ∙ ap (λ t. t ++ follows.more) does.text_is
+          are = subst R (sym (line_says line does.rule does.says_it)) (does.says_it, does.there known, here.are);
+          text_is = follows.texts ∙ ap (λ t. t ++ follows.more) (does.text_is known)
               ∙ ap (λ t. answer held.total held.book does.rule ++ t) here.text_is;
           behind_is = here.behind_is;
         }
 
-ruled_lines : (front : List ℕ) (held : Held) (text : List ℕ) (behind : Held) → Carries LineDoes held (given_lines front) text behind
+ruled_lines : (front : List ℕ) (held : Held) (text : List ℕ) (behind : Held) → held.known ≡ true → Carries LineDoes held (given_lines front) text behind
     → Ruled held (lines front) text behind
 unfolding lines given_lines
-ruled_lines front held text behind carries = ruled_from 0 (split_lines front) held text behind carries
+ruled_lines front held text behind known carries = ruled_from 0 (split_lines front) held text behind known carries
 
 -- these lines, with pauses
-ruled : (front : List ℕ) (done : List Given) (held : Held) (text : List ℕ) (behind : Held) → unpaused done ≡ given_lines front
+ruled : (front : List ℕ) (done : List Given) (held : Held) (text : List ℕ) (behind : Held) → held.known ≡ true → unpaused done ≡ given_lines front
     → Carries LineDoes held done text behind → Ruled held (lines front) text behind
-ruled front done held text behind are carries =
+ruled front done held text behind known are carries =
     let P : List Given → Type 0 = λ l. Carries LineDoes held l text behind in
-    ruled_lines front held text behind
+    ruled_lines front held text behind known
     (subst P are (carries_unpaused LineDoes (λ state none behind is. is) done held text behind carries))
 
 -- at the end nothing was done
 end_none : (held : Held) (text : List ℕ) (behind : Held) → Carries LineDoes held (given.End ∷ []) text behind → (text ≡ []) × (behind ≡ held)
 end_none held text behind f = (f.texts ∙ ap (λ t. t ++ f.more) f.does.0 ∙ f.others.0, f.others.1 ∙ f.does.1)
 
-module _ (total : ℕ) (book : List Series) (input : List ℕ) where
+-- what the counts behind rules are
+record CountsAre (counted behind : Counted) (rules clears : ℕ) : Type 0 where
+  pub reads : behind.reads ≡ counted.reads
+  pub syncs : behind.syncs ≡ counted.syncs
+  pub writes : behind.writes ≡ counted.writes
+  pub rules_are : behind.rules ≡ counted.rules + rules
+  pub clears_are : behind.clears ≡ counted.clears + clears
+
+counts_are : (total : ℕ) (book : List Series) (counted : Counted) (rules : List Rule)
+    → CountsAre counted (counted_behind total book counted rules) (length rules) (clears_of total book rules)
+counts_are total book counted [] = record { reads = refl; syncs = refl; writes = refl; rules_are = omega arith; clears_are = omega arith }
+counts_are total book counted (rule ∷ rules) =
+    let is = counts_are total (book_swept total book rule) (counted_more counted (length (sweeps total book rule))) rules in
+    record {
+      reads = is.reads;
+      syncs = is.syncs;
+      writes = is.writes;
+      rules_are = omega (arith, is.rules_are);
+      clears_are = omega (arith, is.clears_are);
+    }
+
+module _ (total : ℕ) (book : List Series) (input : List ℕ) (counted : Counted) where
+  -- so many rules and clears cost no more since
+  abbrev CostsBy : View → ℕ → ℕ → Type 0
+  CostsBy at rules clears = Costs (record {
+    reads = counted.reads;
+    syncs = counted.syncs;
+    writes = counted.writes;
+    rules = counted.rules + rules;
+    clears = counted.clears + clears;
+  }) at
+
+  next_few : (first : FirstRules total book input) (at : View) (more : ℕ)
+      → (more ≡ 0) ⊎ ClearsNext (length first.front) total (left_by total book input first) first.rest more
+      → Costs (counted_more (counted_behind total book counted first.rules) more) at → SweepsFew (CostsBy at) total book input
+  next_few first at more next costs =
+      let is = counts_are total book counted first.rules in
+      record {
+        first = first;
+        more = more;
+        next = next;
+        cost = record {
+          reads = omega (arith, costs.reads, is.reads, is.rules_are, is.clears_are);
+          syncs = omega (arith, costs.syncs, is.syncs, is.clears_are);
+          writes = omega (arith, costs.writes, is.writes, is.clears_are);
+        };
+      }
+
+  first_few : (first : FirstRules total book input) (at : View) → Costs (counted_behind total book counted first.rules) at
+      → SweepsFew (CostsBy at) total book input
+  first_few first at costs = next_few first at 0 (inl refl) (record {
+    reads = omega (arith, costs.reads);
+    syncs = omega (arith, costs.syncs);
+    writes = omega (arith, costs.writes);
+  })
+
   -- all lines
-  all_so : (Told : Type 0) (image : Image) (before now : Option (List ℕ)) (pieces pieces' : ℕ)
-      → runs.Runs LineDoes (held_by total book) (runs.AreAll pieces pieces') (IsHeld Told image) (Some input) before now
-      → SweepsAll (Stands total image) total book input before now
-  all_so Told image before now pieces pieces' all =
+  all_so : (Told : Type 0) (at : View) (before now : Option (List ℕ)) (pieces pieces' : ℕ) → length input ≤ 2 ^ 32
+      → runs.Runs LineDoes (held_by total book counted) (runs.AreAll pieces pieces') (IsHeldIfKnown Told at) (Some input) before now
+      → SweepsAll (Stands total at.image) total book input before now × SweepsFew (CostsBy at) total book input
+  all_so Told at before now pieces pieces' within all =
       let done = all.done in
-      let P : List Given → Type 0 = λ l. Carries LineDoes (held_by total book) l done.text done.behind in
+      let P : List Given → Type 0 = λ l. Carries LineDoes (held_by total book counted) l done.text done.behind in
       let are = all.are in
-      let both = carries_both LineDoes are.earlier (given.End ∷ []) (held_by total book) done.text done.behind
+      let both = carries_both LineDoes are.earlier (given.End ∷ []) (held_by total book counted) done.text done.behind
       (subst P are.given_are done.carries) in
       let none = end_none both.between both.more done.behind both.others in
-      let r = ruled input are.earlier (held_by total book) both.begin both.between are.lines_are both.begins in
-      let S : Held → Type 0 = λ h. IsHeld Told image h in
+      let r = ruled input are.earlier (held_by total book counted) both.begin both.between refl are.lines_are both.begins in
+      let S : Held → Type 0 = λ h. IsHeldIfKnown Told at h in
+      let stands = subst S (none.1 ∙ r.behind_is) all.stands refl in
       let same = both.texts ∙ ap (λ t. both.begin ++ t) none.0 ∙ append-nil both.begin ∙ r.text_is in
-      record {
+      let first : FirstRules total book input = record {
+        front = input;
+        rest = [];
+        begins = record { split = sym (append-nil input); whole = inr refl };
+        early = within;
         rules = r.rules;
         are = r.are;
-        there = (subst S (none.1 ∙ r.behind_is) all.stands).1;
-        sent = all.sent ∙ ap (λ t. sent_after t before) same;
-      }
+      } in (
+        record {
+          rules = r.rules;
+          are = r.are;
+          there = stands.1;
+          sent = all.sent ∙ ap (λ t. sent_after t before) same;
+        },
+        first_few first at stands.2,
+      )
 
   -- some first lines, in the words of rules
   record Firsts (text : List ℕ) (behind : Held) : Type 0 where
     pub first : FirstRules total book input
     pub text_is : text ≡ said_to total book input first
-    pub behind_is : behind ≡ held_by total (left_by total book input first)
+    pub behind_is : behind ≡ held_by total (left_by total book input first) (counted_behind total book counted first.rules)
 
-  abbrev firsts : (done : Done LineDoes (held_by total book)) → AreFirst input done.given → Firsts done.text done.behind
+  abbrev firsts : (done : Done LineDoes (held_by total book counted)) → AreFirst input done.given → Firsts done.text done.behind
   firsts done first =
-      let r = ruled first.front done.given (held_by total book) done.text done.behind first.given_are done.carries in
+      let r = ruled first.front done.given (held_by total book counted) done.text done.behind refl first.given_are done.carries in
       record {
         first = record {
           front = first.front;
@@ -142,12 +226,18 @@ module _ (total : ℕ) (book : List Series) (input : List ℕ) where
         behind_is = r.behind_is;
       }
 
-  abbrev first_so : (Told : Type 0) (image : Image) (before now : Option (List ℕ)) (text : List ℕ) (behind : Held)
-      → Firsts text behind → IsHeld Told image behind → now ≡ sent_after text before
-      → SweepsFirst (Stands total image) total book input before now
-  first_so Told image before now text behind f stands sent =
-      let S : Held → Type 0 = λ h. IsHeld Told image h in
-      record { first = f.first; there = (subst S f.behind_is stands).1; sent = sent ∙ ap (λ t. sent_after t before) f.text_is }
+  abbrev first_so : (Told : Type 0) (at : View) (before now : Option (List ℕ)) (text : List ℕ) (behind : Held)
+      → Firsts text behind → IsHeldIfKnown Told at behind → now ≡ sent_after text before
+      → SweepsFirst (Stands total at.image) total book input before now
+  first_so Told at before now text behind f stands sent =
+      let S : Held → Type 0 = λ h. IsHeldIfKnown Told at h in
+      record { first = f.first; there = (subst S f.behind_is stands refl).1; sent = sent ∙ ap (λ t. sent_after t before) f.text_is }
+
+  few_so : (Told : Type 0) (at : View) (text : List ℕ) (behind : Held) → Firsts text behind → IsHeldIfKnown Told at behind
+      → SweepsFew (CostsBy at) total book input
+  few_so Told at text behind f stands =
+      let S : Held → Type 0 = λ h. IsHeldIfKnown Told at h in
+      first_few f.first at (subst S f.behind_is stands refl).2
 
   unended_so : (rest : List ℕ) (left : Option (List ℕ)) → IfSome left (runs.Unended rest) → IfSome left (Unended rest)
   unended_so rest None is = tt
@@ -160,7 +250,7 @@ module _ (total : ℕ) (book : List Series) (input : List ℕ) where
   module _ (image : Image) (left before now : Option (List ℕ)) (first : FirstRules total book input) where
     -- it stopped the run
     abbrev Stopped : Given → End → Type 0
-    Stopped next end = LineStopsSo (held_by total (left_by total book input first)) next image
+    Stopped next end = LineStopsSo (held_by total (left_by total book input first) (counted_behind total book counted first.rules)) next image
         (sent_after (said_to total book input first) before) now end
 
     abbrev Ended : End → Type 0
@@ -226,33 +316,61 @@ module _ (total : ℕ) (book : List Series) (input : List ℕ) where
     next_stops given.Pause any end why = absurd why
     next_stops given.End none end why = absurd why
 
+  -- the rule that is given next
+  next_clears : (first : FirstRules total book input) (next : Given) → IsNext (length first.front) first.rest next → (more : ℕ)
+      → NextGiven (held_by total (left_by total book input first) (counted_behind total book counted first.rules)) next more
+      → (more ≡ 0) ⊎ ClearsNext (length first.front) total (left_by total book input first) first.rest more
+  next_clears first (given.Line at None) next more none = inl none
+  next_clears first (given.Line at (Some text)) next more (inl none) = inl none
+  next_clears first (given.Line at (Some text)) (at_is, next) more (inr (rule, spells, are)) = inr (record {
+    line = Some text;
+    next = next_so (length first.front) first.rest (Some text) next;
+    rule = rule;
+    says_it = spells;
+    clears_are = are;
+  })
+  next_clears first given.Pause next more none = inl none
+  next_clears first given.End next more none = inl none
+
   -- how the run ended
-  ends_so : {T : Type 0} (Told : Type 0) (image : Image) (left before now : Option (List ℕ)) (pieces pieces' : ℕ) (answer : Result T (LinesStop End))
-      → OnOk answer (runs.Runs LineDoes (held_by total book) (runs.AreAll pieces pieces') (IsHeld Told image) (Some input) before now)
-      → IfErr answer (runs.StopsSo LineDoes (λ held it end was. LineStopsSo held it image was now end) (IsHeld Told image) (held_by total book) (Some input) left before now pieces pieces')
-      → EndsSo (Stands total image) total book input left before now (run_end answer)
-  ends_so {T} Told image left before now pieces pieces' (Ok done) all is = all_so Told image before now pieces pieces' all
-  ends_so {T} Told image left before now pieces pieces' (Err (stop.Fault fault.ReadFault)) all is = record {
-    swept = first_so Told image before now is.done.text is.done.behind (firsts is.done is.are.first) is.stands is.sent;
-    whole = is.are.whole;
-    behind = unended_so is.are.first.rest left is.are.behind;
-  }
-  ends_so {T} Told image left before now pieces pieces' (Err (stop.Fault fault.InputTooLong)) all is = record {
-    swept = first_so Told image before now is.done.text is.done.behind (firsts is.done is.are.first) is.stands is.sent;
-    unended = is.are.unended;
-    past = is.are.past;
-  }
-  ends_so {T} Told image left before now pieces pieces' (Err (stop.Work end)) all is =
+  ends_so : {T : Type 0} (Told : Type 0) (view : View) (catalog : List StoredSeries) (left before now : Option (List ℕ)) (pieces pieces' : ℕ) (answer : Result T (LinesStop End))
+      → OnOk answer (length input ≤ 2 ^ 32)
+      → OnOk answer (runs.Runs LineDoes (held_by total book counted) (runs.AreAll pieces pieces') (IsHeldIfKnown Told view) (Some input) before now)
+      → IfErr answer (runs.StopsSo LineDoes (λ held it end was. StopsBy view catalog now held it end was) (IsHeldIfKnown Told view) (held_by total book counted) (Some input) left before now pieces pieces')
+      → EndsSo (Stands total view.image) total book input left before now (run_end answer) × SweepsFew (CostsBy view) total book input
+  ends_so {T} Told view catalog left before now pieces pieces' (Ok done) within all is = all_so Told view before now pieces pieces' within all
+  ends_so {T} Told view catalog left before now pieces pieces' (Err (stop.Fault fault.ReadFault)) within all is =
+      let f = firsts is.done is.are.first in (
+        record {
+          swept = first_so Told view before now is.done.text is.done.behind f is.stands is.sent;
+          whole = is.are.whole;
+          behind = unended_so is.are.first.rest left is.are.behind;
+        },
+        few_so Told view is.done.text is.done.behind f is.stands,
+      )
+  ends_so {T} Told view catalog left before now pieces pieces' (Err (stop.Fault fault.InputTooLong)) within all is =
+      let f = firsts is.done is.are.first in (
+        record {
+          swept = first_so Told view before now is.done.text is.done.behind f is.stands is.sent;
+          unended = is.are.unended;
+          past = is.are.past;
+        },
+        few_so Told view is.done.text is.done.behind f is.stands,
+      )
+  ends_so {T} Told view catalog left before now pieces pieces' (Err (stop.Work end)) within all is =
       let f = firsts is.done is.are.first in
-      let H : Held → Type 0 = λ h. LineStopsSo h is.next image (sent_after is.done.text before) now end in
+      let H : Held → Type 0 = λ h. h.known ≡ true → LineStopped h is.next view (sent_after is.done.text before) now end in
       let T' : List ℕ → Type 0 = λ t.
-      LineStopsSo (held_by total (left_by total book input f.first)) is.next image (sent_after t before) now end in
-      next_stops image left before now f.first is.next is.are.next_is end (subst T' f.text_is (subst H f.behind_is is.why))
+      LineStopsSo (held_by total (left_by total book input f.first) (counted_behind total book counted f.first.rules)) is.next view.image (sent_after t before) now end in
+      let stopped = subst H f.behind_is is.why.0 refl in (
+        next_stops view.image left before now f.first is.next is.are.next_is end (subst T' f.text_is stopped.why),
+        next_few f.first view stopped.more (next_clears f.first is.next is.are.next_is stopped.more stopped.next) stopped.costs,
+      )
 
   -- at each moment
   next_leaves : (from begun sent : ℕ) (image : Image) (first : FirstRules total book input)
       → begun ≡ from + length (said_to total book input first) → (next : Given) → IsNext (length first.front) first.rest next
-      → LineLeaves (held_by total (left_by total book input first)) next begun image sent
+      → LineLeaves (held_by total (left_by total book input first) (counted_behind total book counted first.rules)) next begun image sent
       → IsAhead (Stands total image) total book input from sent
   next_leaves from begun sent image first begun_is (given.Line at None) next none = absurd none
   next_leaves from begun sent image first begun_is (given.Line at (Some text)) (at_is, next) (rule, spells, m) = record {
@@ -277,7 +395,7 @@ module _ (total : ℕ) (book : List Series) (input : List ℕ) where
   next_leaves from begun sent image first begun_is given.End next none = absurd none
 
   ahead_so : (bytes : List ℕ) (from : ℕ) (image : Image) (sent : ℕ)
-      → runs.IsAhead LineDoes (λ held i. StandsForBook i held.total held.book) LineLeaves (held_by total book) (Some input)
+      → runs.IsAhead LineDoes (λ held i. StandsForBook i held.total held.book) LineLeaves (held_by total book counted) (Some input)
       (Some bytes) from image sent
       → IsAhead (Stands total image) total book input from sent
   ahead_so bytes from image sent ahead = elim ahead.is [
@@ -295,21 +413,22 @@ module _ (total : ℕ) (book : List Series) (input : List ℕ) where
   ]
 
 -- the same of an input that may be told
-module _ (total : ℕ) (book : List Series) where
-  pub ends_told : {T : Type 0} (Told : Type 0) (image : Image) (o left before now : Option (List ℕ)) (pieces pieces' : ℕ) (answer : Result T (LinesStop End))
-      → OnOk answer (runs.Runs LineDoes (held_by total book) (runs.AreAll pieces pieces') (IsHeld Told image) o before now)
-      → IfErr answer (runs.StopsSo LineDoes (λ held it end was. LineStopsSo held it image was now end) (IsHeld Told image) (held_by total book) o left before now pieces pieces')
-      → IfSome o (λ input. EndsSo (Stands total image) total book input left before now (run_end answer))
-  ends_told {T} Told image None left before now pieces pieces' answer all is = tt
-  ends_told {T} Told image (Some input) left before now pieces pieces' answer all is =
-      ends_so total book input Told image left before now pieces pieces' answer all is
+module _ (total : ℕ) (book : List Series) (counted : Counted) where
+  pub ends_told : {T : Type 0} (Told : Type 0) (view : View) (catalog : List StoredSeries) (o left before now : Option (List ℕ)) (pieces pieces' : ℕ) (answer : Result T (LinesStop End))
+      → OnOk answer (IfSome o (λ input. length input ≤ 2 ^ 32))
+      → OnOk answer (runs.Runs LineDoes (held_by total book counted) (runs.AreAll pieces pieces') (IsHeldIfKnown Told view) o before now)
+      → IfErr answer (runs.StopsSo LineDoes (λ held it end was. StopsBy view catalog now held it end was) (IsHeldIfKnown Told view) (held_by total book counted) o left before now pieces pieces')
+      → IfSome o (λ input. EndsSo (Stands total view.image) total book input left before now (run_end answer) × SweepsFew (CostsBy total book input counted view) total book input)
+  ends_told {T} Told view catalog None left before now pieces pieces' answer within all is = tt
+  ends_told {T} Told view catalog (Some input) left before now pieces pieces' answer within all is =
+      ends_so total book input counted Told view catalog left before now pieces pieces' answer within all is
 
   abbrev Lasts : Option (List ℕ) → Option (List ℕ) → View → View → Type 0
   Lasts o before old new = IfSome o (λ input. IfSome before (λ bytes.
       moments.Since old new (λ image sent. IsAhead (Stands total image) total book input (sent_now old) sent)))
 
   pub lasts_told : (o before : Option (List ℕ)) (old new : View)
-      → Since old new (runs.IsAhead LineDoes (λ held i. StandsForBook i held.total held.book) LineLeaves (held_by total book) o before
+      → Since old new (runs.IsAhead LineDoes (λ held i. StandsForBook i held.total held.book) LineLeaves (held_by total book counted) o before
       (sent_now old))
       → Lasts o before old new
   lasts_told None before old new since = tt
@@ -317,7 +436,7 @@ module _ (total : ℕ) (book : List Series) where
   lasts_told (Some input) (Some bytes) old new since = record {
     goes = since.goes;
     here = λ time image low high left.
-        ahead_so total book input bytes (sent_now old) image (new.sent_by time) (since.here time image low high left);
+        ahead_so total book input counted bytes (sent_now old) image (new.sent_by time) (since.here time image low high left);
   }
 
   -- where no line was begun
@@ -335,3 +454,156 @@ module _ (total : ℕ) (book : List Series) where
   none_swept None left before image stands = tt
   none_swept (Some input) left before image stands =
       inl (record { first = no_rules total book input; there = stands; sent = sent_none before })
+
+-- ---- costs in the words of the store
+
+abbrev pub counted_by : View → Counted
+counted_by at = record { reads = at.reads; syncs = at.syncs; writes = at.writes; rules = 0; clears = 0 }
+
+pub costs_begun : (at : View) → Costs (counted_by at) at
+costs_begun at = record { reads = omega arith; syncs = omega arith; writes = omega arith }
+
+few_by : (total : ℕ) (book : List Series) (input : List ℕ) (old new : View) → SweepsFew (CostsBy total book input (counted_by old) new) total book input
+    → SweepsFew (λ rules clears. RuleCosts rules clears old new) total book input
+few_by total book input old new few = record {
+  first = few.first;
+  more = few.more;
+  next = few.next;
+  cost = record {
+    reads = omega (arith, few.cost.reads);
+    syncs = omega (arith, few.cost.syncs);
+    writes = omega (arith, few.cost.writes);
+  };
+}
+
+module _ (total : ℕ) (book : List Series) (old new : View) where
+  abbrev Both : Option (List ℕ) → Option (List ℕ) → Option (List ℕ) → Option (List ℕ) → End → Type 0
+  Both o left before now end =
+      IfSome o (λ input. EndsSo (Stands total new.image) total book input left before now end × SweepsFew (CostsBy total book input (counted_by old) new) total book input)
+
+  pub ends_of : (o left before now : Option (List ℕ)) (end : End) → Both o left before now end
+      → IfSome o (λ input. EndsSo (Stands total new.image) total book input left before now end)
+  ends_of None left before now end both = tt
+  ends_of (Some input) left before now end both = both.0
+
+  pub costs_told : (o left before now : Option (List ℕ)) (end : End) → Both o left before now end
+      → IfSome o (λ input. SweepsFew (λ rules clears. RuleCosts rules clears old new) total book input)
+  costs_told None left before now end both = tt
+  costs_told (Some input) left before now end both = few_by total book input old new both.1
+
+pub none_costs : (total : ℕ) (book : List Series) (o : Option (List ℕ)) (at : View)
+    → IfSome o (λ input. SweepsFew (λ rules clears. RuleCosts rules clears at at) total book input)
+none_costs total book None at = tt
+none_costs total book (Some input) at = record {
+  first = no_rules total book input;
+  more = 0;
+  next = inl refl;
+  cost = record { reads = omega arith; syncs = omega arith; writes = omega arith };
+}
+
+-- ---- whatever the pages are
+
+-- each line that was done is a rule, unless it is empty
+said_from : (at : ℕ) (parts : List (List ℕ)) (held : Held) (text : List ℕ) (behind : Held)
+    → Carries LineDoes held (given_from at parts) text behind → NoneIs SaysNone (filter says (map text_of parts))
+said_from at [] held text behind none = tt
+said_from at (part ∷ parts) held text behind follows =
+    by (text_of part) follows.does (said_from (at + length part + 1) parts follows.between follows.more behind follows.others)
+  where
+    by : (line : Option (List ℕ)) → LineDoes held (given.Line at line) follows.first follows.between
+        → NoneIs SaysNone (filter says (map text_of parts)) → NoneIs SaysNone (filter says (line ∷ map text_of parts))
+    by line (inl (empty, none, same)) rest =
+        let R : Option (List ℕ) → Type 0 = λ l. NoneIs SaysNone (filter says (l ∷ map text_of parts)) in
+        subst R (sym empty) rest
+    by line (inr does) rest =
+        let R : Bool → Type 0 = λ v. NoneIs SaysNone
+        (cond v (line ∷ filter says (map text_of parts)) (filter says (map text_of parts))) in
+        subst R (sym (line_says line does.rule does.says_it)) ((λ none. none does.rule does.says_it), rest)
+
+said_lines : (front : List ℕ) (held : Held) (text : List ℕ) (behind : Held) → Carries LineDoes held (given_lines front) text behind
+    → NoneIs SaysNone (filter says (lines front))
+unfolding lines given_lines
+said_lines front held text behind carries = said_from 0 (split_lines front) held text behind carries
+
+said : (front : List ℕ) (done : List Given) (held : Held) (text : List ℕ) (behind : Held) → unpaused done ≡ given_lines front
+    → Carries LineDoes held done text behind → NoneIs SaysNone (filter says (lines front))
+said front done held text behind are carries =
+    let P : List Given → Type 0 = λ l. Carries LineDoes held l text behind in
+    said_lines front held text behind
+    (subst P are (carries_unpaused LineDoes (λ state none behind is. is) done held text behind carries))
+
+-- no book
+abbrev pub unknown : Held
+unknown = record { known = false; total = 0; book = []; counted = record { reads = 0; syncs = 0; writes = 0; rules = 0; clears = 0 } }
+
+pub never_known : {X : Type 0} → false ≡ true → X
+never_known {X} is = cc
+
+module _ (catalog : List StoredSeries) (input : List ℕ) where
+  as_next : (count : ℕ) (rest : List ℕ) (line : Option (List ℕ)) → given.NextLine count rest line → NextLine count rest line
+  as_next count rest line next = record { later = next.later; lines_are = next.lines_are; early = next.early }
+
+  module _ (given_first : List Given) (f : AreFirst input given_first) (none : NoneIs SaysNone (filter says (lines f.front))) where
+    text_fault : (at : ℕ) → at ≡ length f.front → (text : List ℕ) → NextLine (length f.front) f.rest (Some text) → (end : End)
+        → IsFaulty text at catalog end → Faults catalog input end
+    text_fault at at_is text next (ends.BadInput place) is = record {
+      front = f.front;
+      rest = f.rest;
+      begins = f.begins;
+      none = none;
+      at_is = is.0 ∙ at_is;
+      line = Some text;
+      next = next;
+      some = says_text text is.1;
+      is = is.2;
+    }
+    text_fault at at_is text next (ends.NoSeries place) (place_is, (rule, spells, (name, names, lacks))) = record {
+      front = f.front;
+      rest = f.rest;
+      begins = f.begins;
+      at_is = place_is ∙ at_is;
+      line = Some text;
+      next = next;
+      rule = rule;
+      says_it = spells;
+      name = name;
+      names = names;
+      lacks = lacks;
+    }
+    text_fault at at_is text next end is = tt
+
+    given_fault : (next : Given) → IsNext (length f.front) f.rest next → (end : End) → IsFaultyGiven next catalog end → Faults catalog input end
+    given_fault (given.Line at None) (at_is, next) end is =
+        let P : End → Type 0 = λ e. Faults catalog input e in
+        subst P (sym is) (record {
+          front = f.front;
+          rest = f.rest;
+          begins = f.begins;
+          none = none;
+          at_is = at_is;
+          line = None;
+          next = as_next (length f.front) f.rest None next;
+          some = refl;
+          is = λ rule none. none;
+        })
+    given_fault (given.Line at (Some text)) (at_is, next) end is =
+        text_fault at at_is text (as_next (length f.front) f.rest (Some text) next) end is
+    given_fault given.Pause next end is = absurd is
+    given_fault given.End next end is = absurd is
+
+-- the line that stopped a run
+pub faults_told : {T : Type 0} (Told : Type 0) (view : View) (catalog : List StoredSeries) (o left before now : Option (List ℕ)) (pieces pieces' : ℕ) (answer : Result T (LinesStop End))
+    → IfErr answer (runs.StopsSo LineDoes (λ held it end was. StopsBy view catalog now held it end was) (IsHeldIfKnown Told view) unknown o left before now pieces pieces')
+    → IfSome o (λ input. Faults catalog input (run_end answer))
+faults_told {T} Told view catalog None left before now pieces pieces' answer is = tt
+faults_told {T} Told view catalog (Some input) left before now pieces pieces' (Ok done) is = tt
+faults_told {T} Told view catalog (Some input) left before now pieces pieces' (Err (stop.Fault fault.ReadFault)) is = tt
+faults_told {T} Told view catalog (Some input) left before now pieces pieces' (Err (stop.Fault fault.InputTooLong)) is = tt
+faults_told {T} Told view catalog (Some input) left before now pieces pieces' (Err (stop.Work end)) is =
+    given_fault catalog input is.done.given is.are.first
+    (said is.are.first.front is.done.given unknown is.done.text is.done.behind is.are.first.given_are is.done.carries) is.next is.are.next_is end
+    is.why.1
+
+pub no_faults : (catalog : List StoredSeries) (o : Option (List ℕ)) → IfSome o (λ input. Faults catalog input ends.NoMemory)
+no_faults catalog None = tt
+no_faults catalog (Some input) = tt

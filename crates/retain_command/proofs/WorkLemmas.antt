@@ -1,51 +1,120 @@
 -- What a line of `retain` does, as a work of lines says it.
-use Rattle.std.proofs.Common.{◌≡◌, ◌≢◌, ◌∙◌, ℕ, List, [], Option, Some, Result, Ok, Err, refl, ap, inl, inr}
+use Rattle.std.proofs.Common.{◌≡◌, ◌≢◌, ◌∙◌, ℕ, ◌≤◌, Bool, true, false, List, [], length, Option, None, Some, Result, Ok, Err, refl, ap, sym, inl, inr, arith}
 use Rattle.std.specs.Prelude.{OnOk, IfErr, ⊤}
 use Rattle.block_disk.specs.SentLaws.{sent_none}
-use Rattle.block_disk.specs.View.{Image, View}
+use Rattle.block_disk.specs.View.{View}
 use Rattle.line_runs.specs.Carried.{DoesOne}
 use Rattle.line_runs.specs.Given.{Line}
 use Rattle.retention.specs.declared.sweep_error.SweepError.{SweepError}
 use Rattle.retention.specs.declared.sweep_error.SweepError.TheVariants as sweep
 use Rattle.run_ends.specs.declared.ending.End.{End}
-use Rattle.run_ends.specs.declared.ending.End.TheVariants.{InputTooLong}
-use Rattle.stored_book.specs.Standing.{StandsForBook}
+use Rattle.run_ends.specs.declared.ending.End.TheVariants.{BadInput, InputTooLong}
+use Rattle.retention.specs.Sweeps.{sweeps}
+use Rattle.series_catalog.specs.declared.stored_series.StoredSeries.{StoredSeries}
 use Rattle.retain_command.specs.Answers.{answer}
-use Rattle.retain_command.specs.Doing.{DoesLine, LineDone, end_at}
-use Rattle.retain_command.specs.Working.{Held, LineDoes, LineStopsSo, held_swept}
+use Rattle.retain_command.specs.Doing.{DoesLine, IsFaulty, LineDone, LineSays, RuleCosts, end_at}
+use Rattle.retain_command.specs.Working.{Costs, Counted, Held, IsFaultyGiven, IsHeldIfKnown, LineDoes, LineStopped, counted_more, held_swept}
 
--- the pages of this image stand for it
-abbrev pub IsHeld : Type 0 → Image → Held → Type 0
-IsHeld Told image held = Told × StandsForBook image held.total held.book
+-- calls of some looks and clears were made since
+costs_on : (counted : Counted) (looks clears : ℕ) (old new : View) → looks ≤ 1 → Costs counted old → RuleCosts looks clears old new
+    → Costs (counted_more counted clears) new
+costs_on counted looks clears old new few was costs = record {
+  reads = omega (arith, few, was.reads, costs.reads);
+  syncs = omega (arith, was.syncs, costs.syncs);
+  writes = omega (arith, was.writes, costs.writes);
+}
+
+costs_still : (counted : Counted) (old new : View) → Costs counted old → RuleCosts 0 0 old new → Costs counted new
+costs_still counted old new was costs = record {
+  reads = omega (arith, was.reads, costs.reads);
+  syncs = omega (arith, was.syncs, costs.syncs);
+  writes = omega (arith, was.writes, costs.writes);
+}
 
 module _ (held : Held) (text : List ℕ) (at : ℕ) (old new : View) (before now : Option (List ℕ)) where
-  line_done : (Told : Type 0) → Told → LineDone held.total held.book text new.image before now
-      → DoesOne LineDoes (IsHeld Told new.image) held (Line at (Some text)) before now
-  line_done Told told (inl (none, rests)) = record {
+  -- the book is known
+  line_known : (Told : Type 0) → Told → Costs held.counted old → LineDone held.total held.book text old new before now
+      → DoesOne LineDoes (IsHeldIfKnown Told new) held (Line at (Some text)) before now
+  line_known Told told was (inl (none, rests, costs)) = record {
     text = [];
     behind = held;
     done = inl (ap Some none, refl, refl);
-    stands = (told, rests.stands);
-    sent = rests.unsent
-        ∙ sent_none before;
+    stands = λ known. (told, rests.stands, costs_still held.counted old new was costs);
+    sent = rests.unsent ∙ sent_none before;
   }
-  line_done Told told (inr (rule, spells, done)) = record {
+  line_known Told told was (inr (rule, spells, done, costs)) = record {
     text = answer held.total held.book rule;
     behind = held_swept held rule;
-    done = inr (record { rule = rule; says_it = spells; there = done.there; text_is = refl; behind_is = refl });
-    stands = (told, done.stands);
+    done = inr (record {
+      rule = rule;
+      says_it = spells;
+      there = λ known. done.there;
+      text_is = λ known. refl;
+      behind_is = refl;
+    });
+    stands = λ known. (told, done.stands, costs_on held.counted 1 (length (sweeps held.total held.book rule)) old new (omega arith) was costs);
     sent = done.sent;
   }
 
-  pub work_done : {T : Type 0} (Told : Type 0) (result : Result T End) → Told → DoesLine held.total held.book text at result old
-      new before now → OnOk result (DoesOne LineDoes (IsHeld Told new.image) held (Line at (Some text)) before now)
-  work_done {T} Told (Ok v) told does = line_done Told told does.done
-  work_done {T} Told (Err e) told does = tt
+  -- it isn't
+  line_said : (Told : Type 0) → (held.known ≡ true → ⊥) → LineSays text before now
+      → DoesOne LineDoes (IsHeldIfKnown Told new) held (Line at (Some text)) before now
+  line_said Told unknown (inl (none, unsent)) = record {
+    text = [];
+    behind = held;
+    done = inl (ap Some none, refl, refl);
+    stands = λ known. absurd (unknown known);
+    sent = unsent ∙ sent_none before;
+  }
+  line_said Told unknown (inr (rule, spells, says)) = record {
+    text = says.0;
+    behind = held_swept held rule;
+    done = inr (record {
+      rule = rule;
+      says_it = spells;
+      there = λ known. absurd (unknown known);
+      text_is = λ known. absurd (unknown known);
+      behind_is = refl;
+    });
+    stands = λ known. absurd (unknown known);
+    sent = says.1;
+  }
 
-  pub work_stops : {T : Type 0} (result : Result T End) → DoesLine held.total held.book text at result old new before now
-      → IfErr result (λ end. LineStopsSo held (Line at (Some text)) new.image before now end)
-  work_stops {T} (Ok v) does = tt
-  work_stops {T} (Err e) does = does.stops
+  pub work_done : {T : Type 0} (Told Told' : Type 0) (result : Result T End) → (Told → Told') → IsHeldIfKnown Told old held
+      → (held.known ≡ true → DoesLine held.total held.book text at result old new before now) → OnOk result (LineSays text before now)
+      → OnOk result (DoesOne LineDoes (IsHeldIfKnown Told' new) held (Line at (Some text)) before now)
+  work_done {T} Told Told' (Err e) more stands does says = tt
+  work_done {T} Told Told' (Ok v) more stands does says = by held.known refl
+    where
+      by : (known : Bool) → held.known ≡ known → DoesOne LineDoes (IsHeldIfKnown Told' new) held (Line at (Some text)) before now
+      by true known = line_known Told' (more (stands known).0) (stands known).2 (does known).done
+      by false unknown = line_said Told' (λ known. let both : false ≡ true = sym unknown ∙ known in cc) says
+
+  pub work_stops : {T : Type 0} (Told : Type 0) (result : Result T End) (catalog : List StoredSeries) → IsHeldIfKnown Told old held
+      → (held.known ≡ true → DoesLine held.total held.book text at result old new before now) → IfErr result (IsFaulty text at catalog)
+      → IfErr result (λ end. (held.known ≡ true → LineStopped held (Line at (Some text)) new before now end) × IsFaultyGiven (Line at (Some text)) catalog end)
+  work_stops {T} Told (Ok v) catalog stands does faulty = tt
+  work_stops {T} Told (Err e) catalog stands does faulty = (
+    (λ known.
+        let did = does known in
+        record {
+          why = did.stops;
+          more = did.most.0;
+          next = did.most.1;
+          costs = costs_on held.counted 1 did.most.0 old new (omega arith) (stands known).2 did.most.2;
+        }),
+    faulty,
+  )
+
+-- a line that is too long
+pub long_stops : (Told : Type 0) (held : Held) (at : ℕ) (view : View) (before : Option (List ℕ)) → IsHeldIfKnown Told view held
+    → held.known ≡ true → LineStopped held (Line at None) view before before (BadInput at)
+long_stops Told held at view before stands known = record {
+  why = (refl, record { stands = (stands known).1; unsent = refl });
+  more = 0;
+  next = refl;
+  costs = costs_on held.counted 1 0 view view (omega arith) (stands known).2 (record { reads = omega arith; syncs = omega arith; writes = omega arith });
+}
 
 -- no end of a sweep is the input's length
 pub sweep_short : (at : ℕ) (error : SweepError) (end : End) → end ≡ end_at at error → ◌≡◌ {A = Result ⊤ End} (Err end) (Err InputTooLong) → ⊥

@@ -1,5 +1,5 @@
 -- What is done of one line, and what calls move. Private contracts are stated by these words.
-use Rattle.std.specs.Prelude.{◌≡◌, ℕ, ◌+◌, ◌<◌, ◌≤◌, ◌⊎◌, List, [], length, take, Option, Some, Result, IfErr, OnOk, ⊤}
+use Rattle.std.specs.Prelude.{◌≡◌, ℕ, ◌+◌, ◌*◌, ◌<◌, ◌≤◌, ◌⊎◌, List, [], length, take, Option, Some, Result, IfErr, OnOk, ⊤}
 use Rattle.block_disk.specs.Counts.{HasRisen}
 use Rattle.block_disk.specs.Streams.{sent_after, PartSent}
 use Rattle.block_disk.specs.View.{Image, View, sent_now}
@@ -10,6 +10,7 @@ use Rattle.run_ends.specs.declared.ending.End.{End}
 use Rattle.run_ends.specs.declared.ending.End.TheVariants.{NoMemory, ReadFault, SendFault, DiskFault, DamagedPage, BadInput, InputTooLong, NoSeries}
 use Rattle.series_book.specs.declared.one_series.Series.{Series}
 use Rattle.series_book.specs.EditLists.{after_edits}
+use Rattle.series_catalog.specs.declared.stored_series.StoredSeries.{StoredSeries}
 use Rattle.series_store.specs.Shown as shown
 use Rattle.series_store.specs.declared.store.Store.{Store}
 use Rattle.store_commands.specs.Sides.{Side}
@@ -17,7 +18,8 @@ use Rattle.stored_book.specs.Damage.{IsBadForRequest}
 use Rattle.stored_book.specs.Standing.{StandsForBook}
 use Rattle.retention.specs.Drops.{book_swept}
 use Rattle.retention.specs.Sweeping.{IsAfterSome}
-use Rattle.retention.specs.Sweeps.{NamesNone, sweeps}
+use Rattle.retention.specs.Moving.{clear_reads}
+use Rattle.retention.specs.Sweeps.{LacksNamed, NamesNone, sweeps}
 use Rattle.retention.specs.declared.rule.Rule.{Rule}
 use Rattle.retention.specs.declared.sweep_error.SweepError.{SweepError}
 use Rattle.retention.specs.declared.sweep_error.SweepError.TheVariants as sweep
@@ -81,8 +83,15 @@ pub record RuleMoment (total : ℕ) (book : List Series) (rule : Rule) (from : �
   pub high : sent ≤ from + length (answer total book rule)
   pub all : from < sent → done ≡ length (sweeps total book rule)
 
+-- so many looks and so many clears, with a look before each, cost no more than this
+pub record RuleCosts (looks clears : ℕ) (old new : View) : Type 0 where
+  pub reads : new.reads ≤ old.reads + clear_reads * (clears + looks)
+  pub syncs : new.syncs ≤ old.syncs + 4 * clears
+  pub writes : new.writes ≤ old.writes + 87 * clears
+
 -- what a call does that answers a rule
 pub record DoesRule {T : Type 0} (total : ℕ) (book : List Series) (rule : Rule) (at : ℕ) (result : Result T End) (old new : View) (before now : Option (List ℕ)) : Type 0 where
+  pub costs : RuleCosts 1 (length (sweeps total book rule)) old new
   pub done : OnOk result (RuleDone total book rule new.image before now)
   pub stops : IfErr result (RuleStops total book rule at new.image before now)
   pub moments : Through old new (RuleMoment total book rule (sent_now old))
@@ -95,9 +104,10 @@ pub record Untouched (total : ℕ) (book : List Series) (image : Image) (before 
   pub unsent : now ≡ before
 
 -- the line is empty, or a rule that was answered
-abbrev pub LineDone : ℕ → List Series → List ℕ → Image → Option (List ℕ) → Option (List ℕ) → Type 0
-LineDone total book text image before now =
-    ((text ≡ []) × Untouched total book image before now) ⊎ ((rule : Rule) × Spells rule text × RuleDone total book rule image before now)
+abbrev pub LineDone : ℕ → List Series → List ℕ → View → View → Option (List ℕ) → Option (List ℕ) → Type 0
+LineDone total book text old new before now =
+    ((text ≡ []) × Untouched total book new.image before now × RuleCosts 0 0 old new)
+    ⊎ ((rule : Rule) × Spells rule text × RuleDone total book rule new.image before now × RuleCosts 1 (length (sweeps total book rule)) old new)
 
 -- it isn't empty and says no rule
 pub record LineBad (total : ℕ) (book : List Series) (text : List ℕ) (at place : ℕ) (image : Image) (before now : Option (List ℕ)) : Type 0 where
@@ -122,9 +132,18 @@ LineStops total book text at image before now end = ⊥
 abbrev pub LineMoment : ℕ → List Series → List ℕ → ℕ → Image → ℕ → Type 0
 LineMoment total book text from image sent = (rule : Rule) × Spells rule text × RuleMoment total book rule from image sent
 
+-- so many clears are those of the rule that the line is, or there are none
+abbrev pub NextClears : ℕ → List Series → List ℕ → ℕ → Type 0
+NextClears total book text clears = (clears ≡ 0) ⊎ ((rule : Rule) × Spells rule text × (clears ≡ length (sweeps total book rule)))
+
+-- they, and a look, cost no more than this
+abbrev pub LineCosts : ℕ → List Series → List ℕ → View → View → Type 0
+LineCosts total book text old new = (clears : ℕ) × NextClears total book text clears × RuleCosts 1 clears old new
+
 -- what a call does that answers a line
 pub record DoesLine {T : Type 0} (total : ℕ) (book : List Series) (text : List ℕ) (at : ℕ) (result : Result T End) (old new : View) (before now : Option (List ℕ)) : Type 0 where
-  pub done : OnOk result (LineDone total book text new.image before now)
+  pub done : OnOk result (LineDone total book text old new before now)
+  pub most : LineCosts total book text old new
   pub stops : IfErr result (LineStops total book text at new.image before now)
   pub moments : Through old new (LineMoment total book text (sent_now old))
 
@@ -136,6 +155,28 @@ module _ {P : Type 0} {g : Ghosts P} {T : Type 0} (sent : P → Option (List ℕ
 
   abbrev pub DoesLineOn : List ℕ → ℕ → Result T End → Store P g → Store P g → ℕ → List Series → Type 0
   DoesLineOn text at result old new total book = DoesLine total book text at result (shown.view old) (shown.view new) (sent (shown.pages old)) (sent (shown.pages new))
+
+-- ---- what is so of a line, whatever the pages are
+
+-- something was sent
+abbrev pub SaysSome : Option (List ℕ) → Option (List ℕ) → Type 0
+SaysSome before now = (text : List ℕ) × (now ≡ sent_after text before)
+
+-- the line is empty, or it is a rule, and something was sent
+abbrev pub LineSays : List ℕ → Option (List ℕ) → Option (List ℕ) → Type 0
+LineSays text before now = ((text ≡ []) × (now ≡ before)) ⊎ ((rule : Rule) × Spells rule text × SaysSome before now)
+
+-- the catalog lacks the series that a rule names, where the end tells so
+abbrev pub IsLacking : Rule → ℕ → List StoredSeries → End → Type 0
+IsLacking rule at catalog (BadInput place) = ⊥
+IsLacking rule at catalog (NoSeries place) = (place ≡ at) × LacksNamed catalog rule
+IsLacking rule at catalog end = ⊤
+
+-- the line is no rule, or the catalog lacks the series that it names, where the end tells so
+abbrev pub IsFaulty : List ℕ → ℕ → List StoredSeries → End → Type 0
+IsFaulty text at catalog (BadInput place) = (place ≡ at) × (0 < length text) × SaysNone (Some text)
+IsFaulty text at catalog (NoSeries place) = (place ≡ at) × ((rule : Rule) × Spells rule text × LacksNamed catalog rule)
+IsFaulty text at catalog end = ⊤
 
 -- ---- what calls move, whatever the pages are
 

@@ -1,5 +1,5 @@
 -- How `retain` ends over the store of a disk.
-use Rattle.std.specs.Prelude.{◌≡◌, ◌≢◌, ℕ, ◌<◌, List, Option, IfSome, ⊤}
+use Rattle.std.specs.Prelude.{◌≡◌, ◌≢◌, ℕ, ◌+◌, ◌*◌, ◌<◌, List, Option, IfSome, ⊤}
 use Rattle.block_disk.specs.Counts.{HasRisen}
 use Rattle.block_disk.specs.View.{Honest, View, sent_now}
 use Rattle.chart_service.specs.Moments.{Since}
@@ -9,12 +9,17 @@ use Rattle.stored_book.specs.Damage.{IsBadForRequest}
 use Rattle.stored_book.specs.Standing.{RecoversTo}
 use Rattle.store_commands.specs.Books.{HoldsAgain, OfBook, Holds}
 use Rattle.store_commands.specs.Damaged.{IsDamagedAtFirst, IsDamagedLater}
+use Rattle.store_commands.specs.InputLines.{FirstLine}
+use Rattle.store_commands.specs.Lacking.{LacksRecord}
+use Rattle.store_commands.specs.Spending.{Spends}
 use Rattle.store_commands.specs.Traffic.{IsLong, Traffic, WasRead}
 use Rattle.run_ends.specs.Statuses.{block_of}
 use Rattle.run_ends.specs.declared.ending.End.{End}
 use Rattle.run_ends.specs.declared.ending.End.TheVariants.{Done, NoMemory, ReadFault, SendFault, DiskFault, DamagedBlock, DamagedPage}
 use Rattle.run_ends.specs.declared.ending.End.TheVariants.{BadInput, InputTooLong, TooSmall, NoSeries}
-use Rattle.retain_command.specs.Sweeping.{EndsSo, IsAhead, SweepsAll, SweepsLines, SweepsPart, SweepsSome, SweepsTaken, SweepsToBad, SweepsToUnknown, SweepsWithin}
+use Rattle.retention.specs.Moving.{clear_reads}
+use Rattle.retain_command.specs.Rules.{SaysNone}
+use Rattle.retain_command.specs.Sweeping.{EndsSo, IsAhead, LacksAt, SweepsFew, SweepsAll, SweepsLines, SweepsPart, SweepsSome, SweepsTaken, SweepsToBad, SweepsToUnknown, SweepsWithin}
 
 -- all lines of the input are rules, they were swept, and their answers were sent
 abbrev pub RetainsAll : ℕ → View → View → List ℕ → Option (List ℕ) → Option (List ℕ) → Type 0
@@ -54,6 +59,18 @@ abbrev pub LeavesSwept : ℕ → List ℕ → View → View → Type 0
 LeavesSwept count input old new =
     OfBook count old (λ total book. Since old new (λ image sent. IsAhead (λ after. RecoversTo count image total after) total book input (sent_now old) sent))
 
+-- behind an opening no more was read, synced and written than a commit and a look for each clear, and a look for each rule
+abbrev pub RetainsFew : ℕ → View → View → List ℕ → Type 0
+RetainsFew count old new input =
+    OfBook count old (λ total book. SweepsFew (λ rules clears. Spends count (clear_reads * (clears + rules)) (4 * clears) (87 * clears) old new) total book input)
+
+-- Whatever the disk holds: the line at the place is the first that is no rule, or the catalog on the disk then lacks the series
+-- that it names.
+abbrev pub IsAtLine : ℕ → View → List ℕ → End → Type 0
+IsAtLine count new input (BadInput at) = FirstLine SaysNone input at
+IsAtLine count new input (NoSeries at) = LacksAt (LacksRecord count new) input at
+IsAtLine count new input end = ⊤
+
 -- Why `retain` ended, whatever the disk holds. Where its store wasn't opened no input was taken and nothing was sent.
 abbrev pub IsRetainCause : End → View → View → Traffic → Type 0
 IsRetainCause Done old new t = WasRead t.left t.left_now
@@ -76,6 +93,8 @@ pub record RetainEnds (old new : View) (t : Traffic) (end : End) : Type 0 where
   pub does : IfSome t.left (λ input. OfBook (page_count old.size) old (λ total book. EndsSo (Holds (page_count old.size) total new) total book input t.left_now t.sent t.sent_now end))
   pub holds : end ≢ DiskFault → IfSome t.left (λ input. HoldsAgain (page_count old.size) old new)
   pub crash : IfSome t.left (λ input. IfSome t.sent (λ bytes. LeavesSwept (page_count old.size) input old new))
+  pub costs : IfSome t.left (RetainsFew (page_count old.size) old new)
+  pub faulty : IfSome t.left (λ input. IsAtLine (page_count old.size) new input end)
   -- reads give what a crash may leave, where they did
   pub honest : Honest old → Honest new
   pub goes_on : GoesOn old new

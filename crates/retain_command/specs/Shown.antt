@@ -9,7 +9,8 @@ use Rattle.series_book.specs.declared.one_series.Series.{Series}
 use Rattle.series_store.specs.Shown as shown
 use Rattle.series_store.specs.declared.store.Store.{Store}
 use Rattle.stored_book.specs.Standing.{StandsForBook}
-use Rattle.retain_command.specs.Sweeping.{EndsSo, IsAhead}
+use Rattle.retain_command.specs.Doing.{RuleCosts}
+use Rattle.retain_command.specs.Sweeping.{EndsSo, Faults, IsAhead, SweepsFew}
 
 module _ {P : Type 0} {g : Ghosts P} (beside : streams.Ghosts P) (total : ℕ) (book : List Series) (old new : Store P g) where
   -- the pages stand for the book
@@ -24,3 +25,13 @@ module _ {P : Type 0} {g : Ghosts P} (beside : streams.Ghosts P) (total : ℕ) (
   abbrev pub LastsFor : Type 0
   LastsFor = IfSome (beside.left (shown.pages old)) (λ input. IfSome (beside.sent (shown.pages old)) (λ bytes.
       Since (shown.view old) (shown.view new) (λ image sent. IsAhead (λ after. StandsForBook image total after) total book input (sent_now (shown.view old)) sent)))
+
+  -- what the sweeps cost
+  abbrev pub CostsOn : Type 0
+  CostsOn = IfSome (beside.left (shown.pages old)) (λ input. SweepsFew (λ rules clears. RuleCosts rules clears (shown.view old) (shown.view new)) total book input)
+
+module _ {P : Type 0} {g : Ghosts P} (beside : streams.Ghosts P) (old new : Store P g) where
+  -- whatever the pages are: the first line that is no rule is at this place, where the end tells so, or there is a line of which
+  -- the catalog lacks the series
+  abbrev pub IsAtFault : End → Type 0
+  IsAtFault end = IfSome (beside.left (shown.pages old)) (λ input. Faults (shown.catalog new) input end)

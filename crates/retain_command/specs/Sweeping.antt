@@ -1,6 +1,6 @@
 -- How far the lines of an input are swept and answered. Where a record speaks of a book that is there, it is one for which
 -- pages stand, or one that a disk holds, or to which an image recovers.
-use Rattle.std.specs.Prelude.{◌≡◌, ℕ, ◌+◌, ◌-◌, ◌^◌, ◌<◌, ◌≤◌, ◌⊎◌, List, length, take, Option, IfSome, IsTrue}
+use Rattle.std.specs.Prelude.{◌≡◌, ℕ, ◌+◌, ◌-◌, ◌^◌, ◌<◌, ◌≤◌, ◌⊎◌, List, [], ◌∷◌, length, take, Option, IfSome, IsTrue, ⊤}
 use Rattle.block_disk.specs.Streams.{sent_after, PartSent}
 use Rattle.chart_service.specs.Serving.{told}
 use Rattle.chart_world.specs.Fronts.{says, BeginsWith, IsWhole}
@@ -11,8 +11,10 @@ use Rattle.series_book.specs.declared.one_series.Series.{Series}
 use Rattle.series_book.specs.EditLists.{after_edits}
 use Rattle.retention.specs.declared.rule.Rule.{Rule}
 use Rattle.retention.specs.Drops.{book_swept}
-use Rattle.retention.specs.Sweeps.{NamesNone, sweeps}
-use Rattle.store_commands.specs.InputLines.{NextLine, Unended}
+use Rattle.retention.specs.Sweeps.{Names, NamesNone, sweeps}
+use Rattle.series_catalog.specs.declared.stored_series.StoredSeries.{StoredSeries}
+use Rattle.series_store.specs.Asking.{LacksName}
+use Rattle.store_commands.specs.InputLines.{FirstLine, NextLine, Unended}
 use Rattle.retain_command.specs.Answers.{AreRules, answer, answers, book_behind}
 use Rattle.retain_command.specs.Rules.{Says, SaysNone}
 
@@ -128,6 +130,50 @@ EndsSo IsThere total book input left before now (BadInput at) = SweepsToBad IsTh
 EndsSo IsThere total book input left before now InputTooLong = SweepsWithin IsThere total book input before now
 EndsSo IsThere total book input left before now (NoSeries at) = SweepsToUnknown IsThere total book input before now at
 EndsSo IsThere total book input left before now end = ⊥
+
+-- ---- costs
+
+-- how many clears rules make, each swept over the book that those before it left
+abbrev pub clears_of : ℕ → List Series → List Rule → ℕ
+clears_of total book [] = 0
+clears_of total book (rule ∷ rules) = length (sweeps total book rule) + clears_of total (book_swept total book rule) rules
+
+-- the line behind some first ones is a rule that makes so many clears
+pub record ClearsNext (given : ℕ) (total : ℕ) (book : List Series) (rest : List ℕ) (clears : ℕ) : Type 0 where
+  pub line : Option (List ℕ)
+  pub next : NextLine given rest line
+  pub rule : Rule
+  pub says_it : Says line rule
+  pub clears_are : clears ≡ length (sweeps total book rule)
+
+-- Some first lines were swept, and maybe some clears of the one behind them were made. So many rules and their clears cost this.
+pub record SweepsFew (IsCost : ℕ → ℕ → Type 0) (total : ℕ) (book : List Series) (input : List ℕ) : Type 0 where
+  pub first : FirstRules total book input
+  pub more : ℕ
+  pub next : (more ≡ 0) ⊎ ClearsNext (length first.front) total (left_by total book input first) first.rest more
+  pub cost : IsCost (length first.rules + 1) (clears_of total book first.rules + more)
+
+-- ---- whatever the pages are
+
+-- the line at this place is a rule that names a series which a catalog hasn't
+pub record LacksAt (IsLacking : List ℕ → Type 0) (input : List ℕ) (at : ℕ) : Type 0 where
+  pub front : List ℕ
+  pub rest : List ℕ
+  pub begins : BeginsWith input front rest
+  pub at_is : at ≡ length front
+  pub line : Option (List ℕ)
+  pub next : NextLine (length front) rest line
+  pub rule : Rule
+  pub says_it : Says line rule
+  pub name : List ℕ
+  pub names : Names rule name
+  pub lacks : IsLacking name
+
+-- the first line that is no rule is at this place, or the catalog lacks the series that the line there names, where the end says so
+abbrev pub Faults : List StoredSeries → List ℕ → End → Type 0
+Faults catalog input (BadInput at) = FirstLine SaysNone input at
+Faults catalog input (NoSeries at) = LacksAt (LacksName catalog) input at
+Faults catalog input end = ⊤
 
 -- ---- crashes
 

@@ -1,22 +1,41 @@
 -- What takes leave of the work of `retain`.
-use Rattle.std.proofs.Common.{◌≡◌, ◌∙◌, ℕ, ◌≤◌, None, refl, ap, sym, subst, arith}
+use Rattle.std.proofs.Common.{◌≡◌, ◌∙◌, ℕ, ◌≤◌, true, List, None, refl, ap, sym, subst, inl, inr, arith}
 use Rattle.block_disk.specs.View.{Image, View, DiskKept, Now, Only}
 use Rattle.chart_service.proofs.DiskKept.{risen_since}
 use Rattle.chart_world.specs.FaultLaws.{disk_stays, sends_stay, takes_stay}
 use Rattle.chart_world.specs.Faults.{CountsFault}
 use Rattle.gate_pages.specs.GateLaws.{goes_none, goes_then as goes_on_then}
 use Rattle.gate_pages.specs.Pages.{GoesOn}
+use Rattle.line_runs.specs.Given as given
 use Rattle.page_space.specs.declared.superblock.Superblock.{Superblock}
 use Rattle.run_ends.specs.declared.ending.End.{End}
 use Rattle.run_ends.specs.declared.ending.End.TheVariants.{NoMemory, ReadFault, SendFault, DiskFault, DamagedPage, BadInput, InputTooLong, NoSeries}
 use Rattle.stored_book.specs.Standing.{StandsForBook}
 use Rattle.store_commands.specs.Sides.{Side, AreBeside}
 use Rattle.retain_command.specs.Doing.{Goes, IsCause}
-use Rattle.retain_command.specs.Working.{Held}
+use Rattle.retain_command.specs.Working.{Held, IsHeldIfKnown, LineDoes}
 
-pub stands_kept : (held : Held) (old new : View) → DiskKept old new → StandsForBook old.image held.total held.book
-    → StandsForBook new.image held.total held.book
-stands_kept held old new kept stands = let P : Image → Type 0 = λ i. StandsForBook i held.total held.book in subst P (sym kept.image) stands
+pub stands_kept : (told told' : Type 0) (held : Held) (old new : View) → (told → told') → DiskKept old new → IsHeldIfKnown told old held
+    → IsHeldIfKnown told' new held
+stands_kept told told' held old new more kept stands = λ known.
+    let P : Image → Type 0 = λ i. StandsForBook i held.total held.book in
+    let is = stands known in (
+      more is.0,
+      subst P (sym kept.image) is.1,
+      record {
+        reads = omega (arith, kept.reads, is.2.reads);
+        syncs = omega (arith, kept.syncs, is.2.syncs);
+        writes = omega (arith, kept.writes, is.2.writes);
+      },
+    )
+
+-- what is known stays so
+pub known_on : (held : Held) (it : given.Given) (text : List ℕ) (behind : Held) → LineDoes held it text behind → held.known ≡ true
+    → behind.known ≡ true
+known_on held (given.Line at line) text behind (inl (empty, none, same)) known = ap (λ (h : Held). h.known) same ∙ known
+known_on held (given.Line at line) text behind (inr does) known = ap (λ (h : Held). h.known) does.behind_is ∙ known
+known_on held given.Pause text behind (none, same) known = ap (λ (h : Held). h.known) same ∙ known
+known_on held given.End text behind (none, same) known = ap (λ (h : Held). h.known) same ∙ known
 
 pub now_stands : (held : Held) (at : View) → Only at.image (Now at) → StandsForBook at.image held.total held.book → (image : Image)
     → Now at image → StandsForBook image held.total held.book

@@ -1,13 +1,13 @@
 //! The work of `retain`: each line is a rule.
-ghost use Rattle.std.specs.Prelude.{◌≢◌, ◌^◌, ⊤};
+ghost use Rattle.std.specs.Prelude.{◌≡◌, ◌≢◌, ◌^◌, true};
 ghost use Rattle.run_ends.specs.Faults.{end_fault};
 ghost use Rattle.run_ends.specs.declared.ending.End.TheVariants.{InputTooLong};
 ghost use Rattle.series_store.specs.Shown as shown;
 ghost use Rattle.stored_book.specs.Standing.{StandsForBook};
 ghost use Rattle.store_commands.specs.Sides.{side_of};
 ghost use Rattle.retain_command.specs.Doing.{Goes, IsCause};
-ghost use Rattle.retain_command.specs.Working.{Harms, Held, LineDoes, LineLeaves, LineStopsSo};
-ghost use Rattle.retain_command.specs.WorkLaws.{besides, cause_later, goes_further, goes_nowhere, goes_streams, no_less, now_stands, same_total, stands_kept};
+ghost use Rattle.retain_command.specs.Working.{Harms, Held, IsFaultyGiven, IsHeldIfKnown, LineDoes, LineLeaves, LineStopped};
+ghost use Rattle.retain_command.specs.WorkLaws.{besides, cause_later, known_on, goes_further, goes_nowhere, goes_streams, no_less, now_stands, same_total, stands_kept};
 
 use crate::answering::answer_line;
 use gate_pages::PageWorld;
@@ -31,15 +31,15 @@ impl<P: PageWorld> LineWork<Store<P>, End> for RuleWork {
 
     ghost fit = { λ work store at. shown.IsSound store };
 
-    ghost stands = { λ held work store. shown.IsTold store × StandsForBook (shown.image store) held.total held.book };
+    ghost stands = { λ held work store. IsHeldIfKnown (shown.IsTold store) (shown.view store) held };
 
-    ghost lasting = { λ held. ⊤ };
+    ghost lasting = { λ held. held.known ≡ true };
 
     ghost rests = { λ held image. StandsForBook image held.total held.book };
 
     ghost does = { LineDoes };
 
-    ghost stops = { λ held it end work store before. LineStopsSo held it (shown.image store) before (P.sent (shown.pages store)) end };
+    ghost stops = { λ held it end work store before. (held.known ≡ true → LineStopped held it (shown.view store) before (P.sent (shown.pages store)) end) × IsFaultyGiven it (shown.catalog store) end };
 
     ghost leaves = { LineLeaves };
 
@@ -71,9 +71,9 @@ impl<P: PageWorld> LineWork<Store<P>, End> for RuleWork {
 
     ghost fit_taken = { λ work old new at takes. (P.take_keeps (shown.pages old) (shown.pages new) takes.pages_are).fit };
 
-    ghost stands_taken = { λ held work old new takes sent stands. (P.take_told (shown.pages old) (shown.pages new) takes.pages_are stands.0, stands_kept held (shown.view old) (shown.view new) (P.take_keeps (shown.pages old) (shown.pages new) takes.pages_are) stands.1) };
+    ghost stands_taken = { λ held work old new takes sent stands. stands_kept (shown.IsTold old) (shown.IsTold new) held (shown.view old) (shown.view new) (P.take_told (shown.pages old) (shown.pages new) takes.pages_are) (P.take_keeps (shown.pages old) (shown.pages new) takes.pages_are) stands };
 
-    ghost lasting_on = { λ held it text behind did lasting. lasting };
+    ghost lasting_on = { λ held it text behind did known. known_on held it text behind did known };
 
     ghost take_keeps = { λ old new takes. P.take_keeps (shown.pages old) (shown.pages new) takes.pages_are };
 
@@ -81,7 +81,7 @@ impl<P: PageWorld> LineWork<Store<P>, End> for RuleWork {
 
     ghost take_goes = { λ old new takes sent reads sends pieces. goes_streams _ _ (P.take_keeps (shown.pages old) (shown.pages new) takes.pages_are) (P.take_told (shown.pages old) (shown.pages new) takes.pages_are) (P.take_was_told (shown.pages old) (shown.pages new) takes.pages_are) (P.take_goes_on (shown.pages old) (shown.pages new) takes.pages_are) (same_total takes.superblock) reads (no_less sends) };
 
-    ghost now_rests = { λ held work from at fit stands lasting. now_stands held (shown.view from) (P.rests (shown.pages from) fit) stands.1 };
+    ghost now_rests = { λ held work from at fit stands known. now_stands held (shown.view from) (P.rests (shown.pages from) fit) (stands known).1 };
 
     ghost goes_none = { λ at. goes_nowhere _ };
 

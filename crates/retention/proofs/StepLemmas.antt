@@ -17,7 +17,7 @@ use Rattle.retention.specs.declared.sweep_error.SweepError.{SweepError}
 use Rattle.retention.specs.declared.sweep_error.SweepError.TheVariants.{UnknownSeries, DiskFault, Damaged, NoMemory}
 use Rattle.retention.specs.declared.swept.SweptSome.{SweptSome}
 use Rattle.retention.specs.Drops.{book_stepped, book_swept}
-use Rattle.retention.specs.Moving.{CommitsFew}
+use Rattle.retention.specs.Moving.{CommitsFew, ReadsFew}
 use Rattle.retention.specs.Steps.{IsNext}
 use Rattle.retention.specs.Sweeping.{IsAfterFirst, IsSwept, IsSweptSome, StopsSo, StopsSomeSo}
 use Rattle.retention.specs.Sweeps.{sweeps, sweeps_some, values_in, values_of}
@@ -124,3 +124,6 @@ whole_commits total book rule old new few =
 -- an error of one call is one of another
 pub err_moves : {T U : Type 0} (e f : SweepError) → ◌≡◌ {A = Result T SweepError} (Err e) (Err f) → ◌≡◌ {A = Result U SweepError} (Err e) (Err f)
 err_moves {T} {U} e f same = let is : e ≡ f = cc in ap Err is
+
+pub whole_reads : (total : ℕ) (book : List Series) (rule : Rule) (old new : View) → ReadsFew (length (sweeps_some total book rule most_clears)) old new → ReadsFew (length (sweeps total book rule)) old new
+whole_reads total book rule old new few = omega (arith, few, length-take most_clears (sweeps total book rule))

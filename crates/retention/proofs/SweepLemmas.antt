@@ -302,6 +302,11 @@ pub look_stops : (total : ℕ) (book : List Series) (rule : Rule) (most clears :
 look_stops total book rule most clears e old now new low going same outside =
     stops_so e total book rule most clears old now new.image low going (keeps_at e total going.after new.image outside (stays total going.after now new same going.stands))
 
+-- how many clears were made
+pub going_few : (total : ℕ) (book : List Series) (rule : Rule) (most clears : ℕ) (old now : View) → clears ≤ most → (going : Going total book rule most clears old now) → clears ≤ length (sweeps_some total book rule most)
+going_few total book rule most clears old now low going =
+    omega (arith, low, going.count, length-take most (sweeps total book rule), ap length going.all, length-append going.made (sweeps total going.after rule))
+
 -- how many commits there were
 pub going_commits : (total : ℕ) (book : List Series) (rule : Rule) (most clears : ℕ) (old now new : View) → clears < most → (going : Going total book rule most clears old now) → CommitsFew clears old now → CommitsFew (length (sweeps_some total going.after rule 1)) now new
     → CommitsFew (length (sweeps_some total book rule most)) old new
@@ -334,6 +339,10 @@ some_is false is = refl
 pub none_there : (o : Option SeriesInfo) (b : Bool) (name : List ℕ) (book : List Series) → is_some o ≡ not b → MatchOption o (id_of name book ≡ None) (IsFound name book) → (b ≡ true → id_of name book ≡ None) × (id_of name book ≡ None → b ≡ true)
 none_there None b name book is info = (λ yes. info, λ none. none_is b is)
 none_there (Some found) b name book is info = (λ yes. let other : b ≡ false = some_is b is in let both : true ≡ false = sym yes ∙ other in cc, λ none. let both : None ≡ Some found.id = sym none ∙ info.0 in cc)
+
+pub lacks_there : (o : Option SeriesInfo) (b : Bool) (P : Type 0) (Q : SeriesInfo → Type 0) → is_some o ≡ not b → b ≡ true → MatchOption o P Q → P
+lacks_there None b P Q is none info = info
+lacks_there (Some found) b P Q is none info = let other : b ≡ false = some_is b is in let both : true ≡ false = sym none ∙ other in cc
 
 pub not_unknown : {T : Type 0} (r : Result T SweepError) → IfErr r (λ e. e ≢ UnknownSeries) → r ≡ Err UnknownSeries → ⊥
 not_unknown {T} (Ok v) known is = cc

@@ -37,6 +37,10 @@ look_reads = 105 * MOST_SERIES
 abbrev pub clear_reads : ℕ
 clear_reads = look_reads + 96
 
+-- so many clears at most, each behind a look, and a look more
+abbrev pub ReadsFew : ℕ → View → View → Type 0
+ReadsFew most old new = new.reads ≤ old.reads + clear_reads * (most + 1)
+
 -- what clears move: no series goes away, and no count falls
 pub record Carries (told_old told_new : Type 0) (old new under under' : View) (total total' count count' : ℕ) : Type 0 where
   pub told : told_old → told_new

@@ -8,6 +8,8 @@ use Rattle.series_book.specs.declared.edits.Edit.TheVariants.{Clear}
 use Rattle.series_book.specs.Edits.{apply, id_of}
 use Rattle.series_book.specs.EditLists.{book_behind}
 use Rattle.series_book.specs.Pages.{count_below, pages_of}
+use Rattle.series_catalog.specs.declared.stored_series.StoredSeries.{StoredSeries}
+use Rattle.series_store.specs.Asking.{LacksName}
 use Rattle.retention.specs.declared.rule.Rule.{Rule}
 use Rattle.retention.specs.declared.rule.Rule.TheVariants.{Before, Last, Free}
 
@@ -130,6 +132,10 @@ abbrev pub Names : Rule → List ℕ → Type 0
 Names (Before named time) name = named ≡ name
 Names (Last named count) name = named ≡ name
 Names (Free pages) name = ⊥
+
+-- it names a series that the catalog hasn't
+abbrev pub LacksNamed : List StoredSeries → Rule → Type 0
+LacksNamed catalog rule = (name : List ℕ) × Names rule name × LacksName catalog name
 
 -- how many first slots of a series are old by a rule that names it
 abbrev pub old_slots : Rule → Series → ℕ

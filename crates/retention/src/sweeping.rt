@@ -4,10 +4,10 @@ ghost use Rattle.chart_world.specs.Faults.{CountsFault, fault_in};
 ghost use Rattle.series_book.specs.Edits.{IsEdit};
 ghost use Rattle.series_store.specs.Shown as shown;
 ghost use Rattle.retention.specs.Faults.{sweep_fault};
-ghost use Rattle.retention.specs.Moving.{CarriesOn, LooksOnly, clear_reads, look_reads};
+ghost use Rattle.retention.specs.Moving.{CarriesOn, LooksOnly, ReadsFew, clear_reads, look_reads};
 ghost use Rattle.retention.specs.Stepping.{DoesClear, StepsSo, clear_error};
 ghost use Rattle.retention.specs.Sweeping.{Commits, FailsFor, IsNextOrNone, IsOutside, IsSoundFor, IsSwept, IsSweptSome, PassesSome, PassesStep, ReadFails, StopsSo, StopsSomeSo};
-ghost use Rattle.retention.specs.Sweeps.{NamesNone, sweeps, sweeps_some};
+ghost use Rattle.retention.specs.Sweeps.{LacksNamed, NamesNone, sweeps, sweeps_some};
 
 use crate::clearing::next_named;
 use crate::freeing::next_free;
@@ -116,6 +116,7 @@ fn clear_some<P: Pages>(
     ensures cause { IfErr result (λ e. FailsFor e store.old store.new) }
     ensures faults { CountsFault (fault_in sweep_fault result) (shown.view store.old) (shown.view store.new) }
     ensures reads { (shown.view store.new).reads ≤ (shown.view store.old).reads + clear_reads * (most + 1) }
+    ensures few_reads { shown.ForBook store.old (λ total book. ReadsFew (length (sweeps_some total book rule.now most)) (shown.view store.old) (shown.view store.new)) }
     ensures sound { OnOk result (shown.IsSound store.new) }
     ensures sound_for { IfErr result (λ e. IsSoundFor e (shown.view store.new)) }
 {
@@ -149,6 +150,7 @@ fn names_none<P: Pages>(store: &Store<P>, rule: &Rule) -> bool
     requires sound { shown.IsSound store.now }
     ensures none { shown.ForBook store.now (λ total book. result ≡ true → NamesNone book rule.now) }
     ensures some { shown.ForBook store.now (λ total book. NamesNone book rule.now → result ≡ true) }
+    ensures lacks { result ≡ true → LacksNamed (shown.catalog store.now) rule.now }
 {
     match rule {
         Rule::Before { name, .. } => store.series(name).is_none(),
@@ -172,6 +174,8 @@ pub fn sweep_some<P: Pages>(
     requires sound { shown.IsSound store.old }
     ensures unknown { shown.ForBook store.old (λ total book. (result ≡ Err SweepError.UnknownSeries) ↔ NamesNone book rule.now) }
     ensures untouched { result ≡ Err SweepError.UnknownSeries → store.new ≡ store.old }
+    // whatever the pages are: the catalog that is kept lacks the name then
+    ensures lacks { result ≡ Err SweepError.UnknownSeries → LacksNamed (shown.catalog store.old) rule.now }
     ensures done { shown.ForBook store.old (λ total book. IfOk result (λ swept. IsSweptSome total book rule.now most swept (shown.image store.new))) }
     ensures stops { shown.ForBook store.old (λ total book. IfErr result (StopsSomeSo total book rule.now most (shown.image store.new))) }
     // a crash at any moment leaves the book behind some first clears of the step
@@ -187,6 +191,7 @@ pub fn sweep_some<P: Pages>(
     ensures faults { CountsFault (fault_in sweep_fault result) (shown.view store.old) (shown.view store.new) }
     // whatever the pages are
     ensures reads { (shown.view store.new).reads ≤ (shown.view store.old).reads + clear_reads * (most + 1) }
+    ensures few_reads { shown.ForBook store.old (λ total book. ReadsFew (length (sweeps_some total book rule.now most)) (shown.view store.old) (shown.view store.new)) }
     ensures sound { OnOk result (shown.IsSound store.new) }
     ensures sound_for { IfErr result (λ e. IsSoundFor e (shown.view store.new)) }
 {
@@ -206,6 +211,8 @@ pub fn sweep<P: Pages>(store: &mut Store<P>, rule: &Rule) -> Result<Swept, Sweep
     requires sound { shown.IsSound store.old }
     ensures unknown { shown.ForBook store.old (λ total book. (result ≡ Err SweepError.UnknownSeries) ↔ NamesNone book rule.now) }
     ensures untouched { result ≡ Err SweepError.UnknownSeries → store.new ≡ store.old }
+    // whatever the pages are: the catalog that is kept lacks the name then
+    ensures lacks { result ≡ Err SweepError.UnknownSeries → LacksNamed (shown.catalog store.old) rule.now }
     ensures done { shown.ForBook store.old (λ total book. IfOk result (λ swept. IsSwept total book rule.now swept (shown.image store.new))) }
     ensures stops { shown.ForBook store.old (λ total book. IfErr result (StopsSo total book rule.now (shown.image store.new))) }
     // a crash at any moment leaves the book behind some first clears of the rule
@@ -213,6 +220,7 @@ pub fn sweep<P: Pages>(store: &mut Store<P>, rule: &Rule) -> Result<Swept, Sweep
     ensures carries { CarriesOn store.old store.new }
     // each clear is one commit at most, whatever is answered
     ensures commits { shown.ForBook store.old (λ total book. Commits (length (sweeps total book rule.now)) store.old store.new) }
+    ensures few_reads { shown.ForBook store.old (λ total book. ReadsFew (length (sweeps total book rule.now)) (shown.view store.old) (shown.view store.new)) }
     ensures each { IfOk result (λ swept. Commits swept.clears store.old store.new) }
     ensures cause { IfErr result (λ e. FailsFor e store.old store.new) }
     // no count of faults rises but that of the disk, where the error tells of it

@@ -5,6 +5,7 @@ use Rattle.run_ends.specs.declared.ending.End.TheVariants.{Done, WrongWords, NoM
 use Rattle.run_ends.specs.declared.ending.End.TheVariants.{BadInput, InputTooLong, TooMuch, Missing, BadCoefficient, TooSmall, IsStore}
 use Rattle.run_ends.specs.declared.ending.End.TheVariants.{UnknownSeries, Refused, UnknownSession, RefusedLine, NoSeries}
 use Rattle.run_ends.specs.declared.status.Status.{Status}
+use Rattle.series_book.specs.declared.refusal_numbers.TheConstants.{UNKNOWN_SERIES}
 
 abbrev pub status : ℕ → ℕ → Status
 status code place = record { code = code; place = place }
@@ -34,7 +35,7 @@ status_of (Missing key) = status 10 key
 status_of (BadCoefficient key) = status 11 key
 status_of (TooSmall blocks) = status 12 blocks
 status_of IsStore = status 13 (block_of 0)
-status_of UnknownSeries = status 14 8
+status_of UnknownSeries = status 14 UNKNOWN_SERIES
 status_of (Refused at refusal) = status 14 (refused_at at refusal)
 status_of (UnknownSession session) = status 15 session
 status_of (RefusedLine at refusal) = status 16 (refused_at at refusal)

@@ -7,6 +7,7 @@ use crate::codes::{
     WRONG_WORDS,
 };
 use crate::ending::End;
+use series_book::refusal_numbers::UNKNOWN_SERIES;
 
 /// What is told of how a run ended.
 #[derive(Clone, Copy)]
@@ -16,9 +17,6 @@ pub struct Status {
     /// What the code says of the words, of the input or of the disk, else 0.
     pub place: u64,
 }
-
-/// The number of the refusal of a name that no series has.
-const UNKNOWN_SERIES: u64 = 8;
 
 /// The first block of a store's pages.
 const FIRST_PAGE: u64 = 66;
@@ -48,7 +46,7 @@ pub fn status_of(end: End) -> Status
         End::BadCoefficient { key } => told(BAD_COEFFICIENT, key),
         End::TooSmall { blocks } => told(TOO_SMALL, u64::from(blocks)),
         End::IsStore => told(IS_STORE, block_of(0)),
-        End::UnknownSeries => told(REFUSED, UNKNOWN_SERIES),
+        End::UnknownSeries => told(REFUSED, u64::from(UNKNOWN_SERIES)),
         End::Refused { at, refusal } => told(REFUSED, refused_at(at, refusal)),
         End::UnknownSession { session } => told(UNKNOWN_SESSION, u64::from(session)),
         End::RefusedLine { at, refusal } => told(REFUSED_LINE, refused_at(at, refusal)),

@@ -1,30 +1,33 @@
 use Rattle.std.specs.Prelude.{ℕ}
+use Rattle.series_book.specs.declared.refusal_numbers.TheConstants.{LINE_TOO_LONG, BAD_LINE, BAD_FILTER, UNKNOWN_SESSION, SESSION_OPEN, TOO_MANY_SESSIONS, BAD_CACHE}
+use Rattle.series_book.specs.declared.refusal_numbers.TheConstants.{UNKNOWN_SERIES, SERIES_EXISTS, TOO_MANY_SERIES, OFF_GRID, BEFORE_START, VALUE_TOO_LARGE, RANGE_TOO_LONG}
+use Rattle.series_book.specs.declared.refusal_numbers.TheConstants.{SERIES_FULL, NO_VIEW, BAD_WINDOW, BAD_CANVAS, BAD_RANGE, VIEW_TOO_LARGE, FULL}
 use Rattle.series_book.specs.declared.refusals.Refusal.{Refusal}
 use Rattle.series_book.specs.declared.refusals.Refusal.TheVariants.{LineTooLong, BadLine, BadFilter, UnknownSession, SessionOpen, TooManySessions, BadCache, UnknownSeries, SeriesExists, TooManySeries, OffGrid, BeforeStart, ValueTooLarge, RangeTooLong, SeriesFull, NoView, BadWindow, BadCanvas, BadRange, ViewTooLarge, Full}
 
 -- the number of a refusal
 abbrev pub number_of : Refusal → ℕ
-number_of LineTooLong = 1
-number_of (BadLine at) = 2
-number_of (BadFilter at) = 3
-number_of UnknownSession = 4
-number_of SessionOpen = 5
-number_of TooManySessions = 6
-number_of BadCache = 7
-number_of UnknownSeries = 8
-number_of SeriesExists = 9
-number_of TooManySeries = 10
-number_of OffGrid = 11
-number_of BeforeStart = 12
-number_of ValueTooLarge = 13
-number_of RangeTooLong = 14
-number_of SeriesFull = 15
-number_of NoView = 16
-number_of BadWindow = 17
-number_of BadCanvas = 18
-number_of BadRange = 19
-number_of (ViewTooLarge needed cache) = 20
-number_of (Full needed have) = 21
+number_of LineTooLong = LINE_TOO_LONG
+number_of (BadLine at) = BAD_LINE
+number_of (BadFilter at) = BAD_FILTER
+number_of UnknownSession = UNKNOWN_SESSION
+number_of SessionOpen = SESSION_OPEN
+number_of TooManySessions = TOO_MANY_SESSIONS
+number_of BadCache = BAD_CACHE
+number_of UnknownSeries = UNKNOWN_SERIES
+number_of SeriesExists = SERIES_EXISTS
+number_of TooManySeries = TOO_MANY_SERIES
+number_of OffGrid = OFF_GRID
+number_of BeforeStart = BEFORE_START
+number_of ValueTooLarge = VALUE_TOO_LARGE
+number_of RangeTooLong = RANGE_TOO_LONG
+number_of SeriesFull = SERIES_FULL
+number_of NoView = NO_VIEW
+number_of BadWindow = BAD_WINDOW
+number_of BadCanvas = BAD_CANVAS
+number_of BadRange = BAD_RANGE
+number_of (ViewTooLarge needed cache) = VIEW_TOO_LARGE
+number_of (Full needed have) = FULL
 
 -- the two numbers that a refusal carries, and zeros where it carries none
 abbrev pub pair_of : Refusal → ℕ × ℕ

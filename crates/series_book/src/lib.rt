@@ -24,6 +24,7 @@ pub mod names;
 pub mod one_series;
 pub mod outcomes;
 pub mod page_count;
+pub mod refusal_numbers;
 pub mod refusals;
 pub mod slot_list;
 pub mod value_list;

@@ -1,6 +1,12 @@
 ghost use Rattle.std.specs.Prelude.{◌≡◌};
 ghost use Rattle.series_book.specs.Refusals.{number_of, pair_of};
 
+use crate::refusal_numbers::{
+    BAD_CACHE, BAD_CANVAS, BAD_FILTER, BAD_LINE, BAD_RANGE, BAD_WINDOW, BEFORE_START, FULL,
+    LINE_TOO_LONG, NO_VIEW, OFF_GRID, RANGE_TOO_LONG, SERIES_EXISTS, SERIES_FULL, SESSION_OPEN,
+    TOO_MANY_SERIES, TOO_MANY_SESSIONS, UNKNOWN_SERIES, UNKNOWN_SESSION, VALUE_TOO_LARGE,
+    VIEW_TOO_LARGE,
+};
 use thiserror::Error;
 
 /// Why a request is refused. A refused request changes nothing. The variants stand in the order in
@@ -73,32 +79,32 @@ pub enum Refusal {
 }
 
 impl Refusal {
-    /// The number of the refusal, 1 to 21.
+    /// The number of the refusal, as `refusal_numbers` has it.
     pub fn number(&self) -> u8
         ensures { result ≡ number_of self.now }
     {
         match self {
-            Refusal::LineTooLong => 1,
-            Refusal::BadLine { .. } => 2,
-            Refusal::BadFilter { .. } => 3,
-            Refusal::UnknownSession => 4,
-            Refusal::SessionOpen => 5,
-            Refusal::TooManySessions => 6,
-            Refusal::BadCache => 7,
-            Refusal::UnknownSeries => 8,
-            Refusal::SeriesExists => 9,
-            Refusal::TooManySeries => 10,
-            Refusal::OffGrid => 11,
-            Refusal::BeforeStart => 12,
-            Refusal::ValueTooLarge => 13,
-            Refusal::RangeTooLong => 14,
-            Refusal::SeriesFull => 15,
-            Refusal::NoView => 16,
-            Refusal::BadWindow => 17,
-            Refusal::BadCanvas => 18,
-            Refusal::BadRange => 19,
-            Refusal::ViewTooLarge { .. } => 20,
-            Refusal::Full { .. } => 21,
+            Refusal::LineTooLong => LINE_TOO_LONG,
+            Refusal::BadLine { .. } => BAD_LINE,
+            Refusal::BadFilter { .. } => BAD_FILTER,
+            Refusal::UnknownSession => UNKNOWN_SESSION,
+            Refusal::SessionOpen => SESSION_OPEN,
+            Refusal::TooManySessions => TOO_MANY_SESSIONS,
+            Refusal::BadCache => BAD_CACHE,
+            Refusal::UnknownSeries => UNKNOWN_SERIES,
+            Refusal::SeriesExists => SERIES_EXISTS,
+            Refusal::TooManySeries => TOO_MANY_SERIES,
+            Refusal::OffGrid => OFF_GRID,
+            Refusal::BeforeStart => BEFORE_START,
+            Refusal::ValueTooLarge => VALUE_TOO_LARGE,
+            Refusal::RangeTooLong => RANGE_TOO_LONG,
+            Refusal::SeriesFull => SERIES_FULL,
+            Refusal::NoView => NO_VIEW,
+            Refusal::BadWindow => BAD_WINDOW,
+            Refusal::BadCanvas => BAD_CANVAS,
+            Refusal::BadRange => BAD_RANGE,
+            Refusal::ViewTooLarge { .. } => VIEW_TOO_LARGE,
+            Refusal::Full { .. } => FULL,
         }
     }
 

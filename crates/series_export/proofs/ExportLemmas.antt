@@ -1,8 +1,12 @@
 -- The lines of a series' values, slot by slot and as a list.
-use Rattle.std.proofs.Common.{◌≡◌, ℕ, ℤ, pos, ◌+ℤ◌, ◌≤ℤ◌, ◌<ℤ◌, w64, unsigned_abs, ◌^◌, ◌&&◌, zero, suc, ◌+◌, ◌*◌, ◌-◌, ◌<◌, ◌≤◌, Bool, true, false, cond, List, [], ◌∷◌, ◌++◌, length, Option, None, Some, refl, sym, ap, subst, arith, ◌∙◌}
+use Rattle.std.proofs.Common.{◌≡◌, ℕ, ℤ, pos, ◌+ℤ◌, ◌≤ℤ◌, ◌<ℤ◌, w64, unsigned_abs, ◌^◌, ◌&&◌, zero, suc, ◌+◌, ◌*◌, ◌-◌, ◌<◌, ◌≤◌, Bool, true, false, cond, List, [], ◌∷◌, ◌++◌, length, Option, None, Some, take, refl, sym, ap, subst, arith, inl, inr, ◌∙◌}
+use Rattle.std.proofs.Common.{take_all, length-take-le}
+use Rattle.std.proofs.lemmas.Bool.{cases_lt}
 use Rattle.std.proofs.lemmas.List.{append_assoc, append-nil}
 use mir.Val.{to_z, of_z}
-use Rattle.std.specs.Prelude.{int_le, int_lt}
+use Rattle.std.specs.Prelude.{int_le, int_lt, Result, Ok, Err, IfErr}
+use Rattle.block_disk.specs.Streams.{sent_after}
+use Rattle.block_disk.specs.View.{Image}
 use Rattle.std.proofs.lemmas.Bool.Decides.{nat_tests}
 use Rattle.std.proofs.lemmas.Int.{ints, to_z-of_z, fits_signed_from_abs}
 use Rattle.std.proofs.Math.Nat.{mul-le-mul_right}
@@ -14,9 +18,15 @@ use Rattle.path_repair.specs.Changes.{slot_at}
 use Rattle.path_repair.specs.Sums.{join_below}
 use Rattle.path_repair.proofs.SumLemmas.{join_same}
 use Rattle.reading_lines.specs.Lines.{reading_line}
+use Rattle.series_book.specs.declared.limits.TheConstants.{MOST_SLOTS}
 use Rattle.series_book.specs.declared.one_series.Series.{Series}
-use Rattle.series_store.specs.Sending.{said_of, said, texts_of}
-use Rattle.series_export.specs.Exports.{Stored, stored_from, is_within, may_meet, asked, lines_of, header, export_text, slot_time, line_at}
+use Rattle.series_book.specs.Pages.{series_pages}
+use Rattle.series_store.specs.Sending.{CutsSeries, said_of, said, texts_of}
+use Rattle.series_store.specs.declared.send_errors.SendError.{SendError}
+use Rattle.series_store.specs.declared.send_errors.SendError.TheVariants.{SendFault, DiskFault, Damaged, NoMemory}
+use Rattle.series_store.proofs.SeriesSendLemmas.{all_said, said_few}
+use Rattle.series_export.specs.Cuts.{CutsExport}
+use Rattle.series_export.specs.Exports.{Stored, stored_from, is_within, may_meet, asked, lines_of, header, export_text, slot_time, line_at, may_be_in, window_pages, first_slots}
 use Rattle.series_export.specs.declared.window.Window.{Window}
 
 join_suc : (f : ℕ → List ℕ) (n : ℕ) → join_below f (suc n) ≡ join_below f n ++ f n
@@ -90,6 +100,21 @@ all_lines window scale step (x ∷ xs) start =
     front (Some v) = ap (λ t. line_if window scale t v ++ lines_of scale (asked window (stored_from step (start +ℤ pos step) xs))) (first_time start step)
         ∙ one_asked window scale (record { time = start; value = v }) (stored_from step (start +ℤ pos step) xs)
 
+-- what is said of the first slots of a list is what is said of a list of them
+at_take : (xs : List (Option ℤ)) (n i : ℕ) → i < n → slot_at (take n xs) i ≡ slot_at xs i
+at_take xs zero i low = absurd (omega (arith, low))
+at_take [] (suc n) i low = refl
+at_take (x ∷ xs) (suc n) zero low = at_first x (take n xs) ∙ sym (at_first x xs)
+at_take (x ∷ xs) (suc n) (suc i) low = at_next x (take n xs) i ∙ at_take xs n i (omega (arith, low)) ∙ sym (at_next x xs i)
+
+said_first : (text : ℕ → ℤ → List ℕ) (xs : List (Option ℤ)) (n : ℕ) → join_below (said text xs) n ≡ texts_of text (take n xs)
+said_first text xs n = elim (cases_lt (length xs) n) [
+  | inl past ↦ all_said text xs n (omega (arith, past)) ∙ ap (λ l. texts_of text l) (sym (take_all n xs (omega (arith, past))))
+  | inr within ↦
+      join_same (said text xs) (said text (take n xs)) n (λ i low. ap (λ o. said_of text i o) (sym (at_take xs n i low)))
+      ∙ ap (λ m. join_below (said text (take n xs)) m) (sym (length-take-le n xs within))
+]
+
 -- behind the header they are the text of the series
 pub text_is : (series : Series) (window : Option Window) (start : ℤ) (step scale : ℕ) → start ≡ series.start → step ≡ series.step → scale ≡ series.scale → header ++ texts_of (line_at start step scale window) series.slots ≡ export_text series window
 unfolding export_text
@@ -98,6 +123,12 @@ text_is series window start step scale same_start same_step same_scale =
     let Q : ℕ → Type 0 = λ n. header ++ texts_of (line_at series.start n scale window) series.slots ≡ export_text series window in
     let R : ℕ → Type 0 = λ n. header ++ texts_of (line_at series.start series.step n window) series.slots ≡ export_text series window in
     subst P (sym same_start) (subst Q (sym same_step) (subst R (sym same_scale) (ap (λ l. header ++ l) (all_lines window series.scale series.step series.slots series.start))))
+
+-- so of the first slots of it
+pub first_text : (series : Series) (window : Option Window) (n : ℕ) (start : ℤ) (step scale : ℕ) → start ≡ series.start → step ≡ series.step → scale ≡ series.scale
+    → header ++ join_below (said (line_at start step scale window) series.slots) n ≡ export_text (first_slots series n) window
+first_text series window n start step scale same_start same_step same_scale =
+    ap (λ l. header ++ l) (said_first (line_at start step scale window) series.slots n) ∙ text_is (first_slots series n) window start step scale same_start same_step same_scale
 
 -- the times of slots rise
 later_time : (start : ℤ) (a b : ℕ) → a ≤ b → (start +ℤ pos a) ≤ℤ (start +ℤ pos b)
@@ -169,3 +200,24 @@ may_meet_so window first last first' last' one two is =
     let P : ℤ → Type 0 = λ t. may_meet window t last' ≡ false in
     let Q : ℤ → Type 0 = λ t. may_meet window first t ≡ false in
     subst P one (subst Q two is)
+
+-- the pages of a window are no more than those of the tree
+pub window_few : (series : Series) (window : Option Window) → length series.slots ≤ MOST_SLOTS → window_pages series window ≤ series_pages series.slots
+window_few series window few = said_few (may_be_in series.start series.step window) series.slots few
+
+-- what was sent of a series before a damaged page is its export of the slots before that
+export_cut : (e : SendError) (image : Image) (total id : ℕ) (series : Series) (window : Option Window) (start : ℤ) (step scale : ℕ) (front : List ℕ) (before now : Option (List ℕ)) → front ≡ header → start ≡ series.start → step ≡ series.step → scale ≡ series.scale
+    → CutsSeries e image total id (line_at start step scale window) series.slots front before now → CutsExport e image total id series window before now
+export_cut SendFault image total id series window start step scale front before now is same_start same_step same_scale cut = tt
+export_cut DiskFault image total id series window start step scale front before now is same_start same_step same_scale cut = tt
+export_cut (Damaged page) image total id series window start step scale front before now is same_start same_step same_scale cut = record {
+  slot = cut.slot;
+  from = cut.from;
+  sent = cut.sent ∙ ap (λ l. sent_after l before) (ap (λ l. l ++ join_below (said (line_at start step scale window) series.slots) cut.slot) is ∙ first_text series window cut.slot start step scale same_start same_step same_scale);
+}
+export_cut NoMemory image total id series window start step scale front before now is same_start same_step same_scale cut = tt
+
+pub export_cut_by : (r : Result (Unit {0}) SendError) (image : Image) (total id : ℕ) (series : Series) (window : Option Window) (start : ℤ) (step scale : ℕ) (front : List ℕ) (before now : Option (List ℕ)) → front ≡ header → start ≡ series.start → step ≡ series.step → scale ≡ series.scale
+    → IfErr r (λ e. CutsSeries e image total id (line_at start step scale window) series.slots front before now) → IfErr r (λ e. CutsExport e image total id series window before now)
+export_cut_by (Ok done) image total id series window start step scale front before now is same_start same_step same_scale cut = tt
+export_cut_by (Err e) image total id series window start step scale front before now is same_start same_step same_scale cut = export_cut e image total id series window start step scale front before now is same_start same_step same_scale cut

@@ -1,8 +1,9 @@
 -- What is exported of a series: its stored values as lines, in rising time.
-use Rattle.std.specs.Prelude.{ℕ, ℤ, pos, ◌*◌, ◌+ℤ◌, Bool, true, ◌&&◌, int_le, int_lt, if◌then◌else◌, List, [], ◌∷◌, ◌++◌, flat_map, codes, Option, None, Some}
+use Rattle.std.specs.Prelude.{ℕ, ℤ, pos, ◌*◌, ◌-◌, ◌+ℤ◌, Bool, true, ◌&&◌, int_le, int_lt, if◌then◌else◌, List, [], ◌∷◌, ◌++◌, take, flat_map, codes, Option, None, Some}
 use Rattle.std.specs.List.{filter}
 use Rattle.reading_lines.specs.Lines.{reading_line}
 use Rattle.series_book.specs.declared.one_series.Series.{Series}
+use Rattle.series_store.specs.Sending.{pages_said}
 use Rattle.series_export.specs.declared.window.Window.{Window}
 
 -- a stored value, and the time of its slot
@@ -53,3 +54,15 @@ slot_time start step slot = start +ℤ pos (slot * step)
 -- the line of the value of a slot, where the slot's time is in the window
 abbrev pub line_at : ℤ → ℕ → ℕ → Option Window → ℕ → ℤ → List ℕ
 line_at start step scale window slot value = if is_within window (slot_time start step slot) then reading_line scale (slot_time start step slot) value else []
+
+-- a time of the slots from first on and below end may be in the window
+abbrev pub may_be_in : ℤ → ℕ → Option Window → ℕ → ℕ → Bool
+may_be_in start step window first end = may_meet window (slot_time start step first) (slot_time start step (end - 1))
+
+-- how many pages the tree of a series has in whose range a slot holds a value, and a time may be in the window
+abbrev pub window_pages : Series → Option Window → ℕ
+window_pages series window = pages_said (may_be_in series.start series.step window) series.slots
+
+-- the same series with its first so many slots alone
+abbrev pub first_slots : Series → ℕ → Series
+first_slots series n = record series { slots = take n series.slots }

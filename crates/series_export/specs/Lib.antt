@@ -1,4 +1,5 @@
 pub mod Exports
+pub mod Cuts
 pub mod Faults
 pub mod RoundTrips
 pub mod Room

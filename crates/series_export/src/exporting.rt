@@ -5,7 +5,8 @@ ghost use Rattle.chart_world.specs.Faults.{CountsFault, fault_in};
 ghost use Rattle.series_book.specs.Pages.{series_pages};
 ghost use Rattle.series_store.specs.Sending.{SendsOn, IsSeriesCause, IsNoDamage};
 ghost use Rattle.series_store.specs.Shown as shown;
-ghost use Rattle.series_export.specs.Exports.{header, export_text};
+ghost use Rattle.series_export.specs.Cuts.{CutsExport};
+ghost use Rattle.series_export.specs.Exports.{header, export_text, window_pages};
 ghost use Rattle.series_export.specs.Faults.{send_fault};
 
 use crate::reading_texts::ReadingTexts;
@@ -32,7 +33,9 @@ fn started(alloc: Global) -> Result<Vec<u8>, AllocError>
 ///
 /// After an error a front of this text was sent. `SendFault` and `DiskFault` come where the count of their
 /// faults has risen, and with no other end does it rise; `Damaged` comes with the first page that is bad for its
-/// place, `NoMemory` for want of memory. Nothing is written, and the selected series stays.
+/// place, `NoMemory` for want of memory. Where the series' record and its tree stand for a series its text is sent,
+/// whatever else is damaged; and where the tree has damaged pages, a front of the text that it had, as far as these fit no
+/// place. Nothing is written, and the selected series stays.
 pub fn export_series<P: PageWorld>(
     alloc: Global,
     store: &mut Store<P>,
@@ -45,6 +48,14 @@ pub fn export_series<P: PageWorld>(
     ensures part { shown.ForSeries store.old id (λ total book series. OnErr result (PartSent (export_text series window) (P.sent (shown.pages store.old)) (P.sent (shown.pages store.new)))) }
     ensures no_damage { shown.ForSeries store.old id (λ total book series. IfErr result IsNoDamage) }
     ensures reads { shown.ForSeries store.old id (λ total book series. (shown.view store.new).reads ≤ (shown.view store.old).reads + series_pages series.slots) }
+    // so it is of what the record and, where its pages fit, the tree stand for, whatever else the pages are
+    ensures salvaged { shown.ForFit store.old id (λ series. OnOk result (P.sent (shown.pages store.new) ≡ sent_after (export_text series window) (P.sent (shown.pages store.old)))) }
+    ensures salvaged_part { shown.ForFit store.old id (λ series. OnErr result (PartSent (export_text series window) (P.sent (shown.pages store.old)) (P.sent (shown.pages store.new)))) }
+    ensures salvaged_reads { shown.ForFit store.old id (λ series. (shown.view store.new).reads ≤ (shown.view store.old).reads + window_pages series window) }
+    // where a page is damaged, the lines of all values before its slots were sent
+    ensures cut { shown.ForFit store.old id (λ series. IfErr result (λ e. CutsExport e (shown.image store.old) (shown.total store.old) id series window (P.sent (shown.pages store.old)) (P.sent (shown.pages store.new)))) }
+    // and where the whole tree stands none is
+    ensures sound { shown.ForKept store.old id (λ series. IfErr result IsNoDamage) }
     ensures cause { IfErr result (λ e. IsSeriesCause e (shown.IsTold store.old) (shown.numbers store.old) id (shown.view store.old) (shown.view store.new)) }
     ensures faults { CountsFault (fault_in send_fault result) (shown.view store.old) (shown.view store.new) }
     // a crash leaves at each moment what it might have left before

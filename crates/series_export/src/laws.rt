@@ -1,9 +1,11 @@
 //! What follows from the definitions. The functions do nothing: their contracts are the laws.
-ghost use Rattle.std.specs.Prelude.{◌≡◌, ℕ, List, [], Option, None};
+ghost use Rattle.std.specs.Prelude.{◌≡◌, ◌≤◌, ℕ, List, [], length, Option, None};
 ghost use Rattle.series_book.specs.declared.one_series.Series.{Series};
 ghost use Rattle.series_book.specs.Books.{IsSeries};
+ghost use Rattle.series_book.specs.Pages.{series_pages};
+ghost use Rattle.series_book.specs.declared.limits.TheConstants.{MOST_SLOTS};
 ghost use Rattle.series_load.specs.Rows.{Reading, ReadsRows};
-ghost use Rattle.series_export.specs.Exports.{export_text};
+ghost use Rattle.series_export.specs.Exports.{export_text, window_pages};
 ghost use Rattle.series_export.specs.RoundTrips.{HoldsSame};
 ghost use Rattle.series_export.specs.Room.{HasRoomFor, AcceptsRunsOf, LoadsBack};
 ghost use Rattle.series_export.specs.declared.window.Window.{Window};
@@ -56,4 +58,9 @@ pub fn exports_load_where_there_is_room()
 pub fn pieces_are_the_export()
     ensures window { PiecesAreTheExport }
     ensures whole { PiecesAreTheWholeExport }
+{}
+
+/// The pages of a series' tree that an export in a window reads are no more than the tree has.
+pub fn windows_have_no_more_pages()
+    ensures { (series : Series) (window : Option Window) → length series.slots ≤ MOST_SLOTS → window_pages series window ≤ series_pages series.slots }
 {}

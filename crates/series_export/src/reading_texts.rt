@@ -35,11 +35,13 @@ impl ReadingTexts {
 }
 
 impl Texts for ReadingTexts {
-    ghost use Rattle.series_export.specs.Exports.{line_at};
+    ghost use Rattle.series_export.specs.Exports.{line_at, may_be_in};
 
     ghost slots = { λ texts. texts.slots };
 
     ghost text = { λ texts slot value. line_at texts.start texts.step texts.scale texts.window slot value };
+
+    ghost may_be_said = { λ texts first end. may_be_in texts.start texts.step texts.window first end };
 
     fn may_say(&self, first: u64, end: u64) -> bool {
         may_meet(self.window, self.time(first), self.time(end - 1))

@@ -22,11 +22,13 @@ use Rattle.series_store.specs.Results.{IsEditCause, IsUnchangedFor}
 use Rattle.series_store.specs.declared.errors.StoreError.{StoreError}
 use Rattle.series_store.specs.declared.errors.StoreError.TheVariants as store
 use Rattle.run_ends.specs.Faults.{end_fault}
+use Rattle.series_load.specs.Costs.{Costs, spent_by}
 use Rattle.series_load.specs.Runs.{Run}
 use Rattle.series_load.specs.Sets.{AreSets, IsAfter, IsPartDone, IsRefusedIn, Loads, set_of}
 use Rattle.series_load.specs.Steps.{Counts, DoesFirst, IsSetCause, IsSoundFor, NoBad, StopsSo, end_at}
 use Rattle.run_ends.specs.declared.ending.End.{End}
-use Rattle.series_load.proofs.SetLemmas.{part_none, part_then, refused_then}
+use Rattle.series_load.proofs.CostLemmas.{costs_most}
+use Rattle.series_load.proofs.SetLemmas.{as_many, part_none, part_then, refused_then}
 
 abbrev sets_of : List ℕ → List Run → List Edit
 sets_of name runs = map (set_of name) runs
@@ -190,15 +192,18 @@ group_moments total name book runs sets n old new are last time =
 
 -- some first sets were done, or the one behind them is refused
 pub counted : (total : ℕ) (name : List ℕ) (book : List Series) (runs : List Run) (sets : List Edit) (ats : List ℕ) (answers : List (Result Outcome Refusal)) (result : Result ℕ End) (old new : View) → AreSets name runs sets ats → AreDone total book sets answers new.image
-    → RefuseLast total book (take (length answers) sets) → Passes old new (IsNoneOrAll total book sets (length answers)) (Quiet old) → Counts ats answers result → DoesFirst total name book runs result old new
-counted total name book runs sets ats answers (Ok count) old new are done last time counts =
+    → RefuseLast total book (take (length answers) sets) → Passes old new (IsNoneOrAll total book sets (length answers)) (Quiet old) → length answers ≤ length sets → Costs (length answers) (spent_by old) new → Counts ats answers result → DoesFirst total name book runs result old new
+counted total name book runs sets ats answers (Ok count) old new are done last time within costs counts =
     let n = length answers in
     let same : take n sets ≡ sets_of name (take n runs) = ap (take n) are.sets_are ∙ take_map (set_of name) n runs in
     let P : List Edit → Type 0 = λ l. map answer_of answers ≡ edits_give total book l in
     let R : List Edit → Type 0 = RefuseLast total book in
     let S : List Edit → Type 0 = λ l. StandsForBook new.image total (after_edits total book l) in
     let C : ℕ → Type 0 = λ k. IsAfter total name book (take k runs) new.image in
+    let N : ℕ → Type 0 = λ k. Costs k (spent_by old) new in
     record {
+      costs = costs_most (length answers) (length runs) (spent_by old) new (omega (arith, within, as_many name runs sets ats are)) costs;
+      few = subst N (sym counts.0) costs;
       done = subst C (sym counts.0) (record {
         new = after_edits total book (sets_of name (take n runs));
         loads = loads_ok total name (take n runs) answers book counts.1.0 (subst P same done.answered) (subst R same last) counts.1.1;
@@ -207,7 +212,7 @@ counted total name book runs sets ats answers (Ok count) old new are done last t
       stops = tt;
       moments = group_moments total name book runs sets n old new are.sets_are last time;
     }
-counted total name book runs sets ats answers (Err end) old new are done last time counts =
+counted total name book runs sets ats answers (Err end) old new are done last time within costs counts =
     let n = length answers in
     let same : take n sets ≡ sets_of name (take n runs) = ap (take n) are.sets_are ∙ take_map (set_of name) n runs in
     let P : List Edit → Type 0 = λ l. map answer_of answers ≡ edits_give total book l in
@@ -219,6 +224,8 @@ counted total name book runs sets ats answers (Err end) old new are done last ti
     let I : List Run → Type 0 = λ l. IsRefusedIn total name book l counts.at counts.refusal new.image in
     let E : End → Type 0 = λ e. StopsSo NoBad total name book runs new.image e in
     record {
+      costs = costs_most (length answers) (length runs) (spent_by old) new (omega (arith, within, as_many name runs sets ats are)) costs;
+      few = tt;
       done = tt;
       stops = subst E (sym counts.end_is) (record {
         refusal = counts.refusal;
@@ -237,10 +244,12 @@ err_as end end' same = ap as_err same
 
 -- none was, where a call of the disk failed or there was no memory
 pub group_failed : (total : ℕ) (name : List ℕ) (book : List Series) (runs : List Run) (sets : List Edit) (ats : List ℕ) (at : ℕ) (e : StoreError) (result : Result ℕ End) (told : Type 0) (old new : View) → result ≡ Err (end_at at e) → AreSets name runs sets ats → told → StandsForBook old.image total book → IsOutside e
-    → IsUnchangedFor e told old new → PassesUntil total book sets old new → DoesFirst total name book runs result old new
-group_failed total name book runs sets ats at e result told old new is are says stands outside same passes =
+    → IsUnchangedFor e told old new → PassesUntil total book sets old new → Costs (length sets) (spent_by old) new → DoesFirst total name book runs result old new
+group_failed total name book runs sets ats at e result told old new is are says stands outside same passes costs =
     let D : Result ℕ End → Type 0 = λ r. DoesFirst total name book runs r old new in
     subst D (sym is) (record {
+      costs = costs_most (length sets) (length runs) (spent_by old) new (omega (arith, as_many name runs sets ats are)) costs;
+      few = tt;
       done = tt;
       stops = why e outside same;
       moments = group_moments total name book runs sets passes.covered old new are.sets_are passes.last passes.moments;

@@ -17,6 +17,7 @@ use Rattle.series_load.specs.Sets.{AreFirstOf, IsAfterSome, IsNamed}
 use Rattle.series_load.specs.Steps.{IsSoundFor}
 use Rattle.run_ends.specs.declared.ending.End.{End}
 use Rattle.run_ends.specs.declared.ending.End.TheVariants.{InputTooLong, UnknownSeries, NoMemory}
+use Rattle.series_load.proofs.CostLemmas.{costs_none}
 use Rattle.series_load.proofs.Joined.{told_nothing}
 use Rattle.series_load.proofs.SetLemmas.{after_none}
 
@@ -88,7 +89,7 @@ unstarted total name book series o e (Ok count) at is none some = absurd is
 unstarted total name book series o e (Err x) at is none some =
     let E : End → Type 0 = λ y. Stopped total name book series o o y at at in
     subst E (sym (is ∙ none))
-    (record { ends = no_ends o; some = some; moments = passes_none at (IsAfterSome total name book series o) (Quiet at) })
+    (record { costs = record { runs = []; first = first_none series o; costs = costs_none 0 at }; ends = no_ends o; some = some; moments = passes_none at (IsAfterSome total name book series o) (Quiet at) })
   where
     no_ends : (i : Option (List ℕ)) → IfSome i (λ input. EndsLoad total name book series input o at.image NoMemory)
     no_ends None = tt

@@ -1,3 +1,4 @@
+pub mod CostLemmas
 pub mod RunLemmas
 pub mod RowLemmas
 pub mod SetLemmas

@@ -25,6 +25,7 @@ use Rattle.series_load.specs.declared.open_run.Reading.{Reading as Kept}
 use Rattle.series_load.specs.declared.said.Said.{Said}
 use Rattle.series_load.specs.declared.said.Said.TheVariants.{Header, Point, Gap, Bad}
 use Rattle.series_load.proofs.RunLemmas.{adds_gap}
+use Rattle.series_load.proofs.CostLemmas.{costs_none}
 use Rattle.series_load.proofs.SetLemmas.{after_none, part_none, stops_more}
 use Rattle.series_load.proofs.RowLemmas.{table_more, no_rows, table_header}
 
@@ -163,7 +164,7 @@ module _ (scale step at : ℕ) (text : List ℕ) (first : Bool) (points total : 
   pub line_kept : {T : Type 0} (v : T) (first' : Bool) (points' : ℕ) (kept : KeptSets) (run : OpenRun) (now : View) → StandsForBook now.image total book → Took (adds_at scale step at text first open_run points first' points') name waiting kept run
       → Line (Ok v) first' points' kept run now now
   line_kept {T} v first' points' kept run now stands took = record {
-    took = record { ends = took.ends; new = took.new; adds = took.gives; done = []; later = waiting ++ took.ends; split = refl; after = after_none total name book now.image stands; keeps = took.keeps };
+    took = record { ends = took.ends; still = took.new; adds = took.gives; costs = costs_none 0 now; done = []; later = waiting ++ took.ends; split = refl; after = after_none total name book now.image stands; keeps = took.keeps };
     stops = tt;
     moments = passes_none now (LineLeaves scale step at text first points total name book waiting open_run) (Quiet now);
   }
@@ -174,7 +175,7 @@ module _ (scale step at : ℕ) (text : List ℕ) (first : Bool) (points total : 
       let P : End → Type 0 = λ y. StopsSo (IsAtText scale at text first total name book (waiting ++ closed open_run) now.image) total name book waiting now.image y in
       record {
         took = tt;
-        stops = record { runs = waiting; are = inl refl; why = subst P (sym (is ∙ none)) (part_none total name book waiting now.image stands) };
+        stops = record { runs = waiting; are = inl refl; costs = costs_none (length waiting) now; why = subst P (sym (is ∙ none)) (part_none total name book waiting now.image stands) };
         moments = passes_none now (LineLeaves scale step at text first points total name book waiting open_run) (Quiet now);
       }
 
@@ -190,13 +191,13 @@ module _ (scale step at : ℕ) (text : List ℕ) (first : Bool) (points total : 
       by : (r : Result (Unit {0}) End) → Does NoBad total name book (waiting ++ took.ends) r old new → OnOk r (KeepsRuns name [] took.new kept' run')
           → Passes old new (LineLeaves scale step at text first points total name book waiting open_run) (Quiet old) → LineRuns scale step at text first points waiting open_run (waiting ++ took.ends) → Line r first' points' kept' run' old new
       by (Ok v) does keeps time are = record {
-        took = record { ends = took.ends; new = took.new; adds = took.gives; done = waiting ++ took.ends; later = []; split = sym (append-nil (waiting ++ took.ends)); after = does.done; keeps = keeps };
+        took = record { ends = took.ends; still = took.new; adds = took.gives; costs = does.costs; done = waiting ++ took.ends; later = []; split = sym (append-nil (waiting ++ took.ends)); after = does.done; keeps = keeps };
         stops = tt;
         moments = time;
       }
       by (Err e) does keeps time are = record {
         took = tt;
-        stops = record { runs = waiting ++ took.ends; are = are; why = stops_more (IsAtText scale at text first total name book (waiting ++ closed open_run) new.image) total name book (waiting ++ took.ends) new.image e does.stops };
+        stops = record { runs = waiting ++ took.ends; are = are; costs = does.costs; why = stops_more (IsAtText scale at text first total name book (waiting ++ closed open_run) new.image) total name book (waiting ++ took.ends) new.image e does.stops };
         moments = time;
       }
 
@@ -208,7 +209,7 @@ module _ (scale step at : ℕ) (text : List ℕ) (first : Bool) (points total : 
       let are : LineRuns scale step at text first points waiting open_run runs = inr (inr (record { some = some; bad = bad; runs_are = refl })) in
       record {
         took = tt;
-        stops = record { runs = runs; are = are; why = at_text e does.stops };
+        stops = record { runs = runs; are = are; costs = does.costs; why = at_text e does.stops };
         moments = passes_weaker old new (IsPartDone total name book runs) (LineLeaves scale step at text first points total name book waiting open_run) (Quiet old) (Quiet old)
             (λ image part. record { runs = runs; are = are; part = part }) (λ count quiet. quiet) does.moments;
       }

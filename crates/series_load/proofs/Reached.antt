@@ -22,7 +22,8 @@ use Rattle.line_runs.specs.declared.lines_stop.LinesStop.TheVariants as stop
 use Rattle.series_book.specs.declared.one_series.Series.{Series}
 use Rattle.series_book.specs.declared.refusals.Refusal.{Refusal}
 use Rattle.stored_book.specs.Standing.{StandsForBook}
-use Rattle.series_load.specs.Ends.{EndsLoad, Finished, IsAtBad, IsAtRefusal, IsLoaded, KeepsSome, Stopped}
+use Rattle.series_load.specs.Costs.{Costs, Spent, spent_by}
+use Rattle.series_load.specs.Ends.{CostsFirst, EndsLoad, Finished, IsAtBad, IsAtRefusal, IsLoaded, KeepsSome, Stopped}
 use Rattle.series_load.specs.Fronts.{PlacedLine, placed_from, told}
 use Rattle.series_load.specs.Loading.{BadBy, Held, LoadDoes, LoadLeaves, LoadStops, NoneSent, RunsBy, StandsSo, moved}
 use Rattle.series_load.specs.Rows.{AreTable, BadEarly, Stops}
@@ -33,6 +34,7 @@ use Rattle.run_ends.specs.declared.ending.End.{End}
 use Rattle.run_ends.specs.declared.ending.End.TheVariants.{NoMemory, ReadFault, DiskFault, BadInput, InputTooLong, Refused}
 use Rattle.series_load.specs.declared.loader.Loader.{Loader}
 use Rattle.series_load.specs.declared.said.Said.TheVariants.{Bad}
+use Rattle.series_load.proofs.CostLemmas.{costs_none}
 use Rattle.series_load.proofs.FirstLemmas.{first_of}
 use Rattle.series_load.proofs.Joined.{told_joined}
 use Rattle.series_load.proofs.LineLemmas.{is_bad}
@@ -99,11 +101,13 @@ pub record Reached (held : Held) (given : List Given) (behind : Held) : Type 0 w
   pub first : Bool
   pub open_run : Option Run
   pub points : ℕ
+  pub asked : ℕ
+  pub asked_is : asked ≡ held.asked + length done
   pub split : held.waiting ++ runs ≡ done ++ waiting
   pub loads : Loads held.total held.name held.book done book
   pub reads : AreLines given → (before : List PlacedLine) (others : List Run) → Read held.scale held.step before others held.first
       held.open_run held.points → Read held.scale held.step (before ++ told_of given) (others ++ runs) first open_run points
-  pub behind_is : behind ≡ moved held book waiting first open_run points
+  pub behind_is : behind ≡ moved held book waiting first open_run points asked
 
 -- runs end, and then others
 split_then : (was ends runs done waiting done' waiting' : List Run) → was ++ ends ≡ done ++ waiting → waiting ++ runs ≡ done' ++ waiting' → was ++ (ends ++ runs) ≡ (done ++ done') ++ waiting'
@@ -120,6 +124,8 @@ reached [] held text behind (none, same) = record {
   first = held.first;
   open_run = held.open_run;
   points = held.points;
+  asked = held.asked;
+  asked_is = omega arith;
   split = append-nil held.waiting;
   loads = refl;
   reads = λ only before others read.
@@ -132,8 +138,9 @@ reached (Line at None ∷ later) held text behind follows = absurd follows.does
 reached (Line at (Some line) ∷ later) held text behind follows =
     let did = follows.does in
     let P : Held → Type 0 = λ h. Reached h later behind in
-    let rest : Reached (moved held did.book did.waiting did.first did.open_run did.points) later behind = subst P did.behind_is
+    let rest : Reached (moved held did.book did.waiting did.first did.open_run did.points (held.asked + length did.done)) later behind = subst P did.behind_is
     (reached later follows.between follows.more behind follows.others) in
+    let asked_is : rest.asked ≡ (held.asked + length did.done) + length rest.done = rest.asked_is in
     record {
       runs = did.ends ++ rest.runs;
       done = did.done ++ rest.done;
@@ -142,6 +149,8 @@ reached (Line at (Some line) ∷ later) held text behind follows =
       first = rest.first;
       open_run = rest.open_run;
       points = rest.points;
+      asked = rest.asked;
+      asked_is = omega (arith, asked_is, length-append did.done rest.done);
       split = split_then held.waiting did.ends rest.runs did.done did.waiting rest.done rest.waiting did.split rest.split;
       loads = loads_then held.total held.name held.book did.book rest.book did.done rest.done did.loads rest.loads;
       reads = λ only before others read.
@@ -156,8 +165,9 @@ reached (Line at (Some line) ∷ later) held text behind follows =
 reached (Pause ∷ later) held text behind follows =
     let did = follows.does in
     let P : Held → Type 0 = λ h. Reached h later behind in
-    let rest : Reached (moved held did.book [] held.first held.open_run held.points) later behind = subst P did.behind_is
+    let rest : Reached (moved held did.book [] held.first held.open_run held.points (held.asked + length held.waiting)) later behind = subst P did.behind_is
     (reached later follows.between follows.more behind follows.others) in
+    let asked_is : rest.asked ≡ (held.asked + length held.waiting) + length rest.done = rest.asked_is in
     record {
       runs = rest.runs;
       done = held.waiting ++ rest.done;
@@ -166,6 +176,8 @@ reached (Pause ∷ later) held text behind follows =
       first = rest.first;
       open_run = rest.open_run;
       points = rest.points;
+      asked = rest.asked;
+      asked_is = omega (arith, asked_is, length-append held.waiting rest.done);
       split = ap (λ l. held.waiting ++ l) rest.split ∙ sym (append_assoc held.waiting rest.done rest.waiting);
       loads = loads_then held.total held.name held.book did.book rest.book held.waiting rest.done did.loads rest.loads;
       reads = rest.reads;
@@ -174,8 +186,9 @@ reached (Pause ∷ later) held text behind follows =
 reached (lines_given.End ∷ later) held text behind follows =
     let did = follows.does in
     let P : Held → Type 0 = λ h. Reached h later behind in
-    let rest : Reached (moved held did.book [] held.first None held.points) later behind = subst P did.behind_is
+    let rest : Reached (moved held did.book [] held.first None held.points (held.asked + length (held.waiting ++ closed held.open_run))) later behind = subst P did.behind_is
     (reached later follows.between follows.more behind follows.others) in
+    let asked_is : rest.asked ≡ (held.asked + length (held.waiting ++ closed held.open_run)) + length rest.done = rest.asked_is in
     record {
       runs = closed held.open_run ++ rest.runs;
       done = (held.waiting ++ closed held.open_run) ++ rest.done;
@@ -184,6 +197,8 @@ reached (lines_given.End ∷ later) held text behind follows =
       first = rest.first;
       open_run = rest.open_run;
       points = rest.points;
+      asked = rest.asked;
+      asked_is = omega (arith, asked_is, length-append (held.waiting ++ closed held.open_run) rest.done);
       split = split_then held.waiting (closed held.open_run) rest.runs (held.waiting ++ closed held.open_run) [] rest.done rest.waiting
           (sym (append-nil (held.waiting ++ closed held.open_run))) rest.split;
       loads = loads_then held.total held.name held.book did.book rest.book (held.waiting ++ closed held.open_run) rest.done did.loads rest.loads;
@@ -295,7 +310,7 @@ module _ (scale step : ℕ) (input : List ℕ) (ended : List Run) (first : Bool)
 
 -- ---- a load
 
-module _ (total : ℕ) (name : List ℕ) (book : List Series) (series : Series) (since count : ℕ) where
+module _ (total : ℕ) (name : List ℕ) (book : List Series) (series : Series) (since count : ℕ) (spent : Spent) where
   abbrev pub start : Held
   start = record {
     total = total;
@@ -309,6 +324,8 @@ module _ (total : ℕ) (name : List ℕ) (book : List Series) (series : Series) 
     points = 0;
     since = since;
     count = count;
+    before = spent;
+    asked = 0;
   }
 
   module _ (done : Done LoadDoes start) where
@@ -316,7 +333,7 @@ module _ (total : ℕ) (name : List ℕ) (book : List Series) (series : Series) 
     r = reached done.given start done.text done.behind done.carries
 
     abbrev there : Held
-    there = moved start r.book r.waiting r.first r.open_run r.points
+    there = moved start r.book r.waiting r.first r.open_run r.points r.asked
 
     abbrev HeardOf : List ℕ → Type 0
     HeardOf input = Heard series.scale series.step input r.runs r.first r.open_run r.points
@@ -404,6 +421,23 @@ module _ (total : ℕ) (name : List ℕ) (book : List Series) (series : Series) 
         → IsAfter total name r.book runs image → IsAfterSome total name book series o image
     ended_so o image runs first after = record
         { runs = r.done ++ runs; first = first; after = after_then total name book r.book r.done runs image r.loads after }
+
+    -- what the sets cost that were done, and those that were tried behind them
+    first_costs : (o : Option (List ℕ)) (old new : View) → spent ≡ spent_by old → AreFirstOf series.scale series.step o r.done → Costs r.asked spent new
+        → CostsFirst series o old new
+    first_costs o old new same first costs =
+        let asked_is : r.asked ≡ length r.done = omega (arith, r.asked_is) in
+        let S : Spent → Type 0 = λ s. Costs (length r.done) s new in
+        let N : ℕ → Type 0 = λ n. Costs n spent new in
+        record { runs = r.done; first = first; costs = subst S same (subst N asked_is costs) }
+
+    next_costs : (o : Option (List ℕ)) (runs : List Run) (old new : View) → spent ≡ spent_by old → AreFirstOf series.scale series.step o (r.done ++ runs)
+        → Costs (r.asked + length runs) spent new → CostsFirst series o old new
+    next_costs o runs old new same first costs =
+        let asked_is : r.asked + length runs ≡ length (r.done ++ runs) = omega (arith, r.asked_is, length-append r.done runs) in
+        let S : Spent → Type 0 = λ s. Costs (length (r.done ++ runs)) s new in
+        let N : ℕ → Type 0 = λ n. Costs n spent new in
+        record { runs = r.done ++ runs; first = first; costs = subst S same (subst N asked_is costs) }
 
     part_so : (o : Option (List ℕ)) (image : Image) (runs : List Run) → AreFirstOf series.scale series.step o (r.done ++ runs)
         → IsPartDone total name r.book runs image → IsAfterSome total name book series o image
@@ -581,14 +615,14 @@ module _ (total : ℕ) (name : List ℕ) (book : List Series) (series : Series) 
       }
 
   -- the input was read to its end
-  module _ (IsNow : Held → Type 0) (image : Image) (points : ℕ)
-      (stands : (held : Held) → IsNow held → StandsForBook image held.total held.book × (held.points ≡ points))
+  module _ (IsNow : Held → Type 0) (old new : View) (same : spent ≡ spent_by old) (points : ℕ)
+      (stands : (held : Held) → IsNow held → StandsForBook new.image held.total held.book × (held.points ≡ points) × Costs held.asked held.before new)
       (before now : Option (List ℕ)) (pieces pieces' : ℕ) where
     abbrev All : Option (List ℕ) → Type 0
     All o = runs.Runs LoadDoes start (runs.AreAll pieces pieces') IsNow o before now
 
-    loaded_both : (input : List ℕ) → length input ≤ 2 ^ 32 → All (Some input) → IsLoaded total name book series input points image ×
-        IsAfterSome total name book series (Some input) image
+    loaded_both : (input : List ℕ) → length input ≤ 2 ^ 32 → All (Some input) → IsLoaded total name book series input points new.image ×
+        IsAfterSome total name book series (Some input) new.image × CostsFirst series (Some input) old new
     loaded_both input within all =
         let P : List Given → Type 0 = λ l. Carries LoadDoes start l all.done.text all.done.behind in
         let are = all.are in
@@ -608,80 +642,86 @@ module _ (total : ℕ) (name : List ℕ) (book : List Series) (series : Series) 
         let E : Held → Type 0 = λ b. Carries LoadDoes b (lines_given.End ∷ []) both.more all.done.behind in
         let last = subst E at.behind_is both.others in
         let did = last.does in
-        let S : Held → Type 0 = λ b. StandsForBook image b.total b.book × (b.points ≡ points) in
+        let S : Held → Type 0 = λ b. StandsForBook new.image b.total b.book × (b.points ≡ points) × Costs b.asked b.before new in
         let is = subst S (last.others.1 ∙ did.behind_is) (stands all.done.behind all.stands) in
-        let after : IsAfter total name at.book (at.waiting ++ closed at.open_run) image = record { new = did.book; loads = did.loads; stands = is.0 } in
-        let A : List Run → Type 0 = λ l. IsAfter total name book l image in (
+        let after : IsAfter total name at.book (at.waiting ++ closed at.open_run) new.image = record { new = did.book; loads = did.loads; stands = is.0 } in
+        let first = with_open done input (at.waiting ++ closed at.open_run) refl
+        (stop_first series.scale series.step input at.runs at.first at.open_run at.points h (inl refl)) in
+        let A : List Run → Type 0 = λ l. IsAfter total name book l new.image in (
           record {
             rows = h.read.rows;
             reads = record { begins = f.begins; table = h.read.table };
             runs = at.runs ++ closed at.open_run;
             all = all_runs series.scale series.step input at.runs at.first at.open_run at.points h;
-            after = subst A (sym (ended_is done (closed at.open_run))) (after_then total name book at.book at.done (at.waiting ++ closed at.open_run) image at.loads after);
+            after = subst A (sym (ended_is done (closed at.open_run))) (after_then total name book at.book at.done (at.waiting ++ closed at.open_run) new.image at.loads after);
             counted = sym is.1 ∙ h.read.counted;
           },
-          ended_so done (Some input) image (at.waiting ++ closed at.open_run)
-              (with_open done input (at.waiting ++ closed at.open_run) refl
-              (stop_first series.scale series.step input at.runs at.first at.open_run at.points h (inl refl))) after,
+          ended_so done (Some input) new.image (at.waiting ++ closed at.open_run) first after,
+          next_costs done (Some input) (at.waiting ++ closed at.open_run) old new same first is.2,
         )
 
     pub loaded_so : (o : Option (List ℕ)) → IfSome o (λ input. length input ≤ 2 ^ 32) → All o
-        → IfSome o (λ input. IsLoaded total name book series input points image) × IsAfterSome total name book series o image
+        → IfSome o (λ input. IsLoaded total name book series input points new.image) × IsAfterSome total name book series o new.image
+        × CostsFirst series o old new
     loaded_so None within all = (
       tt,
-      some_so all.done None image tt
-          (transport all.done (λ h. StandsForBook image h.total h.book) (stands all.done.behind all.stands).0),
+      some_so all.done None new.image tt
+          (transport all.done (λ h. StandsForBook new.image h.total h.book) (stands all.done.behind all.stands).0),
+      first_costs all.done None old new same tt (transport all.done (λ h. Costs h.asked h.before new) (stands all.done.behind all.stands).2),
     )
     loaded_so (Some input) within all = loaded_both input within all
 
-  pub finished_so : (told : Type 0) (loader : Loader) (o before now : Option (List ℕ)) (pieces pieces' : ℕ) (old new : View) → since ≡ old.clock
+  pub finished_so : (told : Type 0) (loader : Loader) (o before now : Option (List ℕ)) (pieces pieces' : ℕ) (old new : View) → spent ≡ spent_by old → since ≡ old.clock
       → count ≡ sent_now old → IfSome o (λ input. length input ≤ 2 ^ 32) → runs.Runs LoadDoes start
       (runs.AreAll pieces pieces') (StandsSo told new loader) o before now
       → Since old new (runs.IsAhead LoadDoes (λ held i. StandsForBook i held.total held.book) LoadLeaves start o before (sent_now old))
       → Finished total name book series o loader.points old new
-  finished_so told loader o before now pieces pieces' old new since_is count_is within all lasts =
+  finished_so told loader o before now pieces pieces' old new spent_is since_is count_is within all lasts =
       let quiet = transport all.done (λ h. NoneSent h.since h.count new) all.stands.quiet in
-      let both = loaded_so (StandsSo told new loader) new.image loader.points
-      (λ held s. (s.stands, ap (λ (h : Held). h.points) s.seen_is)) before now pieces pieces' o within all in
-      record { done = both.0; some = both.1; moments = moments_so o before old new since_is count_is quiet lasts }
+      let both = loaded_so (StandsSo told new loader) old new spent_is loader.points
+      (λ held s. (s.stands, ap (λ (h : Held). h.points) s.seen_is, s.costs)) before now pieces pieces' o within all in
+      record { costs = both.2; done = both.0; some = both.1; moments = moments_so o before old new since_is count_is quiet lasts }
 
   -- not all of it was
   pub stopped_so : (told : Type 0) (loader : Loader) (o left before now : Option (List ℕ)) (pieces pieces' : ℕ) (old new : View)
-      (stop : LinesStop End) → since ≡ old.clock → count ≡ sent_now old
+      (stop : LinesStop End) → spent ≡ spent_by old → since ≡ old.clock → count ≡ sent_now old
       → runs.StopsSo LoadDoes (λ held it end was. LoadStops held it new end) (StandsSo told new loader) start o
       left before now pieces pieces' stop
       → Since old new
       (runs.IsAhead LoadDoes (λ held i. StandsForBook i held.total held.book) LoadLeaves start o before (sent_now old))
       → Stopped total name book series o left (stop_end stop) old new
-  stopped_so told loader o left before now pieces pieces' old new (stop.Fault fault.ReadFault) since_is count_is is lasts =
+  stopped_so told loader o left before now pieces pieces' old new (stop.Fault fault.ReadFault) spent_is since_is count_is is lasts =
       let stands = transport is.done (λ h. StandsForBook new.image h.total h.book) is.stands.stands in
       let quiet = transport is.done (λ h. NoneSent h.since h.count new) is.stands.quiet in
+      let first = firsts_of is.done o
+      (told_so (λ input. runs.AreTaken pieces pieces' left input is.done.given) (λ input. lines_given.AreFirst input is.done.given) o
+      (λ input t. t.first) is.are) in
       record {
+        costs = first_costs is.done o old new spent_is first (transport is.done (λ h. Costs h.asked h.before new) is.stands.costs);
         ends = told_so (λ input. runs.AreTaken pieces pieces' left input is.done.given)
             (λ input. EndsLoad total name book series input left new.image ReadFault) o
             (λ input t. taken_so is.done input left pieces pieces' new.image stands t) is.are;
-        some = some_so is.done o new.image
-            (firsts_of is.done o
-            (told_so (λ input. runs.AreTaken pieces pieces' left input is.done.given) (λ input. lines_given.AreFirst input is.done.given) o
-            (λ input t. t.first) is.are)) stands;
+        some = some_so is.done o new.image first stands;
         moments = moments_so o before old new since_is count_is quiet lasts;
       }
-  stopped_so told loader o left before now pieces pieces' old new (stop.Fault fault.InputTooLong) since_is count_is is lasts =
+  stopped_so told loader o left before now pieces pieces' old new (stop.Fault fault.InputTooLong) spent_is since_is count_is is lasts =
       let stands = transport is.done (λ h. StandsForBook new.image h.total h.book) is.stands.stands in
       let quiet = transport is.done (λ h. NoneSent h.since h.count new) is.stands.quiet in
+      let first = firsts_of is.done o
+      (told_so (λ input. runs.AreWithin pieces pieces' input is.done.given) (λ input. lines_given.AreFirst input is.done.given) o
+      (λ input t. t.first) is.are) in
       record {
+        costs = first_costs is.done o old new spent_is first (transport is.done (λ h. Costs h.asked h.before new) is.stands.costs);
         ends = told_so (λ input. runs.AreWithin pieces pieces' input is.done.given)
             (λ input. EndsLoad total name book series input left new.image InputTooLong) o
             (λ input t. within_so is.done input left pieces pieces' new.image stands t) is.are;
-        some = some_so is.done o new.image
-            (firsts_of is.done o
-            (told_so (λ input. runs.AreWithin pieces pieces' input is.done.given) (λ input. lines_given.AreFirst input is.done.given) o
-            (λ input t. t.first) is.are)) stands;
+        some = some_so is.done o new.image first stands;
         moments = moments_so o before old new since_is count_is quiet lasts;
       }
-  stopped_so told loader o left before now pieces pieces' old new (stop.Work end) since_is count_is is lasts =
+  stopped_so told loader o left before now pieces pieces' old new (stop.Work end) spent_is since_is count_is is lasts =
       let stops = transport is.done (λ h. LoadStops h is.next new end) is.why in
       record {
+        costs = next_costs is.done o stops.runs old new spent_is (next_firsts is.done is.next o is.are stops.runs stops.are) stops.costs;
         ends = told_so (λ input. AreBefore input is.done.given is.next)
             (λ input. EndsLoad total name book series input left new.image end) o
             (λ input b. ends_so is.done is.next input left stops.runs new.image end b stops.are stops.why) is.are;
@@ -693,7 +733,7 @@ module _ (total : ℕ) (name : List ℕ) (book : List Series) (series : Series) 
 pub start_stands : (told : Type 0) (total : ℕ) (book : List Series) (series : Series) (loader : Loader) (at : View) → told
     → StandsForBook at.image total book → loader.run.values.items ≡ [] → loader.kept.sets.items ≡ [] → loader.kept.ats.items ≡ [] → loader.first ≡ true → loader.points ≡ 0
     → loader.step ≡ series.step → loader.scale ≡ series.scale
-    → StandsSo told at loader (start total loader.name book series at.clock (sent_now at))
+    → StandsSo told at loader (start total loader.name book series at.clock (sent_now at) (spent_by at))
 start_stands told total book series loader at is stands none sets ats first points step scale = record {
   is_told = is;
   stands = stands;
@@ -703,6 +743,7 @@ start_stands told total book series loader at is stands none sets ats first poin
     here = λ time low high. let same : time ≡ at.clock = omega (arith, low, high)
         in ap at.sent_by same;
   };
+  costs = costs_none 0 at;
   seen_is = (λ i. record {
     total = total;
     name = loader.name;
@@ -715,5 +756,7 @@ start_stands told total book series loader at is stands none sets ats first poin
     points = sym points i;
     since = at.clock;
     count = sent_now at;
+    before = spent_by at;
+    asked = 0;
   });
 }

@@ -1,5 +1,5 @@
 -- Sets, one after the other.
-use Rattle.std.proofs.Common.{◌≡◌, ◌≢◌, ℕ, zero, suc, ℤ, ◌==◌, Bool, true, false, List, [], ◌∷◌, ◌++◌, length, map, take, drop, Option, None, Some, Result, Ok, Err, refl, ap, ap₂, subst, sym, ◌∙◌, arith, append_assoc, length-drop, take_all, ◌-◌}
+use Rattle.std.proofs.Common.{◌≡◌, ◌≢◌, ℕ, zero, suc, ℤ, ◌==◌, Bool, true, false, List, [], ◌∷◌, ◌++◌, length, map, take, drop, Option, None, Some, Result, Ok, Err, refl, ap, ap₂, subst, sym, ◌∙◌, arith, append_assoc, length-drop, take_all, ◌-◌, ◌≤◌}
 use Rattle.std.specs.Option.{IsSome}
 use Rattle.std.specs.Prelude.{IsErrAnd, OnOk, IfErr}
 use Rattle.std.proofs.lemmas.List.{append-nil, length-map, map-append, take-append-drop}
@@ -22,6 +22,7 @@ use Rattle.series_store.specs.Results.{IsUnchangedFor, IsEditCause}
 use Rattle.series_store.specs.declared.errors.StoreError.{StoreError}
 use Rattle.series_store.specs.declared.errors.StoreError.TheVariants as store
 use Rattle.series_load.specs.Rows.{Reading}
+use Rattle.series_load.specs.Costs.{Costs, spent_by}
 use Rattle.series_load.specs.Runs.{Run, readings}
 use Rattle.series_load.specs.Sets.{AreEdits, AreSets, IsAfter, IsPartDone, IsRefusedIn, Loads, set_of}
 use Rattle.series_load.specs.Steps.{Does, DoesFirst, IsAtLine, IsSetCause, Keeps, KeepsRun, KeepsRuns, NoBad, StopsSo, closed, end_at}
@@ -29,6 +30,7 @@ use Rattle.run_ends.specs.declared.ending.End.{End}
 use Rattle.run_ends.specs.declared.ending.End.TheVariants.{NoMemory, BadInput, Refused}
 use Rattle.series_load.specs.declared.kept_sets.KeptSets.{KeptSets}
 use Rattle.series_load.specs.declared.open_run.OpenRun.{OpenRun}
+use Rattle.series_load.proofs.CostLemmas.{costs_none}
 
 -- sets behind sets
 pub loads_then : (total : ℕ) (name : List ℕ) (old mid new : List Series) (runs ends : List Run) → Loads total name old runs mid → Loads total name mid ends new → Loads total name old (runs ++ ends) new
@@ -147,48 +149,56 @@ part_moments total name book mid_book first second old new loads time =
     (λ image part. part_then total name book mid_book first second image loads part) (λ count quiet. quiet) time
 
 -- some first sets, and then the others
-pub does_then : (total : ℕ) (name : List ℕ) (book : List Series) (runs : List Run) (count : ℕ) (result : Result (Unit {0}) End) (old mid new : View) → (first : DoesFirst total name book runs (Ok count) old mid) → Does NoBad total name first.done.new (drop count runs) result mid new → Does NoBad total name book runs result old new
-does_then total name book runs count result old mid new first second =
+pub does_then : (total : ℕ) (name : List ℕ) (book : List Series) (runs : List Run) (count : ℕ) (result : Result (Unit {0}) End) (old mid new : View) → count ≤ length runs → (first : DoesFirst total name book runs (Ok count) old mid) → Does NoBad total name first.done.new (drop count runs) result mid new → Does NoBad total name book runs result old new
+does_then total name book runs count result old mid new few first second =
     let all : List Run = take count runs ++ drop count runs in
     let P : List Run → Type 0 = λ r. Does NoBad total name book r result old new in
     let Q : List Run → Type 0 = λ r. Passes old mid (IsPartDone total name book r) (Quiet old) in
     let same : all ≡ runs = take-append-drop count runs in
-    subst P same (by result second.done second.stops (time_then old mid new (IsPartDone total name book all) (subst Q (sym same) first.moments)
+    let C : List Run → Type 0 = λ r. Costs (length r) (spent_by old) new in
+    subst P same (by result (subst C (sym same) costs) second.done second.stops (time_then old mid new (IsPartDone total name book all) (subst Q (sym same) first.moments)
     (part_moments total name book first.done.new (take count runs) (drop count runs) mid new first.done.loads second.moments)))
   where
-    by : (r : Result (Unit {0}) End) → OnOk r (IsAfter total name first.done.new (drop count runs) new.image) → IfErr r (λ e. StopsSo NoBad total name first.done.new (drop count runs) new.image e)
+    costs : Costs (length runs) (spent_by old) new
+    costs = record {
+      reads = omega (arith, few, first.few.reads, second.costs.reads, length-drop count runs);
+      syncs = omega (arith, few, first.few.syncs, second.costs.syncs, length-drop count runs);
+      writes = omega (arith, few, first.few.writes, second.costs.writes, length-drop count runs);
+    }
+
+    by : (r : Result (Unit {0}) End) → Costs (length (take count runs ++ drop count runs)) (spent_by old) new → OnOk r (IsAfter total name first.done.new (drop count runs) new.image) → IfErr r (λ e. StopsSo NoBad total name first.done.new (drop count runs) new.image e)
         → Passes old new (IsPartDone total name book (take count runs ++ drop count runs)) (Quiet old) → Does NoBad total name book (take count runs ++ drop count runs) r old new
-    by (Ok v) done stops time = record { done = after_then total name book first.done.new (take count runs) (drop count runs) new.image first.done.loads done; stops = tt; moments = time }
-    by (Err e) done stops time = record { done = tt; stops = stops_then total name book first.done.new (take count runs) (drop count runs) new.image e first.done.loads stops; moments = time }
+    by (Ok v) cost done stops time = record { costs = cost; done = after_then total name book first.done.new (take count runs) (drop count runs) new.image first.done.loads done; stops = tt; moments = time }
+    by (Err e) cost done stops time = record { costs = cost; done = tt; stops = stops_then total name book first.done.new (take count runs) (drop count runs) new.image e first.done.loads stops; moments = time }
 
 pub does_none : (total : ℕ) (name : List ℕ) (book : List Series) (runs : List Run) (v : Unit {0}) (at : View) → length runs ≡ 0 → StandsForBook at.image total book → Does NoBad total name book runs (Ok v) at at
-does_none total name book [] v at none stands = record { done = after_none total name book at.image stands; stops = tt; moments = passes_none at (IsPartDone total name book []) (Quiet at) }
+does_none total name book [] v at none stands = record { costs = costs_none 0 at; done = after_none total name book at.image stands; stops = tt; moments = passes_none at (IsPartDone total name book []) (Quiet at) }
 does_none total name book (run ∷ runs) v at none stands = absurd (omega (arith, none))
 
 -- an error that is passed on
-pub err_passes : (total : ℕ) (name : List ℕ) (book : List Series) (runs : List Run) (e : End) (result : Result (Unit {0}) End) (old new : View) → IsErrAnd result (λ x. x ≡ e) → StopsSo NoBad total name book runs new.image e → Passes old new (IsPartDone total name book runs) (Quiet old) → Does NoBad total name book runs result old new
-err_passes total name book runs e (Ok v) old new is stops time = absurd is
-err_passes total name book runs e (Err x) old new is stops time =
+pub err_passes : (total : ℕ) (name : List ℕ) (book : List Series) (runs : List Run) (e : End) (result : Result (Unit {0}) End) (old new : View) → IsErrAnd result (λ x. x ≡ e) → Costs (length runs) (spent_by old) new → StopsSo NoBad total name book runs new.image e → Passes old new (IsPartDone total name book runs) (Quiet old) → Does NoBad total name book runs result old new
+err_passes total name book runs e (Ok v) old new is costs stops time = absurd is
+err_passes total name book runs e (Err x) old new is costs stops time =
     let P : End → Type 0 = λ y. StopsSo NoBad total name book runs new.image y in
-    record { done = tt; stops = subst P (sym is) stops; moments = time }
+    record { costs = costs; done = tt; stops = subst P (sym is) stops; moments = time }
 
 -- want of memory before a set was done
 pub no_memory_does : {T : Type 0} (B : ℕ → Type 0) (total : ℕ) (name : List ℕ) (book : List Series) (runs : List Run) (e : End) (result : Result T End) (at : View) → IsErrAnd result (λ x. x ≡ e) → e ≡ NoMemory → StandsForBook at.image total book → Does B total name book runs result at at
 no_memory_does {T} B total name book runs e (Ok v) at is none stands = absurd is
 no_memory_does {T} B total name book runs e (Err x) at is none stands =
     let P : End → Type 0 = λ y. StopsSo B total name book runs at.image y in
-    record { done = tt; stops = subst P (sym (is ∙ none)) (part_none total name book runs at.image stands); moments = passes_none at (IsPartDone total name book runs) (Quiet at) }
+    record { costs = costs_none (length runs) at; done = tt; stops = subst P (sym (is ∙ none)) (part_none total name book runs at.image stands); moments = passes_none at (IsPartDone total name book runs) (Quiet at) }
 
 -- the runs before a bad line were stored
 pub stopped : {T U : Type 0} (at place total : ℕ) (name : List ℕ) (book : List Series) (runs : List Run) (v : T) (before now : View) → place ≡ at → Does NoBad total name book runs (Ok v) before now → Does {T = U} (IsAtLine at total name book runs now.image) total name book runs (Err (BadInput place)) before now
-stopped at place total name book runs v before now same does = record { done = tt; stops = record { at_is = same; after = does.done }; moments = does.moments }
+stopped at place total name book runs v before now same does = record { costs = does.costs; done = tt; stops = record { at_is = same; after = does.done }; moments = does.moments }
 
 pub stops_more : (B : ℕ → Type 0) (total : ℕ) (name : List ℕ) (book : List Series) (runs : List Run) (image : Image) (e : End) → StopsSo NoBad total name book runs image e → StopsSo B total name book runs image e
 stops_more B total name book runs image (BadInput at) why = absurd why
 stops_more B total name book runs image end why = why
 
 pub not_stopped : {T U : Type 0} (B : ℕ → Type 0) (total : ℕ) (name : List ℕ) (book : List Series) (runs : List Run) (e : End) (before now : View) → Does {T = T} NoBad total name book runs (Err e) before now → Does {T = U} B total name book runs (Err e) before now
-not_stopped {T} {U} B total name book runs e before now does = record { done = tt; stops = stops_more B total name book runs now.image e does.stops; moments = does.moments }
+not_stopped {T} {U} B total name book runs e before now does = record { costs = does.costs; done = tt; stops = stops_more B total name book runs now.image e does.stops; moments = does.moments }
 
 -- the list of sets is cleared
 pub keeps_cleared : (name : List ℕ) (old : Option Run) (kept : KeptSets) (run : OpenRun) → kept.sets.items ≡ [] → kept.ats.items ≡ [] → Keeps old run → KeepsRuns name [] old kept run
@@ -228,6 +238,10 @@ ok_keeps_as {T} (Err e) name name' waiting old kept run same keeps = tt
 
 pub does_as : {T : Type 0} (B : ℕ → Type 0) (total : ℕ) (name name' : List ℕ) (book : List Series) (runs : List Run) (result : Result T End) (old new : View) → name' ≡ name → Does B total name' book runs result old new → Does B total name book runs result old new
 does_as {T} B total name name' book runs result old new same does = let D : List ℕ → Type 0 = λ n. Does B total n book runs result old new in subst D same does
+
+-- as many sets as runs
+pub as_many : (name : List ℕ) (runs : List Run) (sets : List Edit) (ats : List ℕ) → AreSets name runs sets ats → length sets ≡ length runs
+as_many name runs sets ats are = ap length are.sets_are ∙ length-map runs (set_of name)
 
 pub runs_of_none : (name : List ℕ) (runs : List Run) (sets : List Edit) (ats : List ℕ) → AreSets name runs sets ats → length sets ≡ 0 → length runs ≡ 0
 runs_of_none name runs sets ats are none = omega (arith, none, ap length are.sets_are, length-map runs (set_of name))

@@ -1,5 +1,5 @@
 -- What is done of a line, as a work of lines says it.
-use Rattle.std.proofs.Common.{◌≡◌, ◌∙◌, ℕ, List, [], ◌++◌, Option, None, Some, Result, Ok, Err, refl, sym, subst}
+use Rattle.std.proofs.Common.{◌≡◌, ◌∙◌, ℕ, ◌+◌, List, [], ◌++◌, length, Option, None, Some, Result, Ok, Err, refl, sym, subst}
 use Rattle.std.specs.Prelude.{OnOk, IfErr}
 use Rattle.block_disk.specs.SentLaws.{sent_none}
 use Rattle.block_disk.specs.View.{View, sent_now}
@@ -15,6 +15,7 @@ use Rattle.series_load.specs.Runs.{Run}
 use Rattle.series_load.specs.Sets.{IsPartDone}
 use Rattle.series_load.specs.Steps.{Does, DoesLine, KeepsRuns, LineLeaves, closed}
 use Rattle.series_load.specs.declared.kept_sets.KeptSets.{KeptSets}
+use Rattle.series_load.proofs.CostLemmas.{costs_then}
 use Rattle.run_ends.specs.declared.ending.End.{End}
 use Rattle.series_load.specs.declared.loader.Loader.{Loader}
 use Rattle.series_load.specs.declared.open_run.OpenRun.{OpenRun}
@@ -46,17 +47,17 @@ module _ (told told' : Type 0) (held : Held) (loader loader' : Loader) (old new 
         → OnOk result (DoesOne LoadDoes Now here (Line at (Some text)) before now)
     line_one {T} at text before now (Ok v) same unsent does =
         let took = does.took in
-        let K : List ℕ → Type 0 = λ n. KeepsRuns n took.later took.new loader'.kept loader'.run in
+        let K : List ℕ → Type 0 = λ n. KeepsRuns n took.later took.still loader'.kept loader'.run in
         record {
           text = [];
-          behind = moved here took.after.new took.later loader'.first took.new loader'.points;
+          behind = moved here took.after.new took.later loader'.first took.still loader'.points (held.asked + length took.done);
           done = record {
             ends = took.ends;
             done = took.done;
             book = took.after.new;
             waiting = took.later;
             first = loader'.first;
-            open_run = took.new;
+            open_run = took.still;
             points = loader'.points;
             adds = took.adds;
             split = took.split;
@@ -69,6 +70,7 @@ module _ (told told' : Type 0) (held : Held) (loader loader' : Loader) (old new 
             stands = took.after.stands;
             keeps = subst K (sym same.name_is) took.keeps;
             quiet = none_sent held.since held.count old new (LineLeaves loader.scale loader.step at text loader.first loader.points held.total loader.name held.book held.waiting held.open_run) does.moments s.quiet;
+            costs = costs_then held.asked (length took.done) held.before old new s.costs took.costs;
             seen_is = (λ i. record {
               total = held.total;
               name = sym same.name_is i;
@@ -77,10 +79,12 @@ module _ (told told' : Type 0) (held : Held) (loader loader' : Loader) (old new 
               book = took.after.new;
               waiting = took.later;
               first = loader'.first;
-              open_run = took.new;
+              open_run = took.still;
               points = loader'.points;
               since = held.since;
               count = held.count;
+              before = held.before;
+              asked = held.asked + length took.done;
             });
           };
           sent = unsent ∙ sent_none before;
@@ -99,6 +103,7 @@ module _ (told told' : Type 0) (held : Held) (loader loader' : Loader) (old new 
       runs = does.stops.runs;
       are = does.stops.are;
       why = does.stops.why;
+      costs = costs_then held.asked (length does.stops.runs) held.before old new s.costs does.stops.costs;
       quiet = none_sent held.since held.count old new (LineLeaves loader.scale loader.step at text loader.first loader.points held.total loader.name held.book held.waiting held.open_run) does.moments s.quiet;
     }
 
@@ -124,13 +129,14 @@ module _ (told told' : Type 0) (held : Held) (loader loader' : Loader) (old new 
         let K : List ℕ → Type 0 = λ n. KeepsRuns n [] held.open_run loader'.kept loader'.run in
         record {
           text = [];
-          behind = moved here does.done.new [] loader.first held.open_run loader.points;
+          behind = moved here does.done.new [] loader.first held.open_run loader.points (held.asked + length held.waiting);
           done = record { book = does.done.new; loads = does.done.loads; behind_is = refl; unsent = refl };
           stands = record {
             is_told = is;
             stands = does.done.stands;
             keeps = subst K (sym same.name_is) keeps;
             quiet = none_sent held.since held.count old new (IsPartDone held.total loader.name held.book held.waiting) does.moments s.quiet;
+            costs = costs_then held.asked (length held.waiting) held.before old new s.costs does.costs;
             seen_is = (λ i. record {
               total = held.total;
               name = sym same.name_is i;
@@ -143,6 +149,8 @@ module _ (told told' : Type 0) (held : Held) (loader loader' : Loader) (old new 
               points = sym points i;
               since = held.since;
               count = held.count;
+              before = held.before;
+              asked = held.asked + length held.waiting;
             });
           };
           sent = unsent ∙ sent_none before;
@@ -161,13 +169,14 @@ module _ (told told' : Type 0) (held : Held) (loader loader' : Loader) (old new 
         let K : List ℕ → Type 0 = λ n. KeepsRuns n [] None loader'.kept loader'.run in
         record {
           text = [];
-          behind = moved here does.done.new [] loader.first None loader.points;
+          behind = moved here does.done.new [] loader.first None loader.points (held.asked + length (held.waiting ++ closed held.open_run));
           done = record { book = does.done.new; loads = does.done.loads; behind_is = refl; unsent = refl };
           stands = record {
             is_told = is;
             stands = does.done.stands;
             keeps = subst K (sym same.name_is) keeps;
             quiet = none_sent held.since held.count old new (IsPartDone held.total loader.name held.book (held.waiting ++ closed held.open_run)) does.moments s.quiet;
+            costs = costs_then held.asked (length (held.waiting ++ closed held.open_run)) held.before old new s.costs does.costs;
             seen_is = (λ i. record {
               total = held.total;
               name = sym same.name_is i;
@@ -180,6 +189,8 @@ module _ (told told' : Type 0) (held : Held) (loader loader' : Loader) (old new 
               points = sym points i;
               since = held.since;
               count = held.count;
+              before = held.before;
+              asked = held.asked + length (held.waiting ++ closed held.open_run);
             });
           };
           sent = unsent ∙ sent_none before;
@@ -198,6 +209,7 @@ module _ (told told' : Type 0) (held : Held) (loader loader' : Loader) (old new 
       runs = runs;
       are = are;
       why = does.stops;
+      costs = costs_then held.asked (length runs) held.before old new s.costs does.costs;
       quiet = none_sent held.since held.count old new (IsPartDone held.total loader.name held.book runs) does.moments s.quiet;
     }
 

@@ -9,11 +9,12 @@ use Rattle.series_book.specs.declared.refusals.Refusal.{Refusal}
 use Rattle.series_book.specs.Edits.{apply}
 use Rattle.stored_book.specs.Damage.{IsBadForEdit}
 use Rattle.stored_book.specs.Standing.{StandsForBook}
+use Rattle.series_load.specs.Costs.{Costs, spent_by}
 use Rattle.series_load.specs.Rows.{Reading, ReadsRows, BadFirst}
 use Rattle.chart_world.specs.Fronts.{IsWhole, first_piece}
 use Rattle.series_load.specs.Fronts.{told}
 use Rattle.series_load.specs.Runs.{Run, Ended, AllRuns, AreFirst}
-use Rattle.series_load.specs.Sets.{set_of, Loads, IsAfter, IsAfterSome, OfRefusal}
+use Rattle.series_load.specs.Sets.{set_of, Loads, IsAfter, IsAfterSome, OfRefusal, AreFirstOf}
 use Rattle.run_ends.specs.declared.ending.End.{End}
 use Rattle.run_ends.specs.declared.ending.End.TheVariants.{NoMemory, ReadFault, DiskFault, DamagedPage, BadInput, InputTooLong, UnknownSeries, Refused}
 
@@ -109,15 +110,23 @@ IsLoadCause UnknownSeries told total old new reads reads' = ⊤
 IsLoadCause (Refused at number) told total old new reads reads' = ⊤
 IsLoadCause end told total old new reads reads' = ⊥
 
+-- Some first runs of the input were stored, or tried, and their sets cost no more than they may.
+pub record CostsFirst (series : Series) (input : Option (List ℕ)) (old new : View) : Type 0 where
+  pub runs : List Run
+  pub first : AreFirstOf series.scale series.step input runs
+  pub costs : Costs (length runs) (spent_by old) new
+
 -- all of the input was loaded: what was done, whether or not the streams tell their bytes, and what a crash at a
 -- moment on the way leaves; no byte is sent
 pub record Finished (total : ℕ) (name : List ℕ) (book : List Series) (series : Series) (input : Option (List ℕ)) (count : ℕ) (old new : View) : Type 0 where
+  pub costs : CostsFirst series input old new
   pub done : IfSome input (λ bytes. IsLoaded total name book series bytes count new.image)
   pub some : IsAfterSome total name book series input new.image
   pub moments : Passes old new (IsAfterSome total name book series input) (Quiet old)
 
 -- the same, where not all of it was
 pub record Stopped (total : ℕ) (name : List ℕ) (book : List Series) (series : Series) (input left : Option (List ℕ)) (e : End) (old new : View) : Type 0 where
+  pub costs : CostsFirst series input old new
   pub ends : IfSome input (λ bytes. EndsLoad total name book series bytes left new.image e)
   pub some : KeepsSome total name book series input new.image e
   pub moments : Passes old new (IsAfterSome total name book series input) (Quiet old)

@@ -1,3 +1,4 @@
+pub mod Costs
 pub mod Fronts
 pub mod Rows
 pub mod Runs

@@ -1,10 +1,11 @@
 -- What a load holds on its way, and what is done of a line.
-use Rattle.std.specs.Prelude.{◌≡◌, ℕ, ◌≤◌, Bool, List, [], ◌++◌, Option, None, Some}
+use Rattle.std.specs.Prelude.{◌≡◌, ℕ, ◌+◌, ◌≤◌, Bool, List, [], ◌++◌, length, Option, None, Some}
 use Rattle.block_disk.specs.View.{Image, View}
 use Rattle.line_runs.specs.Given as given
 use Rattle.line_runs.specs.Given.{Given, Line, Pause}
 use Rattle.series_book.specs.declared.one_series.Series.{Series}
 use Rattle.stored_book.specs.Standing.{StandsForBook}
+use Rattle.series_load.specs.Costs.{Costs, Spent}
 use Rattle.series_load.specs.Runs.{Run}
 use Rattle.series_load.specs.Sets.{IsPartDone, Loads}
 use Rattle.series_load.specs.Steps.{IsAtLine, IsAtText, KeepsRuns, LineAdds, LineRuns, StopsSo, closed}
@@ -13,7 +14,7 @@ use Rattle.run_ends.specs.declared.ending.End.TheVariants.{DiskFault}
 use Rattle.series_load.specs.declared.loader.Loader.{Loader}
 
 -- the series and the book that the pages stand for, the runs that have ended and whose sets aren't done, how far the lines
--- were read, and since when how many bytes were sent
+-- were read, since when how many bytes were sent, what was spent before, and how many sets were done
 pub record Held : Type 0 where
   pub total : ℕ
   pub name : List ℕ
@@ -26,6 +27,8 @@ pub record Held : Type 0 where
   pub points : ℕ
   pub since : ℕ
   pub count : ℕ
+  pub before : Spent
+  pub asked : ℕ
 
 -- the same of a load whose loader is this one
 abbrev pub seen : Held → Loader → Held
@@ -41,11 +44,13 @@ seen held loader = record {
   points = loader.points;
   since = held.since;
   count = held.count;
+  before = held.before;
+  asked = held.asked;
 }
 
--- and with another book, other runs that wait, and further lines read
-abbrev pub moved : Held → List Series → List Run → Bool → Option Run → ℕ → Held
-moved held book waiting first open_run points = record {
+-- and with another book, other runs that wait, further lines read, and more sets done
+abbrev pub moved : Held → List Series → List Run → Bool → Option Run → ℕ → ℕ → Held
+moved held book waiting first open_run points asked = record {
   total = held.total;
   name = held.name;
   scale = held.scale;
@@ -57,6 +62,8 @@ moved held book waiting first open_run points = record {
   points = points;
   since = held.since;
   count = held.count;
+  before = held.before;
+  asked = asked;
 }
 
 -- no byte was sent since this moment
@@ -70,6 +77,7 @@ pub record StandsSo (told : Type 0) (at : View) (loader : Loader) (held : Held) 
   pub stands : StandsForBook at.image held.total held.book
   pub keeps : KeepsRuns loader.name held.waiting held.open_run loader.kept loader.run
   pub quiet : NoneSent held.since held.count at
+  pub costs : Costs held.asked held.before at
   pub seen_is : held ≡ seen held loader
 
 -- a line was taken: runs ended, the sets of some that waited were done, and the others wait
@@ -84,21 +92,21 @@ pub record LineTaken (held : Held) (at : ℕ) (line text : List ℕ) (behind : H
   pub adds : LineAdds held.scale held.step at line held.first held.open_run held.points ends first open_run points
   pub split : held.waiting ++ ends ≡ done ++ waiting
   pub loads : Loads held.total held.name held.book done book
-  pub behind_is : behind ≡ moved held book waiting first open_run points
+  pub behind_is : behind ≡ moved held book waiting first open_run points (held.asked + length done)
   pub unsent : text ≡ []
 
 -- at a pause the sets of the runs that wait are done
 pub record PauseTaken (held : Held) (text : List ℕ) (behind : Held) : Type 0 where
   pub book : List Series
   pub loads : Loads held.total held.name held.book held.waiting book
-  pub behind_is : behind ≡ moved held book [] held.first held.open_run held.points
+  pub behind_is : behind ≡ moved held book [] held.first held.open_run held.points (held.asked + length held.waiting)
   pub unsent : text ≡ []
 
 -- at the end that of the run that stands open is done too
 pub record EndTaken (held : Held) (text : List ℕ) (behind : Held) : Type 0 where
   pub book : List Series
   pub loads : Loads held.total held.name held.book (held.waiting ++ closed held.open_run) book
-  pub behind_is : behind ≡ moved held book [] held.first None held.points
+  pub behind_is : behind ≡ moved held book [] held.first None held.points (held.asked + length (held.waiting ++ closed held.open_run))
   pub unsent : text ≡ []
 
 abbrev pub LoadDoes : Held → Given → List ℕ → Held → Type 0
@@ -127,6 +135,7 @@ pub record LoadStops (held : Held) (it : Given) (new : View) (end : End) : Type 
   pub are : RunsBy held it runs
   pub why : StopsSo (BadBy held it new.image) held.total held.name held.book runs new.image end
   pub quiet : NoneSent held.since held.count new
+  pub costs : Costs (held.asked + length runs) held.before new
 
 pub record LoadLeaves (held : Held) (it : Given) (from : ℕ) (image : Image) (sent : ℕ) : Type 0 where
   pub runs : List Run

@@ -6,6 +6,7 @@ use Rattle.block_disk.specs.View.{Image, View, DiskKept, Now, Only, Passes, sent
 use Rattle.chart_world.specs.FaultLaws.{disk_stays, takes_stay}
 use Rattle.chart_world.specs.Faults.{CountsFault}
 use Rattle.stored_book.specs.Standing.{StandsForBook}
+use Rattle.series_load.specs.Costs.{Costs, Spent}
 use Rattle.series_load.specs.Ends.{IsLoadCause}
 use Rattle.series_load.specs.Loading.{Held, NoneSent, StandsSo}
 use Rattle.run_ends.specs.declared.ending.End.{End}
@@ -23,6 +24,14 @@ none_sent since count old new images time quiet = record {
   ];
 }
 
+-- a take costs no set
+costs_kept : (sets : ℕ) (before : Spent) (old new : View) → DiskKept old new → Costs sets before old → Costs sets before new
+costs_kept sets before old new kept costs = record {
+  reads = omega (arith, kept.reads, costs.reads);
+  syncs = omega (arith, kept.syncs, costs.syncs);
+  writes = omega (arith, kept.writes, costs.writes);
+}
+
 pub stands_taken : (told told' : Type 0) (old new : View) (loader : Loader) (held : Held) → (told → told') → DiskKept old new
     → Passes old new (Now old) (λ n. n ≡ sent_now old) → StandsSo told old loader held → StandsSo told' new loader held
 stands_taken told told' old new loader held more kept time s =
@@ -32,6 +41,7 @@ stands_taken told told' old new loader held more kept time s =
       stands = subst P (sym kept.image) s.stands;
       keeps = s.keeps;
       quiet = none_sent held.since held.count old new (Now old) time s.quiet;
+      costs = costs_kept held.asked held.before old new kept s.costs;
       seen_is = s.seen_is;
     }
 

@@ -17,6 +17,7 @@ use Rattle.series_store.specs.declared.errors.StoreError.TheVariants as store
 use Rattle.chart_world.specs.Fronts.{says}
 use Rattle.series_load.specs.Fronts.{PlacedLine}
 use Rattle.series_load.specs.Rows.{Reading, AreTable}
+use Rattle.series_load.specs.Costs.{Costs, spent_by}
 use Rattle.series_load.specs.Runs.{Run, readings, last_reading, Cut}
 use Rattle.series_load.specs.Sets.{AreSets, IsAfter, IsPartDone, IsRefusedIn, OfRefusal}
 use Rattle.run_ends.specs.declared.ending.End.{End}
@@ -131,12 +132,15 @@ NoBad at = ⊥
 
 -- What a call does where the pages stand for the book: it does the sets of these runs.
 pub record Does {T : Type 0} (B : ℕ → Type 0) (total : ℕ) (name : List ℕ) (book : List Series) (runs : List Run) (result : Result T End) (old new : View) : Type 0 where
+  pub costs : Costs (length runs) (spent_by old) new
   pub done : OnOk result (IsAfter total name book runs new.image)
   pub stops : IfErr result (λ e. StopsSo B total name book runs new.image e)
   pub moments : Passes old new (IsPartDone total name book runs) (Quiet old)
 
 -- the same of so many first of the runs
 pub record DoesFirst (total : ℕ) (name : List ℕ) (book : List Series) (runs : List Run) (result : Result ℕ End) (old new : View) : Type 0 where
+  pub costs : Costs (length runs) (spent_by old) new
+  pub few : IfOk result (λ count. Costs count (spent_by old) new)
   pub done : IfOk result (λ count. IsAfter total name book (take count runs) new.image)
   pub stops : IfErr result (λ e. StopsSo NoBad total name book runs new.image e)
   pub moments : Passes old new (IsPartDone total name book runs) (Quiet old)
@@ -155,15 +159,16 @@ Counts ats answers (Ok count) = (count ≡ length answers) × ((outcome : Outcom
 Counts ats answers (Err end) = IsLastRefused ats answers end
 
 -- a line was taken: runs ended, the sets of some that waited were done, and those of others are kept
-pub record LineTook (scale step at : ℕ) (text : List ℕ) (first : Bool) (points : ℕ) (waiting : List Run) (open_run : Option Run) (total : ℕ) (name : List ℕ) (book : List Series) (first' : Bool) (points' : ℕ) (kept : KeptSets) (run : OpenRun) (image : Image) : Type 0 where
+pub record LineTook (scale step at : ℕ) (text : List ℕ) (first : Bool) (points : ℕ) (waiting : List Run) (open_run : Option Run) (total : ℕ) (name : List ℕ) (book : List Series) (first' : Bool) (points' : ℕ) (kept : KeptSets) (run : OpenRun) (old new : View) : Type 0 where
   pub ends : List Run
-  pub new : Option Run
-  pub adds : LineAdds scale step at text first open_run points ends first' new points'
+  pub still : Option Run
+  pub adds : LineAdds scale step at text first open_run points ends first' still points'
   pub done : List Run
   pub later : List Run
   pub split : waiting ++ ends ≡ done ++ later
-  pub after : IsAfter total name book done image
-  pub keeps : KeepsRuns name later new kept run
+  pub after : IsAfter total name book done new.image
+  pub keeps : KeepsRuns name later still kept run
+  pub costs : Costs (length done) (spent_by old) new
 
 -- why a set wasn't done, whatever the pages are
 abbrev pub IsSetCause : End → Type 0 → ℕ → View → View → Type 0
@@ -216,13 +221,14 @@ module _ (scale step at : ℕ) (text : List ℕ) (first : Bool) (points total : 
     pub are : LineRuns scale step at text first points waiting open_run runs
     pub part : IsPartDone total name book runs image
 
-  pub record LineStops (image : Image) (e : End) : Type 0 where
+  pub record LineStops (old new : View) (e : End) : Type 0 where
     pub runs : List Run
     pub are : LineRuns scale step at text first points waiting open_run runs
-    pub why : StopsSo (IsAtText scale at text first total name book (waiting ++ closed open_run) image) total name book runs image e
+    pub why : StopsSo (IsAtText scale at text first total name book (waiting ++ closed open_run) new.image) total name book runs new.image e
+    pub costs : Costs (length runs) (spent_by old) new
 
   -- what taking a line does
   pub record DoesLine {T : Type 0} (result : Result T End) (first' : Bool) (points' : ℕ) (kept : KeptSets) (run : OpenRun) (old new : View) : Type 0 where
-    pub took : OnOk result (LineTook scale step at text first points waiting open_run total name book first' points' kept run new.image)
-    pub stops : IfErr result (LineStops new.image)
+    pub took : OnOk result (LineTook scale step at text first points waiting open_run total name book first' points' kept run old new)
+    pub stops : IfErr result (LineStops old new)
     pub moments : Passes old new LineLeaves (Quiet old)

@@ -21,7 +21,7 @@ use Rattle.series_store.specs.declared.series_info.SeriesInfo.{SeriesInfo}
 use Rattle.series_catalog.specs.Catalogs.{entry_of, place_of, AreFit, AreAsTold}
 use Rattle.series_catalog.specs.declared.stored_series.StoredSeries.{StoredSeries}
 use Rattle.stored_book.proofs.NumberLemmas.{numbers, small_numbers}
-use Rattle.stored_book.specs.Records.{tree_of}
+use Rattle.stored_book.specs.Records.{entry, tree_of}
 use Rattle.stored_book.specs.Standing.{IsStore, IsKept, StandsForBook}
 use Rattle.tree_walk.specs.declared.tree.Tree.{Tree}
 use Rattle.tree_walk.specs.declared.trail.Trail.{Trail}
@@ -75,6 +75,14 @@ pub kept_as : (image : Image) (s : Superblock) (book : List Series) (series : Li
 kept_as image s book series id one two store told at at' =
     let P : Entry → Type 0 = λ e. IsKept image s.total two e in
     subst P (told id one at) (store.kept id two at')
+
+-- and its tree stands for the slots of what its record and its tree stand for
+pub kept_tree : (image : Image) (total : ℕ) (items : List StoredSeries) (id : ℕ) (one : StoredSeries) (series : Series) → AreAsTold image items → slice_get items id ≡ Some one → IsKept image total series (entry image id)
+    → StandsFor image total one.tree series.slots
+kept_tree image total items id one series told at kept =
+    let P : Entry → Type 0 = λ e. IsKept image total series e in
+    let as_told : IsKept image total series (entry_of one) = subst P (told id one at) kept in
+    as_told.tree
 
 pub info_is : (image : Image) (s : Superblock) (book : List Series) (series : List StoredSeries) (id : ℕ) (one : StoredSeries) (two : Series) (info : SeriesInfo) → IsStore image s book → AreAsTold image series → slice_get series id ≡ Some one → slice_get book id ≡ Some two
     → info.id ≡ id → info.start ≡ one.start → info.step ≡ one.step → info.scale ≡ one.scale → info.slots ≡ one.tree.slots → info.span ≡ one.tree.span → IsInfo two id info

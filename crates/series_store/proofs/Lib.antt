@@ -20,8 +20,10 @@ pub mod TreeCountLemmas
 pub mod ChainLemmas
 pub mod BookCountLemmas
 pub mod SelectedLemmas
+pub mod FitLemmas
 pub mod SendLemmas
 pub mod SeriesSendLemmas
+pub mod CutLemmas
 pub mod WindowLemmas
 pub mod MetLemmas
 pub mod ReadingLemmas

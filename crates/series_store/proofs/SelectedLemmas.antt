@@ -1,15 +1,26 @@
 -- What the nodes of the selected series tell, by what the pages stand for.
-use Rattle.std.proofs.Common.{◌≡◌, ℕ, ◌<◌, List, length, Some, arith}
+use Rattle.std.proofs.Common.{◌≡◌, ℕ, ◌<◌, List, length, Some, sym, ap, ◌∙◌, arith}
 use Rattle.std.specs.List.{slice_get}
+use Rattle.catalog_page.specs.Entries.{Entry}
 use Rattle.gate_pages.specs.declared.pages.Pages.{Ghosts}
 use Rattle.om3_coeff.specs.View.{Agrees}
 use Rattle.om3_coeff.specs.declared.errors.NodeError.TheVariants.{Damaged}
 use Rattle.series_book.specs.declared.one_series.Series.{Series}
-use Rattle.stored_book.specs.Standing.{IsStore, StandsForBook}
+use Rattle.series_catalog.specs.Catalogs.{entry_of}
+use Rattle.series_catalog.specs.declared.stored_series.StoredSeries.{StoredSeries}
+use Rattle.stored_book.specs.Records.{entry}
+use Rattle.stored_book.specs.Standing.{IsKept, IsRecordOf, IsStore, StandsForBook}
 use Rattle.series_store.proofs.AskLemmas.{agrees, as_many, bad_in, own_store, there, whole_in}
-use Rattle.series_store.specs.Asking.{IsBadPage}
+use Rattle.series_store.specs.Asking.{IsBadPage, IsStoredInfo}
 use Rattle.series_store.specs.Shown as shown
+use Rattle.series_store.specs.declared.series_info.SeriesInfo.{SeriesInfo}
 use Rattle.series_store.specs.declared.store.Store.{Store}
+
+-- the axis and the scale that are told of a series are its own
+pub record IsToldOf (series : Series) (info : SeriesInfo) : Type 0 where
+  pub start : info.start ≡ series.start
+  pub step : info.step ≡ series.step
+  pub scale : info.scale ≡ series.scale
 
 module _ {P : Type 0} {g : Ghosts P} where
   -- the pages stand for a book with the numbers that the store has
@@ -19,6 +30,24 @@ module _ {P : Type 0} {g : Ghosts P} where
   -- and have a series for each of its catalog
   pub book_there : (at : Store P g) (total : ℕ) (book : List Series) (id : ℕ) → shown.IsSound at → shown.IsTold at → StandsForBook (shown.image at) total book → id < length (shown.catalog at) → (series : Series) × (slice_get book id ≡ Some series)
   book_there at total book id sound told stands low = there book id (omega (arith, low, as_many (shown.image at) (shown.numbers at) book (shown.catalog at) (own at total book sound told stands) at.count))
+
+  -- in which the record of a series and its tree stand for it
+  pub kept_at : (at : Store P g) (total : ℕ) (book : List Series) (id : ℕ) (series : Series) → shown.IsSound at → shown.IsTold at → StandsForBook (shown.image at) total book → slice_get book id ≡ Some series
+      → IsKept (shown.image at) (shown.total at) series (entry (shown.image at) id)
+  kept_at at total book id series sound told stands is = (own at total book sound told stands).kept id series is
+
+  -- what is told of a series by the catalog is so of the one that its record says
+  pub told_at : (at : Store P g) (id : ℕ) (series : Series) (info : SeriesInfo) → shown.IsSound at → shown.IsTold at → id < length (shown.catalog at) → ((one : StoredSeries) → slice_get (shown.catalog at) id ≡ Some one → IsStoredInfo one info)
+      → IsRecordOf series (entry (shown.image at) id) → IsToldOf series info
+  told_at at id series info sound told low stored record_is =
+      let one = there (shown.catalog at) id low in
+      let is = stored one.0 one.1 in
+      let says : entry (shown.image at) id ≡ entry_of one.0 = at.told sound told id one.0 one.1 in
+      record {
+        start = is.start ∙ ap (λ (e : Entry). e.start) (sym says) ∙ record_is.start;
+        step = is.step ∙ ap (λ (e : Entry). e.step) (sym says) ∙ record_is.step;
+        scale = is.scale ∙ ap (λ (e : Entry). e.scale) (sym says) ∙ record_is.scale;
+      }
 
   pub agrees_at : (at : Store P g) (total : ℕ) (book : List Series) (id : ℕ) (series : Series) → shown.IsSound at → shown.IsTold at → StandsForBook (shown.image at) total book → id < length (shown.catalog at)
       → shown.Selects at id → slice_get book id ≡ Some series → Agrees (shown.nodes at) series.slots

@@ -1,5 +1,5 @@
 -- What is said of the values of a list is given slot by slot.
-use Rattle.std.proofs.Common.{◌≡◌, ◌≢◌, ℕ, ℤ, zero, suc, ◌+◌, ◌-◌, ◌*◌, ◌^◌, ◌<◌, ◌≤◌, min, ltb, true, is_some, List, [], ◌++◌, length, take, drop, slice_get, Option, None, Some, refl, sym, ap, subst, arith, inl, inr, ◌∙◌}
+use Rattle.std.proofs.Common.{◌≡◌, ◌≢◌, ℕ, ℤ, zero, suc, ◌+◌, ◌-◌, ◌*◌, ◌^◌, ◌<◌, ◌≤◌, ltb, Bool, true, is_some, ◌&&◌, List, [], ◌++◌, length, take, drop, slice_get, Option, None, Some, refl, sym, ap, subst, arith, inl, inr, ◌∙◌}
 use Rattle.std.specs.Prelude.{Result, Ok, Err, IfErr}
 use Rattle.std.specs.Result.{IsErrAnd}
 use Rattle.std.proofs.lemmas.Bool.{cases_lt}
@@ -20,20 +20,21 @@ use Rattle.path_repair.specs.Changes.{value_of, slot_at}
 use Rattle.path_repair.specs.Damage.{AreBelow}
 use Rattle.path_repair.specs.Forms.{AreTops}
 use Rattle.path_repair.specs.Sums.{sum_below, join_below}
-use Rattle.path_repair.specs.TreePages.{is_stored, page_count}
+use Rattle.path_repair.specs.TreePages.{count_where}
 use Rattle.path_repair.proofs.CountLemmas.{count_one}
 use Rattle.path_repair.proofs.ListLemmas.{width, child_end}
 use Rattle.path_repair.proofs.SumLemmas.{sum_suc, sum_none, sum_upto}
 use Rattle.series_catalog.proofs.ReadLemmas.{risen_on}
 use Rattle.stored_book.proofs.OneBook.{slot_key_span}
-use Rattle.tree_walk.specs.Trees.{top_of_page, IsTree}
+use Rattle.tree_walk.specs.Trees.{top_of_page}
 use Rattle.series_store.specs.Counting.{Looks, IsBadFor, IsPageCause}
-use Rattle.series_store.specs.Sending.{said_of, first_said, said, texts_of, IsGiven, GivesBy, Sends, IsTextCause, IsSendCause, IsNoDamage, send_error_of, SendsPart, HasUnfitPage}
+use Rattle.series_store.specs.Sending.{said_of, first_said, is_said_in, may_be_said_in, said, texts_of, IsLeft, IsGiven, GivesBy, Sends, IsTextCause, IsSendCause, IsNoDamage, send_error_of, SendsPart, HasUnfitPage}
 use Rattle.series_store.specs.declared.errors.StoreError.{StoreError}
 use Rattle.series_store.specs.declared.errors.StoreError.TheVariants as store
 use Rattle.series_store.specs.declared.send_errors.SendError.{SendError}
 use Rattle.series_store.specs.declared.send_errors.SendError.TheVariants.{SendFault, DiskFault, Damaged, NoMemory}
-use Rattle.series_store.proofs.TreeCountLemmas.{child_stands}
+use Rattle.series_store.specs.WhereFit.{IsFitPage, IsTreeWhereFit}
+use Rattle.series_store.proofs.FitLemmas.{child_fits}
 
 sent_on : (one two : List ℕ) (before : Option (List ℕ)) → sent_after two (sent_after one before) ≡ sent_after (one ++ two) before
 sent_on one two None = refl
@@ -77,7 +78,7 @@ given_as text other waiting before now now' same sent given = record { done = gi
 
 pub by_as : (r : Result (Unit {0}) SendError) (text other waiting : List ℕ) (before now : Option (List ℕ)) → text ≡ other → GivesBy r text before now waiting → GivesBy r other before now waiting
 by_as (Ok done) text other waiting before now same given = given_as text other waiting before now now same refl given
-by_as (Err e) text other waiting before now same given = (given.0, given_as text other given.0 before now now same refl given.1)
+by_as (Err e) text other waiting before now same given = (given.0, given.1, given_as text other given.0 before now now same refl given.2)
 
 -- what is said of slots one after the other
 join_suc : (f : ℕ → List ℕ) (n : ℕ) → join_below f (suc n) ≡ join_below f n ++ f n
@@ -130,7 +131,6 @@ part_silent f first end pages at waiting order silent = record {
   gives = λ front before given.
       let same = join_same f first end order silent in
       given_as (front ++ join_below f first) (front ++ join_below f end) waiting before at.beside.sent at.beside.sent (ap (λ l. front ++ l) (sym same)) refl given;
-  sound = tt;
 }
 
 -- one part after another
@@ -138,8 +138,21 @@ pub part_then : (f : ℕ → List ℕ) (first mid end pages more : ℕ) (old bet
 part_then f first mid end pages more old between new w w' w'' r one two = record {
   reads = omega (arith, one.reads, two.reads);
   gives = λ front before given. two.gives front before (one.gives front before given);
-  sound = two.sound;
 }
+
+-- what is left of a text is left of each longer one, with what that has more
+left_more : (e : SendError) (waiting rest more : List ℕ) → IsLeft e waiting rest → IsLeft e waiting (rest ++ more)
+left_more SendFault waiting rest more left = tt
+left_more DiskFault waiting rest more left = tt
+left_more (Damaged page) waiting rest more left = (left.0 ++ more, ap (λ l. l ++ more) left.1 ∙ append_assoc waiting left.0 more)
+left_more NoMemory waiting rest more left = tt
+
+-- and all that waits is left
+left_all : (e : SendError) (waiting : List ℕ) → IsLeft e waiting waiting
+left_all SendFault waiting = tt
+left_all DiskFault waiting = tt
+left_all (Damaged page) waiting = ([], sym (append-nil waiting))
+left_all NoMemory waiting = tt
 
 -- an error leaves a front of each longer text
 pub part_stops : (f : ℕ → List ℕ) (first end last pages more : ℕ) (old new : View) (w w' : List ℕ) (e : SendError) → end ≤ last → pages ≤ more → SendsPart f first end pages old new w w' (Err e) → SendsPart f first last more old new w w' (Err e)
@@ -149,11 +162,11 @@ part_stops f first end last pages more old new w w' e order few part = record {
       let is = part.gives front before given in
       let on = join_more f end last order in (
         is.0 ++ on.0,
+        left_more e w' is.0 on.0 is.1,
         given_as (front ++ join_below f end ++ on.0) (front ++ join_below f last) (is.0 ++ on.0) before new.beside.sent new.beside.sent
             (append_assoc front (join_below f end) on.0 ∙ ap (λ l. front ++ l) (sym on.1)) refl
-            (given_front (front ++ join_below f end) on.0 is.0 before new.beside.sent is.1),
+            (given_front (front ++ join_below f end) on.0 is.0 before new.beside.sent is.2),
       );
-  sound = part.sound;
 }
 
 -- a page was read
@@ -161,14 +174,12 @@ pub part_read : (f : ℕ → List ℕ) (at : ℕ) (old new : View) (w : List ℕ
 part_read f at old new w same read = record {
   reads = read;
   gives = λ front before given. given_as (front ++ join_below f at) (front ++ join_below f at) w before old.beside.sent new.beside.sent refl (ap (λ (b : Beside). b.sent) same) given;
-  sound = tt;
 }
 
-pub part_fails : (f : ℕ → List ℕ) (at : ℕ) (old new : View) (w w' : List ℕ) (e : SendError) → new.beside ≡ old.beside → new.reads ≤ old.reads + 1 → IsNoDamage e → SendsPart f at at 1 old new w w' (Err e)
-part_fails f at old new w w' e same read sound = record {
+pub part_fails : (f : ℕ → List ℕ) (at : ℕ) (old new : View) (w : List ℕ) (e : SendError) → new.beside ≡ old.beside → new.reads ≤ old.reads + 1 → SendsPart f at at 1 old new w w (Err e)
+part_fails f at old new w e same read = record {
   reads = read;
-  gives = λ front before given. (w, given_as (front ++ join_below f at) (front ++ join_below f at) w before old.beside.sent new.beside.sent refl (ap (λ (b : Beside). b.sent) same) given);
-  sound = sound;
+  gives = λ front before given. (w, left_all e w, given_as (front ++ join_below f at) (front ++ join_below f at) w before old.beside.sent new.beside.sent refl (ap (λ (b : Beside). b.sent) same) given);
 }
 
 -- nothing is said of a slot that holds nothing
@@ -193,7 +204,7 @@ said_silent text list first end silent i low high = silent_slot text i (slot_at 
 pub is_said : (slots : ℕ) (text : ℕ → ℤ → List ℕ) (slot : ℕ) (value : ℤ) → slot < slots → first_said slots text slot value ≡ text slot value
 is_said slots text slot value within = let here : ltb slot slots ≡ true = grind (arith, nat_tests) in rw here refl
 
-slot_said : (slots : ℕ) (text : ℕ → ℤ → List ℕ) (slot : ℕ) (x : Option ℤ) → slot < slots → said_of (first_said slots text) slot x ≡ said_of text slot x
+pub slot_said : (slots : ℕ) (text : ℕ → ℤ → List ℕ) (slot : ℕ) (x : Option ℤ) → slot < slots → said_of (first_said slots text) slot x ≡ said_of text slot x
 slot_said slots text slot None within = refl
 slot_said slots text slot (Some v) within = is_said slots text slot v within
 
@@ -225,10 +236,10 @@ slot_value (Some v) s is = ap (λ (o : Option Span). least o) (sym is)
     least None = None
     least (Some s) = Some s.min
 
-value_part : (text : ℕ → ℤ → List ℕ) (list : List (Option ℤ)) (index : ℕ) (s : Span) (old new : View) (w w' : List ℕ) (r : Result (Unit {0}) SendError) → Some s ≡ span list (top_of_page 0 index) → new.reads ≡ old.reads
-    → ((t : List ℕ) (before : Option (List ℕ)) → IsGiven t before old.beside.sent w → GivesBy r (t ++ text index s.min) before new.beside.sent w') → IfErr r IsNoDamage
-    → SendsPart (said text list) (first_slot (top_of_page 0 index)) (end_slot (top_of_page 0 index)) (page_count list 0 index) old new w w' r
-value_part text list index s old new w w' r there reads gives sound =
+value_part : (text : ℕ → ℤ → List ℕ) (list : List (Option ℤ)) (pages index : ℕ) (s : Span) (old new : View) (w w' : List ℕ) (r : Result (Unit {0}) SendError) → Some s ≡ span list (top_of_page 0 index) → new.reads ≡ old.reads
+    → ((t : List ℕ) (before : Option (List ℕ)) → IsGiven t before old.beside.sent w → GivesBy r (t ++ text index s.min) before new.beside.sent w')
+    → SendsPart (said text list) (first_slot (top_of_page 0 index)) (end_slot (top_of_page 0 index)) pages old new w w' r
+value_part text list pages index s old new w w' r there reads gives =
     let holds : slot_at list index ≡ Some s.min = slot_value (slot_at list index) s (there ∙ slot_key_span list index) in
     let begin : index * 2 ^ 0 ≡ index = omega arith in
     let end : (index + 1) * 2 ^ 0 ≡ suc index = omega arith in
@@ -240,16 +251,15 @@ value_part text list index s old new w w' r there reads gives sound =
           by_as r (front ++ join_below f index ++ text index s.min) (front ++ join_below f ((index + 1) * 2 ^ 0)) w' before new.beside.sent
           (append_assoc front (join_below f index) (text index s.min) ∙ ap (λ l. front ++ l) (ap (λ l. join_below f index ++ l) (ap (λ x. said_of text index x) (sym holds)) ∙ sym (join_suc f index) ∙ ap (λ n. join_below f n) (sym end)))
           (gives (front ++ join_below f index) before start);
-      sound = sound;
     }
 
-pub part_value : (text : ℕ → ℤ → List ℕ) (list : List (Option ℤ)) (level index : ℕ) (s : Span) (old new : View) (w w' : List ℕ) (r : Result (Unit {0}) SendError) → level ≡ 0 → Some s ≡ span list (top_of_page level index) → new.reads ≡ old.reads
-    → ((t : List ℕ) (before : Option (List ℕ)) → IsGiven t before old.beside.sent w → GivesBy r (t ++ text index s.min) before new.beside.sent w') → IfErr r IsNoDamage
-    → SendsPart (said text list) (first_slot (top_of_page level index)) (end_slot (top_of_page level index)) (page_count list level index) old new w w' r
-part_value text list level index s old new w w' r is there reads gives sound =
-    let P : ℕ → Type 0 = λ l. SendsPart (said text list) (first_slot (top_of_page l index)) (end_slot (top_of_page l index)) (page_count list l index) old new w w' r in
+pub part_value : (text : ℕ → ℤ → List ℕ) (list : List (Option ℤ)) (pages level index : ℕ) (s : Span) (old new : View) (w w' : List ℕ) (r : Result (Unit {0}) SendError) → level ≡ 0 → Some s ≡ span list (top_of_page level index) → new.reads ≡ old.reads
+    → ((t : List ℕ) (before : Option (List ℕ)) → IsGiven t before old.beside.sent w → GivesBy r (t ++ text index s.min) before new.beside.sent w')
+    → SendsPart (said text list) (first_slot (top_of_page level index)) (end_slot (top_of_page level index)) pages old new w w' r
+part_value text list pages level index s old new w w' r is there reads gives =
+    let P : ℕ → Type 0 = λ l. SendsPart (said text list) (first_slot (top_of_page l index)) (end_slot (top_of_page l index)) pages old new w w' r in
     let S : ℕ → Type 0 = λ l. Some s ≡ span list (top_of_page l index) in
-    subst P (sym is) (value_part text list index s old new w w' r (subst S is there) reads gives sound)
+    subst P (sym is) (value_part text list pages index s old new w w' r (subst S is there) reads gives)
 
 -- why the text of a value wasn't sent is why the values below weren't
 pub value_cause : (e : SendError) (told : Type 0) (old new : View) (total level page : ℕ) (top : Option Span) → IsTextCause e old new → IsSendCause e told old new total level page top
@@ -293,9 +303,11 @@ given_whole_on text waiting piece waits before mid mid' now now' all same same' 
     given_whole text waiting waits before mid now given (same' ∙ sent ∙ ap (λ l. sent_after l mid') all ∙ ap (λ o. sent_after waiting o) (sym same)) none
 
 -- for want of memory the text isn't given, and what was sent is a front of both
-pub given_lost : (r : Result (Unit {0}) SendError) (P : SendError → Type 0) (text more waiting waits : List ℕ) (before now : Option (List ℕ)) → IsErrAnd r P → IsGiven text before now waiting → GivesBy r (text ++ more) before now waits
-given_lost (Ok done) P text more waiting waits before now is given = absurd is
-given_lost (Err e) P text more waiting waits before now is given = (waiting ++ more, given_front text more waiting before now given)
+pub given_lost : (r : Result (Unit {0}) SendError) (text more waiting waits : List ℕ) (before now : Option (List ℕ)) → IsErrAnd r (λ e. e ≡ NoMemory) → IsGiven text before now waiting → GivesBy r (text ++ more) before now waits
+given_lost (Ok done) text more waiting waits before now is given = absurd is
+given_lost (Err e) text more waiting waits before now is given =
+    let P : SendError → Type 0 = λ x. GivesBy (Err x) (text ++ more) before now waits in
+    subst P (sym is) (waiting ++ more, tt, given_front text more waiting before now given)
 
 -- calls that read pages and send bytes, one after the other
 pub sends_none : (told : Type 0) (at under : View) (s : Superblock) → Sends told told at at under under s s
@@ -420,6 +432,10 @@ last_child q p w e = omega (arith, ap (λ n. (q + 1) * n) e)
 next_child : (q c p : ℕ) → (128 * q + c + 1) * p ≡ (128 * q + (c + 1)) * p
 next_child q c p = omega arith
 
+-- a page of which something may be said, and where a value is stored
+pub said_here : (may : ℕ → ℕ → Bool) (slots : ℕ) (list : List (Option ℤ)) (level index : ℕ) (s : Span) → Some s ≡ span list (top_of_page level index) → may_be_said_in may slots level index ≡ true → is_said_in may slots list level index ≡ true
+said_here may slots list level index s there is = ap (λ o. is_some o && may_be_said_in may slots level index) (sym there) ∙ is
+
 -- the numbers of a part may be written otherwise
 pub part_as : (f : ℕ → List ℕ) (first end pages first' end' more : ℕ) (old new : View) (w w' : List ℕ) (r : Result (Unit {0}) SendError) → first ≡ first' → end ≡ end' → pages ≡ more → SendsPart f first end pages old new w w' r → SendsPart f first' end' more old new w w' r
 part_as f first end pages first' end' more old new w w' r same same_end same_pages part =
@@ -429,66 +445,63 @@ part_as f first end pages first' end' more old new w w' r same same_end same_pag
     subst P same (subst Q same_end (subst R same_pages part))
 
 -- how many pages the first children have
-abbrev pages_before : List (Option ℤ) → ℕ → ℕ → ℕ → ℕ
-pages_before list below index child = sum_below (λ c. page_count list below (128 * index + c)) child
+abbrev pages_before : (List (Option ℤ) → ℕ → ℕ → Bool) → List (Option ℤ) → ℕ → ℕ → ℕ → ℕ
+pages_before has list below index child = sum_below (λ c. count_where (has list) below (128 * index + c)) child
 
 -- what is said below the children before this one is given
-pub record IsSending (told told' : Type 0) (old new under under' : View) (s s' : Superblock) (text : ℕ → ℤ → List ℕ) (level below index page : ℕ) (top : Option Span) (waiting waits : List ℕ) (child : ℕ) : Type 0 where
+pub record IsSending (has : List (Option ℤ) → ℕ → ℕ → Bool) (told told' : Type 0) (old new under under' : View) (s s' : Superblock) (text : ℕ → ℤ → List ℕ) (level below index page : ℕ) (top : Option Span) (waiting waits : List ℕ) (child : ℕ) : Type 0 where
   pub sends : Sends told told' old new under under' s s'
   pub few : length waits < 16384
-  pub part : (list : List (Option ℤ)) → told → AreSlots list → IsTree old.image s.total list level index page → top ≡ span list (top_of_page level index)
-      → SendsPart (said text list) (first_slot (top_of_page level index)) (first_slot (top_of_page below (128 * index + child))) (1 + sum_below (λ c. page_count list below (128 * index + c)) child) old new waiting waits (Ok tt)
+  pub part : (list : List (Option ℤ)) → told → AreSlots list → IsTreeWhereFit old.image s.total list level index page → top ≡ span list (top_of_page level index)
+      → SendsPart (said text list) (first_slot (top_of_page level index)) (first_slot (top_of_page below (128 * index + child))) (1 + sum_below (λ c. count_where (has list) below (128 * index + c)) child) old new waiting waits (Ok tt)
 
-pub send_start : (told told' : Type 0) (old new under under' : View) (s s' : Superblock) (text : ℕ → ℤ → List ℕ) (level below index page : ℕ) (top : Option Span) (waiting : List ℕ) → level ≡ suc below → Looks told told' old new under under' s s' → new.reads ≤ old.reads + 1 → length waiting < 16384
-    → IsSending told told' old new under under' s s' text level below index page top waiting waiting 0
-send_start told told' old new under under' s s' text level below index page top waiting is looks read few = record {
+pub send_start : (has : List (Option ℤ) → ℕ → ℕ → Bool) (told told' : Type 0) (old new under under' : View) (s s' : Superblock) (text : ℕ → ℤ → List ℕ) (level below index page : ℕ) (top : Option Span) (waiting : List ℕ) → level ≡ suc below → Looks told told' old new under under' s s' → new.reads ≤ old.reads + 1 → length waiting < 16384
+    → IsSending has told told' old new under under' s s' text level below index page top waiting waiting 0
+send_start has told told' old new under under' s s' text level below index page top waiting is looks read few = record {
   sends = sends_looks told told' old new under under' s s' looks;
   few = few;
   part = λ list t slots tree top_is.
       let at = first_slot (top_of_page level index) in
       let begin : at ≡ first_slot (top_of_page below (128 * index + 0)) = ap (λ l. index * 2 ^ (7 * l)) is ∙ first_child index (2 ^ (7 * below)) (2 ^ (7 * suc below)) (width below) in
-      part_as (said text list) at at 1 at (first_slot (top_of_page below (128 * index + 0))) (1 + pages_before list below index 0) old new waiting waiting (Ok tt) refl begin
-      (omega (arith, sum_none (λ c. page_count list below (128 * index + c))))
+      part_as (said text list) at at 1 at (first_slot (top_of_page below (128 * index + 0))) (1 + pages_before has list below index 0) old new waiting waiting (Ok tt) refl begin
+      (omega (arith, sum_none (λ c. count_where (has list) below (128 * index + c))))
       (part_read (said text list) at old new waiting looks.kept.beside read);
 }
 
 -- what the last child gives
-child_part : (told told' : Type 0) (old mid new under under' : View) (s s' : Superblock) (text : ℕ → ℤ → List ℕ) (level below index page number child : ℕ) (top part : Option Span) (bytes : List ℕ) (spans : ℕ → Option Span) (waiting waits later : List ℕ) (r : Result (Unit {0}) SendError) (list : List (Option ℤ))
-    → IsSending told told' old mid under under' s s' text level below index page top waiting waits child → level ≡ suc below → page ≢ 0 → child < 128 → number ≡ child_at bytes child → part ≡ spans (127 + child) → (told → bytes ≡ old.image page)
-    → AreTops list below index (λ c. spans (127 + c)) → told → AreSlots list → IsTree old.image s.total list level index page → top ≡ span list (top_of_page level index)
-    → ((list : List (Option ℤ)) → told' → AreSlots list → IsTree mid.image s'.total list below (128 * index + child) number → part ≡ span list (top_of_page below (128 * index + child)) → SendsPart (said text list) (first_slot (top_of_page below (128 * index + child))) (end_slot (top_of_page below (128 * index + child))) (page_count list below (128 * index + child)) mid new waits later r)
-    → SendsPart (said text list) (first_slot (top_of_page level index)) (end_slot (top_of_page below (128 * index + child))) ((1 + pages_before list below index child) + page_count list below (128 * index + child)) old new waiting later r
-child_part told told' old mid new under under' s s' text level below index page number child top part bytes spans waiting waits later r list way is some within is_child is_part read tops t slots tree top_is more =
-    let stands = child_stands old.image mid.image s.total s'.total list level below index page number child part bytes spans (way.sends.image t) (ap (λ (x : Superblock). x.total) way.sends.superblock) is some within is_child is_part (read t) tops tree in
-    part_then (said text list) (first_slot (top_of_page level index)) (first_slot (top_of_page below (128 * index + child))) (end_slot (top_of_page below (128 * index + child))) (1 + pages_before list below index child) (page_count list below (128 * index + child)) old mid new waiting waits later r
+child_part : (has : List (Option ℤ) → ℕ → ℕ → Bool) (told told' : Type 0) (old mid new under under' : View) (s s' : Superblock) (text : ℕ → ℤ → List ℕ) (level below index page number child : ℕ) (top part : Option Span) (bytes : List ℕ) (spans : ℕ → Option Span) (waiting waits later : List ℕ) (r : Result (Unit {0}) SendError) (list : List (Option ℤ))
+    → IsSending has told told' old mid under under' s s' text level below index page top waiting waits child → level ≡ suc below → page ≢ 0 → child < 128 → number ≡ child_at bytes child → part ≡ spans (127 + child) → (told → bytes ≡ old.image page) → (told → IsFitPage s.total level top (old.image page))
+    → AreTops list below index (λ c. spans (127 + c)) → told → AreSlots list → IsTreeWhereFit old.image s.total list level index page → top ≡ span list (top_of_page level index)
+    → ((list : List (Option ℤ)) → told' → AreSlots list → IsTreeWhereFit mid.image s'.total list below (128 * index + child) number → part ≡ span list (top_of_page below (128 * index + child)) → SendsPart (said text list) (first_slot (top_of_page below (128 * index + child))) (end_slot (top_of_page below (128 * index + child))) (count_where (has list) below (128 * index + child)) mid new waits later r)
+    → SendsPart (said text list) (first_slot (top_of_page level index)) (end_slot (top_of_page below (128 * index + child))) ((1 + pages_before has list below index child) + count_where (has list) below (128 * index + child)) old new waiting later r
+child_part has told told' old mid new under under' s s' text level below index page number child top part bytes spans waiting waits later r list way is some within is_child is_part read fit tops t slots tree top_is more =
+    let stands = child_fits old.image mid.image s.total s'.total list level below index page number child top part bytes spans (way.sends.image t) (ap (λ (x : Superblock). x.total) way.sends.superblock) is some within is_child is_part (read t) (fit t) tops top_is tree in
+    part_then (said text list) (first_slot (top_of_page level index)) (first_slot (top_of_page below (128 * index + child))) (end_slot (top_of_page below (128 * index + child))) (1 + pages_before has list below index child) (count_where (has list) below (128 * index + child)) old mid new waiting waits later r
     (way.part list t slots tree top_is) (more list (way.sends.told t) slots stands.tree stands.top_is)
 
-pub send_on : (told told' told'' : Type 0) (old mid new under under' under'' : View) (s s' s'' : Superblock) (text : ℕ → ℤ → List ℕ) (level below index page number child : ℕ) (top part : Option Span) (bytes : List ℕ) (spans : ℕ → Option Span) (waiting waits later : List ℕ)
-    → IsSending told told' old mid under under' s s' text level below index page top waiting waits child → level ≡ suc below → page ≢ 0 → child < 128 → number ≡ child_at bytes child → part ≡ spans (127 + child) → (told → bytes ≡ old.image page)
-    → ((list : List (Option ℤ)) → told → AreSlots list → IsTree old.image s.total list level index page → top ≡ span list (top_of_page level index) → AreTops list below index (λ c. spans (127 + c)))
+pub send_on : (has : List (Option ℤ) → ℕ → ℕ → Bool) (told told' told'' : Type 0) (old mid new under under' under'' : View) (s s' s'' : Superblock) (text : ℕ → ℤ → List ℕ) (level below index page number child : ℕ) (top part : Option Span) (bytes : List ℕ) (spans : ℕ → Option Span) (waiting waits later : List ℕ)
+    → IsSending has told told' old mid under under' s s' text level below index page top waiting waits child → level ≡ suc below → page ≢ 0 → child < 128 → number ≡ child_at bytes child → part ≡ spans (127 + child) → (told → bytes ≡ old.image page) → (told → IsFitPage s.total level top (old.image page))
+    → ((list : List (Option ℤ)) → told → AreSlots list → IsTreeWhereFit old.image s.total list level index page → top ≡ span list (top_of_page level index) → AreTops list below index (λ c. spans (127 + c)))
     → Sends told' told'' mid new under' under'' s' s'' → length later < 16384
-    → ((list : List (Option ℤ)) → told' → AreSlots list → IsTree mid.image s'.total list below (128 * index + child) number → part ≡ span list (top_of_page below (128 * index + child)) → SendsPart (said text list) (first_slot (top_of_page below (128 * index + child))) (end_slot (top_of_page below (128 * index + child))) (page_count list below (128 * index + child)) mid new waits later (Ok tt))
-    → IsSending told told'' old new under under'' s s'' text level below index page top waiting later (child + 1)
-send_on told told' told'' old mid new under under' under'' s s' s'' text level below index page number child top part bytes spans waiting waits later way is some within is_child is_part read tops sends few more = record {
+    → ((list : List (Option ℤ)) → told' → AreSlots list → IsTreeWhereFit mid.image s'.total list below (128 * index + child) number → part ≡ span list (top_of_page below (128 * index + child)) → SendsPart (said text list) (first_slot (top_of_page below (128 * index + child))) (end_slot (top_of_page below (128 * index + child))) (count_where (has list) below (128 * index + child)) mid new waits later (Ok tt))
+    → IsSending has told told'' old new under under'' s s'' text level below index page top waiting later (child + 1)
+send_on has told told' told'' old mid new under under' under'' s s' s'' text level below index page number child top part bytes spans waiting waits later way is some within is_child is_part read fit tops sends few more = record {
   sends = sends_then told told' told'' old mid new under under' under'' s s' s'' way.sends sends;
   few = few;
   part = λ list t slots tree top_is.
       let next : suc child ≡ child + 1 = omega arith in
-      let pages : (1 + pages_before list below index child) + page_count list below (128 * index + child) ≡ 1 + pages_before list below index (child + 1) = omega (arith, sum_suc (λ c. page_count list below (128 * index + c)) child, ap (λ n. pages_before list below index n) next) in
-      part_as (said text list) (first_slot (top_of_page level index)) (end_slot (top_of_page below (128 * index + child))) ((1 + pages_before list below index child) + page_count list below (128 * index + child)) (first_slot (top_of_page level index)) (first_slot (top_of_page below (128 * index + (child + 1)))) (1 + pages_before list below index (child + 1)) old new waiting later (Ok tt)
+      let pages : (1 + pages_before has list below index child) + count_where (has list) below (128 * index + child) ≡ 1 + pages_before has list below index (child + 1) = omega (arith, sum_suc (λ c. count_where (has list) below (128 * index + c)) child, ap (λ n. pages_before has list below index n) next) in
+      part_as (said text list) (first_slot (top_of_page level index)) (end_slot (top_of_page below (128 * index + child))) ((1 + pages_before has list below index child) + count_where (has list) below (128 * index + child)) (first_slot (top_of_page level index)) (first_slot (top_of_page below (128 * index + (child + 1)))) (1 + pages_before has list below index (child + 1)) old new waiting later (Ok tt)
       refl (next_child index child (2 ^ (7 * below))) pages
-      (child_part told told' old mid new under under' s s' text level below index page number child top part bytes spans waiting waits later (Ok tt) list way is some within is_child is_part read (tops list t slots tree top_is) t slots tree top_is more);
+      (child_part has told told' old mid new under under' s s' text level below index page number child top part bytes spans waiting waits later (Ok tt) list way is some within is_child is_part read fit (tops list t slots tree top_is) t slots tree top_is more);
 }
 
 -- a page has at least the pages of its children
-some_stored : (list : List (Option ℤ)) (below index : ℕ) (s : Span) → Some s ≡ span list (top_of_page (suc below) index) → page_count list (suc below) index ≡ suc (pages_before list below index 128)
-some_stored list below index s there = count_one (is_stored list) below index (ap (λ (o : Option Span). is_some o) (sym there))
-
-counted : (list : List (Option ℤ)) (level below index : ℕ) (s : Span) → level ≡ suc below → Some s ≡ span list (top_of_page level index) → page_count list level index ≡ suc (pages_before list below index 128)
-counted list level below index s is there =
-    let P : ℕ → Type 0 = λ l. page_count list l index ≡ suc (pages_before list below index 128) in
-    let S : ℕ → Type 0 = λ l. Some s ≡ span list (top_of_page l index) in
-    subst P (sym is) (some_stored list below index s (subst S is there))
+counted : (has : List (Option ℤ) → ℕ → ℕ → Bool) (list : List (Option ℤ)) (level below index : ℕ) → level ≡ suc below → has list level index ≡ true → count_where (has list) level index ≡ suc (pages_before has list below index 128)
+counted has list level below index is there =
+    let P : ℕ → Type 0 = λ l. count_where (has list) l index ≡ suc (pages_before has list below index 128) in
+    let S : ℕ → Type 0 = λ l. has list l index ≡ true in
+    subst P (sym is) (count_one (has list) below index (subst S is there))
 
 ends_within : (level below index child : ℕ) → level ≡ suc below → child < 128 → end_slot (top_of_page below (128 * index + child)) ≤ end_slot (top_of_page level index)
 ends_within level below index child is within =
@@ -498,52 +511,58 @@ ends_within level below index child is within =
 pub child_range : (level below index child most : ℕ) → level ≡ suc below → child < 128 → end_slot (top_of_page level index) ≤ most → end_slot (top_of_page below (128 * index + child)) ≤ most
 child_range level below index child most is within few = omega (arith, ends_within level below index child is within, few)
 
-pub send_stops : (told told' : Type 0) (old mid new under under' : View) (s s' : Superblock) (text : ℕ → ℤ → List ℕ) (level below index page number child : ℕ) (top part : Option Span) (bytes : List ℕ) (spans : ℕ → Option Span) (span' : Span) (waiting waits later : List ℕ) (e : SendError) (list : List (Option ℤ))
-    → IsSending told told' old mid under under' s s' text level below index page top waiting waits child → level ≡ suc below → page ≢ 0 → child < 128 → number ≡ child_at bytes child → part ≡ spans (127 + child) → (told → bytes ≡ old.image page)
-    → AreTops list below index (λ c. spans (127 + c)) → told → AreSlots list → IsTree old.image s.total list level index page → top ≡ span list (top_of_page level index) → Some span' ≡ span list (top_of_page level index)
-    → ((list : List (Option ℤ)) → told' → AreSlots list → IsTree mid.image s'.total list below (128 * index + child) number → part ≡ span list (top_of_page below (128 * index + child)) → SendsPart (said text list) (first_slot (top_of_page below (128 * index + child))) (end_slot (top_of_page below (128 * index + child))) (page_count list below (128 * index + child)) mid new waits later (Err e))
-    → SendsPart (said text list) (first_slot (top_of_page level index)) (end_slot (top_of_page level index)) (page_count list level index) old new waiting later (Err e)
-send_stops told told' old mid new under under' s s' text level below index page number child top part bytes spans span' waiting waits later e list way is some within is_child is_part read tops t slots tree top_is there more =
-    part_stops (said text list) (first_slot (top_of_page level index)) (end_slot (top_of_page below (128 * index + child))) (end_slot (top_of_page level index)) ((1 + pages_before list below index child) + page_count list below (128 * index + child)) (page_count list level index) old new waiting later e
+pub send_stops : (has : List (Option ℤ) → ℕ → ℕ → Bool) (told told' : Type 0) (old mid new under under' : View) (s s' : Superblock) (text : ℕ → ℤ → List ℕ) (level below index page number child : ℕ) (top part : Option Span) (bytes : List ℕ) (spans : ℕ → Option Span) (waiting waits later : List ℕ) (e : SendError) (list : List (Option ℤ))
+    → IsSending has told told' old mid under under' s s' text level below index page top waiting waits child → level ≡ suc below → page ≢ 0 → child < 128 → number ≡ child_at bytes child → part ≡ spans (127 + child) → (told → bytes ≡ old.image page) → (told → IsFitPage s.total level top (old.image page))
+    → AreTops list below index (λ c. spans (127 + c)) → told → AreSlots list → IsTreeWhereFit old.image s.total list level index page → top ≡ span list (top_of_page level index) → has list level index ≡ true
+    → ((list : List (Option ℤ)) → told' → AreSlots list → IsTreeWhereFit mid.image s'.total list below (128 * index + child) number → part ≡ span list (top_of_page below (128 * index + child)) → SendsPart (said text list) (first_slot (top_of_page below (128 * index + child))) (end_slot (top_of_page below (128 * index + child))) (count_where (has list) below (128 * index + child)) mid new waits later (Err e))
+    → SendsPart (said text list) (first_slot (top_of_page level index)) (end_slot (top_of_page level index)) (count_where (has list) level index) old new waiting later (Err e)
+send_stops has told told' old mid new under under' s s' text level below index page number child top part bytes spans waiting waits later e list way is some within is_child is_part read fit tops t slots tree top_is there more =
+    part_stops (said text list) (first_slot (top_of_page level index)) (end_slot (top_of_page below (128 * index + child))) (end_slot (top_of_page level index)) ((1 + pages_before has list below index child) + count_where (has list) below (128 * index + child)) (count_where (has list) level index) old new waiting later e
     (ends_within level below index child is within)
-    (omega (arith, sum_upto (λ c. page_count list below (128 * index + c)) child 128 within, counted list level below index span' is there))
-    (child_part told told' old mid new under under' s s' text level below index page number child top part bytes spans waiting waits later (Err e) list way is some within is_child is_part read tops t slots tree top_is more)
+    (omega (arith, sum_upto (λ c. count_where (has list) below (128 * index + c)) child 128 within, counted has list level below index is there))
+    (child_part has told told' old mid new under under' s s' text level below index page number child top part bytes spans waiting waits later (Err e) list way is some within is_child is_part read fit tops t slots tree top_is more)
 
--- where the page wasn't read
-pub send_none : (f : ℕ → List ℕ) (list : List (Option ℤ)) (level below index : ℕ) (span' : Span) (old new : View) (waiting later : List ℕ) (e : SendError) → level ≡ suc below → Some span' ≡ span list (top_of_page level index) → new.beside ≡ old.beside → new.reads ≤ old.reads + 1 → IsNoDamage e
-    → SendsPart f (first_slot (top_of_page level index)) (end_slot (top_of_page level index)) (page_count list level index) old new waiting later (Err e)
-send_none f list level below index span' old new waiting later e is there same read sound =
-    part_stops f (first_slot (top_of_page level index)) (first_slot (top_of_page level index)) (end_slot (top_of_page level index)) 1 (page_count list level index) old new waiting later e
-    (part_order level index) (omega (arith, counted list level below index span' is there)) (part_fails f (first_slot (top_of_page level index)) old new waiting later e same read sound)
+-- where the page wasn't read, or doesn't fit
+pub send_none : (has : List (Option ℤ) → ℕ → ℕ → Bool) (f : ℕ → List ℕ) (list : List (Option ℤ)) (level below index : ℕ) (old new : View) (waiting : List ℕ) (e : SendError) → level ≡ suc below → has list level index ≡ true → new.beside ≡ old.beside → new.reads ≤ old.reads + 1
+    → SendsPart f (first_slot (top_of_page level index)) (end_slot (top_of_page level index)) (count_where (has list) level index) old new waiting waiting (Err e)
+send_none has f list level below index old new waiting e is there same read =
+    part_stops f (first_slot (top_of_page level index)) (first_slot (top_of_page level index)) (end_slot (top_of_page level index)) 1 (count_where (has list) level index) old new waiting waiting e
+    (part_order level index) (omega (arith, counted has list level below index is there)) (part_fails f (first_slot (top_of_page level index)) old new waiting e same read)
 
 -- where all children are done
-pub send_end : (told told' : Type 0) (old new under under' : View) (s s' : Superblock) (text : ℕ → ℤ → List ℕ) (level below index page child : ℕ) (top : Option Span) (span' : Span) (waiting waits : List ℕ) (list : List (Option ℤ))
-    → IsSending told told' old new under under' s s' text level below index page top waiting waits child → level ≡ suc below → child ≡ 128 → told → AreSlots list → IsTree old.image s.total list level index page → top ≡ span list (top_of_page level index) → Some span' ≡ span list (top_of_page level index)
-    → SendsPart (said text list) (first_slot (top_of_page level index)) (end_slot (top_of_page level index)) (page_count list level index) old new waiting waits (Ok tt)
-send_end told told' old new under under' s s' text level below index page child top span' waiting waits list way is end t slots tree top_is there =
+pub send_end : (has : List (Option ℤ) → ℕ → ℕ → Bool) (told told' : Type 0) (old new under under' : View) (s s' : Superblock) (text : ℕ → ℤ → List ℕ) (level below index page child : ℕ) (top : Option Span) (waiting waits : List ℕ) (list : List (Option ℤ))
+    → IsSending has told told' old new under under' s s' text level below index page top waiting waits child → level ≡ suc below → child ≡ 128 → told → AreSlots list → IsTreeWhereFit old.image s.total list level index page → top ≡ span list (top_of_page level index) → has list level index ≡ true
+    → SendsPart (said text list) (first_slot (top_of_page level index)) (end_slot (top_of_page level index)) (count_where (has list) level index) old new waiting waits (Ok tt)
+send_end has told told' old new under under' s s' text level below index page child top waiting waits list way is end t slots tree top_is there =
     let last : first_slot (top_of_page below (128 * index + child)) ≡ end_slot (top_of_page level index) =
     ap (λ c. (128 * index + c) * 2 ^ (7 * below)) end ∙ last_child index (2 ^ (7 * below)) (2 ^ (7 * suc below)) (width below) ∙ ap (λ l. (index + 1) * 2 ^ (7 * l)) (sym is) in
-    let pages : 1 + pages_before list below index child ≡ page_count list level index = omega (arith, ap (λ c. pages_before list below index c) end, counted list level below index span' is there) in
-    part_as (said text list) (first_slot (top_of_page level index)) (first_slot (top_of_page below (128 * index + child))) (1 + pages_before list below index child) (first_slot (top_of_page level index)) (end_slot (top_of_page level index)) (page_count list level index) old new waiting waits (Ok tt)
+    let pages : 1 + pages_before has list below index child ≡ count_where (has list) level index = omega (arith, ap (λ c. pages_before has list below index c) end, counted has list level below index is there) in
+    part_as (said text list) (first_slot (top_of_page level index)) (first_slot (top_of_page below (128 * index + child))) (1 + pages_before has list below index child) (first_slot (top_of_page level index)) (end_slot (top_of_page level index)) (count_where (has list) level index) old new waiting waits (Ok tt)
     refl last pages (way.part list t slots tree top_is)
 
 -- the same by what is handed on
-pub stops_by : (r : Result (Unit {0}) SendError) (e : SendError) (told told' : Type 0) (old mid new under under' : View) (s s' : Superblock) (text : ℕ → ℤ → List ℕ) (level below index page number child : ℕ) (top part : Option Span) (bytes : List ℕ) (spans : ℕ → Option Span) (span' : Span) (waiting waits later : List ℕ) (list : List (Option ℤ))
-    → IsErrAnd r (λ x. x ≡ e) → IsSending told told' old mid under under' s s' text level below index page top waiting waits child → level ≡ suc below → page ≢ 0 → child < 128 → number ≡ child_at bytes child → part ≡ spans (127 + child) → (told → bytes ≡ old.image page)
-    → AreTops list below index (λ c. spans (127 + c)) → told → AreSlots list → IsTree old.image s.total list level index page → top ≡ span list (top_of_page level index) → Some span' ≡ span list (top_of_page level index)
-    → ((list : List (Option ℤ)) → told' → AreSlots list → IsTree mid.image s'.total list below (128 * index + child) number → part ≡ span list (top_of_page below (128 * index + child)) → SendsPart (said text list) (first_slot (top_of_page below (128 * index + child))) (end_slot (top_of_page below (128 * index + child))) (page_count list below (128 * index + child)) mid new waits later (Err e))
-    → SendsPart (said text list) (first_slot (top_of_page level index)) (end_slot (top_of_page level index)) (page_count list level index) old new waiting later r
-stops_by (Ok done) e told told' old mid new under under' s s' text level below index page number child top part bytes spans span' waiting waits later list is_error way is some within is_child is_part read tops t slots tree top_is there more = absurd is_error
-stops_by (Err x) e told told' old mid new under under' s s' text level below index page number child top part bytes spans span' waiting waits later list is_error way is some within is_child is_part read tops t slots tree top_is there more =
-    let P : SendError → Type 0 = λ y. SendsPart (said text list) (first_slot (top_of_page level index)) (end_slot (top_of_page level index)) (page_count list level index) old new waiting later (Err y) in
-    subst P (sym is_error) (send_stops told told' old mid new under under' s s' text level below index page number child top part bytes spans span' waiting waits later e list way is some within is_child is_part read tops t slots tree top_is there more)
+pub stops_by : (has : List (Option ℤ) → ℕ → ℕ → Bool) (r : Result (Unit {0}) SendError) (e : SendError) (told told' : Type 0) (old mid new under under' : View) (s s' : Superblock) (text : ℕ → ℤ → List ℕ) (level below index page number child : ℕ) (top part : Option Span) (bytes : List ℕ) (spans : ℕ → Option Span) (waiting waits later : List ℕ) (list : List (Option ℤ))
+    → IsErrAnd r (λ x. x ≡ e) → IsSending has told told' old mid under under' s s' text level below index page top waiting waits child → level ≡ suc below → page ≢ 0 → child < 128 → number ≡ child_at bytes child → part ≡ spans (127 + child) → (told → bytes ≡ old.image page) → (told → IsFitPage s.total level top (old.image page))
+    → AreTops list below index (λ c. spans (127 + c)) → told → AreSlots list → IsTreeWhereFit old.image s.total list level index page → top ≡ span list (top_of_page level index) → has list level index ≡ true
+    → ((list : List (Option ℤ)) → told' → AreSlots list → IsTreeWhereFit mid.image s'.total list below (128 * index + child) number → part ≡ span list (top_of_page below (128 * index + child)) → SendsPart (said text list) (first_slot (top_of_page below (128 * index + child))) (end_slot (top_of_page below (128 * index + child))) (count_where (has list) below (128 * index + child)) mid new waits later (Err e))
+    → SendsPart (said text list) (first_slot (top_of_page level index)) (end_slot (top_of_page level index)) (count_where (has list) level index) old new waiting later r
+stops_by has (Ok done) e told told' old mid new under under' s s' text level below index page number child top part bytes spans waiting waits later list is_error way is some within is_child is_part read fit tops t slots tree top_is there more = absurd is_error
+stops_by has (Err x) e told told' old mid new under under' s s' text level below index page number child top part bytes spans waiting waits later list is_error way is some within is_child is_part read fit tops t slots tree top_is there more =
+    let P : SendError → Type 0 = λ y. SendsPart (said text list) (first_slot (top_of_page level index)) (end_slot (top_of_page level index)) (count_where (has list) level index) old new waiting later (Err y) in
+    subst P (sym is_error) (send_stops has told told' old mid new under under' s s' text level below index page number child top part bytes spans waiting waits later e list way is some within is_child is_part read fit tops t slots tree top_is there more)
 
-pub none_by : (r : Result (Unit {0}) SendError) (error : StoreError) (f : ℕ → List ℕ) (list : List (Option ℤ)) (level below index : ℕ) (span' : Span) (old new : View) (waiting later : List ℕ) → level ≡ suc below → Some span' ≡ span list (top_of_page level index) → new.beside ≡ old.beside → new.reads ≤ old.reads + 1
-    → IsErrAnd r (λ x. x ≡ send_error_of error) → error ≡ store.DiskFault → SendsPart f (first_slot (top_of_page level index)) (end_slot (top_of_page level index)) (page_count list level index) old new waiting later r
-none_by (Ok done) error f list level below index span' old new waiting later is there same read is_error fault = absurd is_error
-none_by (Err x) error f list level below index span' old new waiting later is there same read is_error fault =
-    let P : SendError → Type 0 = λ y. SendsPart f (first_slot (top_of_page level index)) (end_slot (top_of_page level index)) (page_count list level index) old new waiting later (Err y) in
-    subst P (sym (is_error ∙ ap send_error_of fault)) (send_none f list level below index span' old new waiting later DiskFault is there same read tt)
+pub none_by : (has : List (Option ℤ) → ℕ → ℕ → Bool) (r : Result (Unit {0}) SendError) (e : SendError) (f : ℕ → List ℕ) (list : List (Option ℤ)) (level below index : ℕ) (old new : View) (waiting : List ℕ) → level ≡ suc below → has list level index ≡ true → new.beside ≡ old.beside → new.reads ≤ old.reads + 1
+    → IsErrAnd r (λ x. x ≡ e) → SendsPart f (first_slot (top_of_page level index)) (end_slot (top_of_page level index)) (count_where (has list) level index) old new waiting waiting r
+none_by has (Ok done) e f list level below index old new waiting is there same read is_error = absurd is_error
+none_by has (Err x) e f list level below index old new waiting is there same read is_error =
+    let P : SendError → Type 0 = λ y. SendsPart f (first_slot (top_of_page level index)) (end_slot (top_of_page level index)) (count_where (has list) level index) old new waiting waiting (Err y) in
+    subst P (sym is_error) (send_none has f list level below index old new waiting e is there same read)
+
+-- where a page wasn't read by a fault of the disk, none was damaged
+pub fault_only : (e : SendError) (error : StoreError) → e ≡ send_error_of error → error ≡ store.DiskFault → IsNoDamage e
+fault_only e error is fault =
+    let P : StoreError → Type 0 = λ x. IsNoDamage (send_error_of x) in
+    subst IsNoDamage (sym is) (subst P (sym fault) tt)
 
 -- an error that is handed on is the result
 pub error_is : (r : Result (Unit {0}) SendError) (e : SendError) → IsErrAnd r (λ x. x ≡ e) → r ≡ Err e

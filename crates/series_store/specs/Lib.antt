@@ -9,6 +9,7 @@ pub mod Shown
 pub mod Looking
 pub mod Creating
 pub mod Counting
+pub mod WhereFit
 pub mod Sending
 pub mod Windows
 pub mod WindowReading

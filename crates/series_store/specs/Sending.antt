@@ -1,5 +1,5 @@
 -- What is sent of the values of a series.
-use Rattle.std.specs.Prelude.{ℕ, zero, suc, ℤ, ◌≡◌, ◌≢◌, ◌+◌, ◌<◌, ◌≤◌, ◌⊎◌, nat_lt, if◌then◌else◌, List, [], ◌++◌, length, Option, None, Some, Result, Ok, Err, IfErr, ⊤}
+use Rattle.std.specs.Prelude.{ℕ, zero, suc, ℤ, ◌≡◌, ◌≢◌, ◌+◌, ◌*◌, ◌<◌, ◌≤◌, ◌⊎◌, ◌&&◌, Bool, nat_lt, min, if◌then◌else◌, List, [], ◌++◌, length, Option, None, Some, Result, Ok, Err, IfErr, ⊤}
 use Rattle.block_disk.specs.Counts.{HasRisen}
 use Rattle.block_disk.specs.Streams.{sent_after}
 use Rattle.block_disk.specs.View.{Image, View, Now, sent_now, Passes}
@@ -15,12 +15,13 @@ use Rattle.node_page.specs.Fields.{child_at}
 use Rattle.path_repair.specs.Changes.{slot_at}
 use Rattle.path_repair.specs.Damage.{AreBelow}
 use Rattle.path_repair.specs.Sums.{join_below}
-use Rattle.path_repair.specs.TreePages.{page_count}
+use Rattle.path_repair.specs.TreePages.{count_where, is_stored}
 use Rattle.stored_book.specs.Records.{entry}
 use Rattle.tree_walk.specs.Trees.{IsTree, top_of_page}
 use Rattle.tree_walk.specs.declared.tree.Tree.{Tree}
 use Rattle.series_store.specs.Counting.{IsBadFor}
 use Rattle.series_store.specs.Shown as shown
+use Rattle.series_store.specs.WhereFit.{IsTreeWhereFit}
 use Rattle.series_store.specs.declared.errors.StoreError.{StoreError}
 use Rattle.series_store.specs.declared.errors.StoreError.TheVariants as store
 use Rattle.series_store.specs.declared.send_errors.SendError.{SendError}
@@ -44,6 +45,19 @@ texts_of text list = join_below (said text list) (length list)
 abbrev pub first_said : ℕ → (ℕ → ℤ → List ℕ) → ℕ → ℤ → List ℕ
 first_said slots text slot value = if nat_lt slot slots then text slot value else []
 
+-- something may be said of the first so many slots that are in the range of the page of this page level and index
+abbrev pub may_be_said_in : (ℕ → ℕ → Bool) → ℕ → ℕ → ℕ → Bool
+may_be_said_in may slots level index =
+    nat_lt (first_slot (top_of_page level index)) slots && may (first_slot (top_of_page level index)) (min (end_slot (top_of_page level index)) slots)
+
+-- and one of them holds a value
+abbrev pub is_said_in : (ℕ → ℕ → Bool) → ℕ → List (Option ℤ) → ℕ → ℕ → Bool
+is_said_in may slots list level index = is_stored list level index && may_be_said_in may slots level index
+
+-- how many pages the tree of a list has in whose range a slot holds a value, and something may be said of slots
+abbrev pub pages_said : (ℕ → ℕ → Bool) → List (Option ℤ) → ℕ
+pages_said may list = count_where (is_said_in may (length list) list) (page_levels (length list)) 0
+
 -- nothing is said of the slots from first on and below end
 abbrev pub IsSilent : (ℕ → ℤ → List ℕ) → ℕ → ℕ → Type 0
 IsSilent text first end = (slot : ℕ) (value : ℤ) → first ≤ slot → slot < end → text slot value ≡ []
@@ -54,10 +68,17 @@ pub record IsGiven (text : List ℕ) (before now : Option (List ℕ)) (waiting :
   pub split : text ≡ done ++ waiting
   pub sent : now ≡ sent_after done before
 
+-- what is left of a text after an error: where a page was damaged it begins with what waits
+abbrev pub IsLeft : SendError → List ℕ → List ℕ → Type 0
+IsLeft SendFault waiting rest = ⊤
+IsLeft DiskFault waiting rest = ⊤
+IsLeft (Damaged page) waiting rest = (more : List ℕ) × (rest ≡ waiting ++ more)
+IsLeft NoMemory waiting rest = ⊤
+
 -- after an error a front of it was sent, and the rest may be lost
 abbrev pub GivesBy : Result (Unit {0}) SendError → List ℕ → Option (List ℕ) → Option (List ℕ) → List ℕ → Type 0
 GivesBy (Ok done) text before now waiting = IsGiven text before now waiting
-GivesBy (Err e) text before now waiting = (rest : List ℕ) × IsGiven text before now rest
+GivesBy (Err e) text before now waiting = (rest : List ℕ) × IsLeft e waiting rest × IsGiven text before now rest
 
 -- pages are read and bytes are sent, and nothing else changes
 pub record Sends (told_old told_new : Type 0) (old new under_old under_new : View) (before after : Superblock) : Type 0 where
@@ -93,6 +114,40 @@ HasUnfitPage image total (suc level) page top at =
     ⊎ ((page ≢ 0) × (spans : ℕ → Option Span) × (child : ℕ) × AreBelow top (image page) spans × (child < 128)
     × HasUnfitPage image total level (child_at (image page) child) (spans (127 + child)) at)
 
+-- the same of a page with this index, where the range of the unfit one begins with this slot
+abbrev pub HasUnfitFrom : Image → ℕ → ℕ → ℕ → ℕ → Option Span → ℕ → ℕ → Type 0
+HasUnfitFrom image total zero index page top at slot = ⊥
+HasUnfitFrom image total (suc level) index page top at slot =
+    ((page ≢ 0) × (at ≡ page) × (slot ≡ first_slot (top_of_page (suc level) index)) × IsBadFor total (suc level) top (image page))
+    ⊎ ((page ≢ 0) × (spans : ℕ → Option Span) × (child : ℕ) × AreBelow top (image page) spans × (child < 128)
+    × HasUnfitFrom image total level (128 * index + child) (child_at (image page) child) (spans (127 + child)) at slot)
+
+-- what is said of the slots from first on and below this one is given behind what is said of those before them
+pub record GivesBefore (unfit : ℕ → Type 0) (saying : ℕ → List ℕ) (first : ℕ) (sent now : Option (List ℕ)) (waiting waits : List ℕ) : Type 0 where
+  pub slot : ℕ
+  pub from : unfit slot
+  pub gives : (front : List ℕ) (before : Option (List ℕ)) → IsGiven (front ++ join_below saying first) before sent waiting → IsGiven (front ++ join_below saying slot) before now waits
+
+-- so it is, where a page is damaged, of the slots before its range
+abbrev pub IsCut : SendError → (ℕ → ℕ → Type 0) → (ℕ → List ℕ) → ℕ → Option (List ℕ) → Option (List ℕ) → List ℕ → List ℕ → Type 0
+IsCut SendFault unfit saying first sent now waiting waits = ⊤
+IsCut DiskFault unfit saying first sent now waiting waits = ⊤
+IsCut (Damaged page) unfit saying first sent now waiting waits = GivesBefore (unfit page) saying first sent now waiting waits
+IsCut NoMemory unfit saying first sent now waiting waits = ⊤
+
+-- the texts of the values in the slots before a damaged page's were sent behind this one, and nothing else
+pub record SentBefore (unfit : ℕ → Type 0) (text : ℕ → ℤ → List ℕ) (list : List (Option ℤ)) (front : List ℕ) (before now : Option (List ℕ)) : Type 0 where
+  pub slot : ℕ
+  pub from : unfit slot
+  pub sent : now ≡ sent_after (front ++ join_below (said text list) slot) before
+
+-- so it is where a tree's values were sent up to a damaged page
+abbrev pub SendsCut : SendError → (ℕ → ℕ → Type 0) → (ℕ → ℤ → List ℕ) → List (Option ℤ) → List ℕ → Option (List ℕ) → Option (List ℕ) → Type 0
+SendsCut SendFault unfit text list front before now = ⊤
+SendsCut DiskFault unfit text list front before now = ⊤
+SendsCut (Damaged page) unfit text list front before now = SentBefore (unfit page) text list front before now
+SendsCut NoMemory unfit text list front before now = ⊤
+
 -- why not all values of the tree below a page of this page level were sent; a page that is named is below the total
 abbrev pub IsSendCause : SendError → Type 0 → View → View → ℕ → ℕ → ℕ → Option Span → Type 0
 IsSendCause SendFault told old new total level page top = HasRisen old.beside.send_faults new.beside.send_faults
@@ -103,6 +158,15 @@ IsSendCause NoMemory told old new total level page top = Unit {0}
 -- the same of the tree that the record of the series of this id names
 abbrev pub IsSeriesCause : SendError → Type 0 → Superblock → ℕ → View → View → Type 0
 IsSeriesCause e told s id old new = IsSendCause e told old new s.total (page_levels (entry old.image id).slots) (entry old.image id).root (entry old.image id).span
+
+-- of the tree that the record of this id names, this page is unfit for its place, and its range begins with this slot
+abbrev pub IsUnfitIn : Image → ℕ → ℕ → ℕ → ℕ → Type 0
+IsUnfitIn image total id page slot = HasUnfitFrom image total (page_levels (entry image id).slots) 0 (entry image id).root (entry image id).span page slot
+
+-- where a page of it is damaged, the texts of the values before its slots were sent
+abbrev pub CutsSeries : SendError → Image → ℕ → ℕ → (ℕ → ℤ → List ℕ) → List (Option ℤ) → List ℕ → Option (List ℕ) → Option (List ℕ) → Type 0
+CutsSeries e image total id text list front before now =
+    SendsCut e (IsUnfitIn image total id) text list front before now
 
 -- no page was damaged
 abbrev pub IsNoDamage : SendError → Type 0
@@ -124,7 +188,6 @@ send_error_of store.NoMemory = NoMemory
 pub record SendsPart (saying : ℕ → List ℕ) (first end pages : ℕ) (old new : View) (waiting waits : List ℕ) (result : Result (Unit {0}) SendError) : Type 0 where
   pub reads : new.reads ≤ old.reads + pages
   pub gives : (front : List ℕ) (before : Option (List ℕ)) → IsGiven (front ++ join_below saying first) before old.beside.sent waiting → GivesBy result (front ++ join_below saying end) before new.beside.sent waits
-  pub sound : IfErr result IsNoDamage
 
 module _ {P : Type 0} {g : Ghosts P} where
   -- the same of a space
@@ -143,14 +206,25 @@ module _ {P : Type 0} {g : Ghosts P} where
       (list : List (Option ℤ)) → spaces.IsTold it → AreSlots list → IsTree (spaces.image it) (spaces.total it) list level index page → top ≡ span list (top_of_page level index)
       → IsSo list
 
+  -- so of each list for which it stands where its pages fit
+  abbrev pub ForFitBelow : Space P g → ℕ → ℕ → ℕ → Option Span → (List (Option ℤ) → Type 0) → Type 0
+  ForFitBelow it level index page top IsSo =
+      (list : List (Option ℤ)) → spaces.IsTold it → AreSlots list → IsTreeWhereFit (spaces.image it) (spaces.total it) list level index page → top ≡ span list (top_of_page level index)
+      → IsSo list
+
   -- why not all values of a tree were sent
   abbrev pub IsCauseOf : Tree → Space P g → Space P g → SendError → Type 0
   IsCauseOf tree old new e = IsSendCause e (spaces.IsTold old) (spaces.view old) (spaces.view new) (spaces.total old) (page_levels tree.slots) tree.root tree.span
 
   -- what is said of the values of a list below a page is given behind what waited
-  abbrev pub SendsBelow : (ℕ → ℤ → List ℕ) → ℕ → ℕ → Space P g → Space P g → List ℕ → List ℕ → Result (Unit {0}) SendError → List (Option ℤ) → Type 0
-  SendsBelow text level index old new waiting waits result list =
-      SendsPart (said text list) (first_slot (top_of_page level index)) (end_slot (top_of_page level index)) (page_count list level index) (spaces.view old) (spaces.view new) waiting waits result
+  abbrev pub SendsBelow : (ℕ → ℤ → List ℕ) → (ℕ → ℕ → Bool) → ℕ → ℕ → ℕ → Space P g → Space P g → List ℕ → List ℕ → Result (Unit {0}) SendError → List (Option ℤ) → Type 0
+  SendsBelow text may slots level index old new waiting waits result list =
+      SendsPart (said text list) (first_slot (top_of_page level index)) (end_slot (top_of_page level index)) (count_where (is_said_in may slots list) level index) (spaces.view old) (spaces.view new) waiting waits result
+
+  -- and where a page below is damaged, what is said of the slots before it
+  abbrev pub CutsBelow : (ℕ → ℤ → List ℕ) → ℕ → ℕ → ℕ → Option Span → Space P g → Space P g → List ℕ → List ℕ → Result (Unit {0}) SendError → List (Option ℤ) → Type 0
+  CutsBelow text level index page top old new waiting waits result list =
+      IfErr result (λ e. IsCut e (HasUnfitFrom (spaces.image old) (spaces.total old) level index page top) (said text list) (first_slot (top_of_page level index)) (spaces.view old).beside.sent (spaces.view new).beside.sent waiting waits)
 
   -- the same of a store: what a crash may leave stays at each moment, and so does what is left of the input
   abbrev pub SendsOn : Store P g → Store P g → Type 0

@@ -14,7 +14,8 @@ use Rattle.series_book.specs.Edits.{Edited}
 use Rattle.series_catalog.specs.Shown.{series_in}
 use Rattle.series_catalog.specs.declared.catalog.Catalog.{Catalog}
 use Rattle.series_catalog.specs.declared.stored_series.StoredSeries.{StoredSeries}
-use Rattle.stored_book.specs.Standing.{StandsForBook}
+use Rattle.stored_book.specs.Records.{entry}
+use Rattle.stored_book.specs.Standing.{IsKept, StandsForBook}
 use Rattle.tree_walk.specs.PagedNodes.{Ground, ground, pages_stay, paged_view}
 use Rattle.tree_walk.specs.declared.tree.Tree.{Tree}
 use Rattle.series_store.specs.Asking.{IsTreeAt, KeepsStore, store_keeps, store_keeps_on}
@@ -24,6 +25,7 @@ use Rattle.series_store.specs.Counting.{Looks}
 use Rattle.series_store.specs.Groups.{GroupMoves, IsNoneOrAll}
 use Rattle.series_store.specs.Results.{Moves, CommitsNone}
 use Rattle.series_store.specs.declared.errors.StoreError.{StoreError}
+use Rattle.series_store.specs.WhereFit.{IsKeptWhereFit}
 use Rattle.series_store.specs.declared.store.Store.{Store}
 
 module _ {P : Type 0} {g : Ghosts P} where
@@ -117,6 +119,14 @@ module _ {P : Type 0} {g : Ghosts P} where
 
   abbrev pub ForSoundSeries : Store P g → ℕ → (ℕ → List Series → Series → Type 0) → Type 0
   ForSoundSeries it id IsSo = (total : ℕ) (book : List Series) (series : Series) → IsSound it → IsTold it → StandsForBook (image it) total book → slice_get book id ≡ Some series → IsSo total book series
+
+  -- so of the series that the record of this id and its tree stand for, whatever else the pages are
+  abbrev pub ForKept : Store P g → ℕ → (Series → Type 0) → Type 0
+  ForKept it id IsSo = (series : Series) → IsTold it → IsKept (image it) (total it) series (entry (image it) id) → IsSo series
+
+  -- so of each for which they stand where the pages of the tree fit
+  abbrev pub ForFit : Store P g → ℕ → (Series → Type 0) → Type 0
+  ForFit it id IsSo = (series : Series) → IsTold it → IsKeptWhereFit (image it) (total it) series (entry (image it) id) → IsSo series
 
   -- a call did what the book answers
   abbrev pub Answers : Result Edited Refusal → ℕ → List Series → Result Outcome StoreError → Store P g → Store P g → Type 0

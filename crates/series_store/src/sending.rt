@@ -6,7 +6,7 @@ ghost use Rattle.page_space.specs.Shown as spaces;
 ghost use Rattle.path_repair.specs.Keeping.{IsMatched};
 ghost use Rattle.tree_walk.specs.Trees.{top_of_page};
 ghost use Rattle.series_book.specs.declared.limits.TheConstants.{MOST_SLOTS};
-ghost use Rattle.series_store.specs.Sending.{first_said, ForListBelow, GivesMore, IsSendCause, IsSilent, IsTextCause, SendsBelow, SendsBy};
+ghost use Rattle.series_store.specs.Sending.{CutsBelow, first_said, ForFitBelow, ForListBelow, GivesMore, IsNoDamage, IsSendCause, IsSilent, IsTextCause, may_be_said_in, SendsBelow, SendsBy};
 
 use crate::counting::read_page;
 use crate::send_errors::SendError;
@@ -72,6 +72,7 @@ fn may_say<T: Texts>(level: u8, index: u64, slots: u64, texts: &T) -> bool
     requires slots { slots ≤ T.slots texts.now }
     ensures silent { result ≡ false → IsSilent (first_said slots (T.text texts.now)) (first_slot (top_of_page level index)) (end_slot (top_of_page level index)) }
     ensures within { IsTrue result → first_slot (top_of_page level index) < slots }
+    ensures may { result ≡ may_be_said_in (T.may_be_said texts.now) slots level index }
 {
     let top = Key {
         level: 7 * level,
@@ -109,7 +110,9 @@ pub(crate) fn send_below<P: PageWorld, T: Texts>(
     ensures quiet { OnOk result ((spaces.view space.new).faults ≡ (spaces.view space.old).faults) }
     ensures quiet_err { IfErr result (λ e. e ≢ SendError.DiskFault → (spaces.view space.new).faults ≡ (spaces.view space.old).faults) }
     ensures quiet_sends { result ≢ Err SendError.SendFault → (spaces.view space.new).beside.send_faults ≡ (spaces.view space.old).beside.send_faults }
-    ensures part { ForListBelow space.old level index page top (SendsBelow (first_said slots (T.text texts.now)) level index space.old space.new out.old.items out.new.items result) }
+    ensures part { ForFitBelow space.old level index page top (SendsBelow (first_said slots (T.text texts.now)) (T.may_be_said texts.now) slots level index space.old space.new out.old.items out.new.items result) }
+    ensures cut { ForFitBelow space.old level index page top (CutsBelow (first_said slots (T.text texts.now)) level index page top space.old space.new out.old.items out.new.items result) }
+    ensures no_damage { ForListBelow space.old level index page top (λ list. IfErr result IsNoDamage) }
 {
     let Some(span) = top else {
         return Ok(());

@@ -1,5 +1,5 @@
 //! The texts of a series' values.
-ghost use Rattle.std.specs.Prelude.{◌≡◌, ◌≤◌, ◌<◌, ◌++◌, ℕ, ℤ, List, [], false, OnOk, OnErr};
+ghost use Rattle.std.specs.Prelude.{◌≡◌, ◌≤◌, ◌<◌, ◌++◌, ℕ, ℤ, Bool, List, [], false, OnOk, OnErr};
 
 use std::alloc::AllocError;
 
@@ -11,11 +11,15 @@ pub trait Texts {
     /// It may be asked for the texts of so many slots.
     ghost slots: { Self → ℕ };
 
+    /// Something may be said of slots from this one on and below that one.
+    ghost may_be_said: { Self → ℕ → ℕ → Bool };
+
     /// Whether something may be said of slots from `first` on and below `end`. Where nothing may, their pages
     /// are passed over.
     fn may_say(&self, first: u64, end: u64) -> bool
         requires some { first < end }
         requires within { end ≤ slots self.now }
+        ensures may { result ≡ may_be_said self.now first end }
         ensures silent { result ≡ false → (slot : ℕ) (value : ℤ) → first ≤ slot → slot < end → text self.now slot value ≡ [] };
 
     /// Appends the text of a value, whole or not at all.

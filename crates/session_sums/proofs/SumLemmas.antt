@@ -4,7 +4,7 @@ use Rattle.std.specs.Prelude.{All}
 use Rattle.block_disk.specs.View.{View}
 use Rattle.chart_frames.specs.Frames.{Fits, FitsRefused, FitsRow, FitsRows, IsRange, IsSession}
 use Rattle.chart_frames.specs.declared.frame.RowsFrame.{RowsFrame}
-use Rattle.chart_frames.specs.declared.refusals.TheConstants.{SUM_TOO_LARGE}
+use Rattle.series_book.specs.declared.refusal_numbers.TheConstants.{SUM_TOO_LARGE}
 use Rattle.chart_grid.specs.Limits as window
 use Rattle.chart_grid.specs.declared.grid.Grid.{Grid}
 use Rattle.chart_service.proofs.Filtered.{few_rows}

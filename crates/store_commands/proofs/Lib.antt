@@ -1,4 +1,5 @@
 pub mod Stores
+pub mod SpendLemmas
 pub mod Held
 pub mod Moments
 pub mod LoadStored
@@ -8,6 +9,7 @@ pub mod CheckEnds
 pub mod Unopened
 pub mod ListEnds
 pub mod ExportEnds
+pub mod SalvageLemmas
 pub mod CopyLemmas
 pub mod TurnedAway
 pub mod WorldLemmas

@@ -1,5 +1,5 @@
 -- How a load ends.
-use Rattle.std.proofs.Common.{◌≡◌, ◌≢◌, ℕ, ◌<◌, ◌≤◌, List, [], Option, Some, None, Result, Ok, Err, IfSome, refl, sym, ap, subst, inl, arith, ◌∙◌}
+use Rattle.std.proofs.Common.{◌≡◌, ◌≢◌, ℕ, ◌*◌, ◌<◌, ◌≤◌, List, [], length, Option, Some, None, Result, Ok, Err, IfSome, refl, sym, ap, subst, inl, arith, ◌∙◌}
 use Rattle.block_disk.specs.Streams.{sent_after}
 use Rattle.block_disk.specs.View.{Honest, Image, View, Now, DiskKept, Passes, sent_now}
 use Rattle.block_disk.proofs.Passing.{now_back}
@@ -18,7 +18,7 @@ use Rattle.chart_service.specs.MomentLaws.{since_both, since_so}
 use Rattle.chart_service.specs.Moments.{Since}
 use Rattle.chart_service.proofs.DiskKept.{risen_since}
 use Rattle.series_load.specs.Sets.{IsAfterSome}
-use Rattle.series_load.specs.Ends.{IsLoaded}
+use Rattle.series_load.specs.Ends.{CostsFirst, IsLoaded}
 use Rattle.series_load.specs.Fronts.{PlacedLine}
 use Rattle.series_load.specs.Rows.{AreTable}
 use Rattle.series_load.specs.Runs.{AreFirst, nothing}
@@ -35,10 +35,11 @@ use Rattle.store_commands.specs.Unopened.{IsUnopenedEnd}
 use Rattle.store_commands.proofs.Held.{held}
 use Rattle.store_commands.proofs.LoadStored.{answered, err_same, failed}
 use Rattle.store_commands.proofs.Moments.{since_opened, since_sent, opened_since, opened_goes, opened_quiet}
+use Rattle.store_commands.proofs.SpendLemmas.{spends_behind, spends_opening, spends_sent}
 use Rattle.store_commands.proofs.Unopened.{opening_known, outside_ends, unopened_end}
 use Rattle.store_commands.proofs.WorldLemmas.{IsUnopened}
 use Rattle.store_commands.specs.Lacking.{HasNoRecord, LacksRecord}
-use Rattle.store_commands.specs.Loaded.{OfSeries, LoadEnds, IsAheadLoad, IsLoadEnd, LeavesLoads, HoldsSome, LoadsSome, loaded_text}
+use Rattle.store_commands.specs.Loaded.{OfSeries, LoadEnds, IsAheadLoad, IsLoadEnd, LeavesLoads, HoldsSome, LoadsFew, LoadsSome, loaded_text}
 use Rattle.store_commands.specs.Storing.{StopsAt, IsEndCause, Stores}
 
 -- ---- the store is opened first
@@ -189,6 +190,12 @@ opened_some name old new (Some input) opens = λ total book holds series named. 
 pub small_never : (old : View) (total : ℕ) (book : List Series) → HoldsBook (page_count old.size) total book old → old.size < 128 → ⊥
 small_never old total book holds small = omega (arith, small, is_large old.size total old.image book (holds.images old.image holds.honest))
 
+-- no set was done
+opened_costs : (name : List ℕ) (old new : View) (left : Option (List ℕ)) → Opens (page_count old.size) old new → IfSome left (LoadsFew name (page_count old.size) old new)
+opened_costs name old new None opens = tt
+opened_costs name old new (Some input) opens = λ total book holds series named.
+    record { runs = []; first = first_none series.scale series.step input; spends = spends_opening (page_count old.size) 0 0 0 old new opens }
+
 pub unloaded : (name : List ℕ) (old new : View) (t : Traffic) (cause : OpeningCause) (end : End) → IsUnopened old new t.left t.left_now t.sent t.sent_now cause → end ≡ opening_end cause → LoadEnds name old new t end
 unloaded name old new t cause end u same =
     let P : End → Type 0 = λ e. LoadEnds name old new t e in
@@ -198,6 +205,7 @@ unloaded name old new t cause end u same =
       lacks = λ is. absurd (opening_known cause is);
       crash = opened_ahead name old new t.left u.opens;
       kept = λ total book holds none. opened_since old new u.opens total book holds;
+      costs = opened_costs name old new t.left u.opens;
       honest = u.opens.honest;
       goes_on = opened_goes old new u.opens;
     })
@@ -227,8 +235,10 @@ stopped name old new t UnknownSeries s =
 stopped name old new t (Refused at number) s = (s.stops, s.sent_is)
 stopped name old new t end s = absurd s.cause
 
-pub stopped_ends : (name : List ℕ) (old new : View) (t : Traffic) (end : End) → Stores name (page_count old.size) old new t (Err end) → LoadEnds name old new t end
-stopped_ends name old new t end s = record {
+pub stopped_ends : (name : List ℕ) (old new : View) (t : Traffic) (end : End) → Stores name (page_count old.size) old new t (Err end) → IfSome t.left (LoadsFew name (page_count old.size) old new)
+    → LoadEnds name old new t end
+stopped_ends name old new t end s costs = record {
+  costs = costs;
   is = stopped name old new t end s;
   unnamed = λ total book holds none. (2, omega arith, sym (err_same end UnknownSeries (s.unnamed total book holds none)));
   lacks = λ is. s.lacks (ap Err is);
@@ -277,6 +287,12 @@ sent_ahead name count old mid new (Some input) readings time quiet moments some 
     })
     first
 
+sent_costs : (name : List ℕ) (count : ℕ) (old mid new : View) (left : Option (List ℕ)) → DiskKept mid new → IfSome left (LoadsFew name count old mid) → IfSome left (LoadsFew name count old new)
+sent_costs name count old mid new None kept costs = tt
+sent_costs name count old mid new (Some input) kept costs = λ total book holds series named.
+    let c = costs total book holds series named in
+    record { runs = c.runs; first = c.first; spends = spends_sent count (96 * length c.runs) (4 * length c.runs) (131 * length c.runs) old mid new kept c.spends }
+
 -- what passed through the streams, and then more
 abbrev further : Traffic → Option (List ℕ) → Option (List ℕ) → ℕ → ℕ → Traffic
 further t left' now reads_now sends_now = record {
@@ -313,8 +329,8 @@ never_unknown : (readings : ℕ) → answered readings ≡ failed UnknownSeries 
 never_unknown readings same = cc
 
 pub sent_ends : (name : List ℕ) (old mid new : View) (t : Traffic) (left' now : Option (List ℕ)) (reads_now sends_now readings : ℕ) (end : End) → left' ≡ t.left_now → Stores name (page_count old.size) old mid t (Ok readings)
-    → SendsText (loaded_text readings) mid new t.sent_now now t.sends_now sends_now end → LoadEnds name old new (further t left' now reads_now sends_now) end
-sent_ends name old mid new t left' now reads_now sends_now readings end same s text =
+    → SendsText (loaded_text readings) mid new t.sent_now now t.sends_now sends_now end → IfSome t.left (LoadsFew name (page_count old.size) old mid) → LoadEnds name old new (further t left' now reads_now sends_now) end
+sent_ends name old mid new t left' now reads_now sends_now readings end same s text costs =
     let B : Option (List ℕ) → Type 0 = λ b. SendsText (loaded_text readings) mid new b now t.sends_now sends_now end in
     let C : ℕ → Type 0 = λ n. SendsText (loaded_text readings) mid new t.sent now n sends_now end in
     let x = subst C s.sends_is (subst B s.sent_is text) in
@@ -326,11 +342,25 @@ sent_ends name old mid new t left' now reads_now sends_now readings end same s t
           absurd (subst S is x.is);
       crash = sent_ahead name (page_count old.size) old mid new t.left readings x.time s.quiet s.moments (s.some (λ same. cc)) s.done;
       kept = λ total book holds none. absurd (never_unknown readings (s.unnamed total book holds none));
+      costs = sent_costs name (page_count old.size) old mid new t.left x.kept costs;
       honest = λ h. kept_told mid new x.kept (s.honest h);
       goes_on = goes_then old mid new s.goes_on (goes_by mid new (Now mid) (λ sent. (sent_now mid ≤ sent) × (sent ≤ sent_now new)) x.time);
     }
 
 -- ---- as the calls give it
+
+pub costs_on : (name : List ℕ) (count : ℕ) (old start new : View) (left left' : Option (List ℕ)) → count ≡ page_count old.size → Opens (page_count old.size) old start → left' ≡ left
+    → OfSeries count start name (λ total book series. CostsFirst series left' start new) → IfSome left (LoadsFew name (page_count old.size) old new)
+costs_on name count old start new left left' counted opens same costs =
+    let C : ℕ → Type 0 = λ n. OfSeries n start name (λ total book series. CostsFirst series left' start new) in
+    let L : Option (List ℕ) → Type 0 = λ l. OfSeries (page_count old.size) start name (λ total book series. CostsFirst series l start new) in
+    by left (subst L same (subst C counted costs))
+  where
+    by : (l : Option (List ℕ)) → OfSeries (page_count old.size) start name (λ total book series. CostsFirst series l start new) → IfSome l (LoadsFew name (page_count old.size) old new)
+    by None costs = tt
+    by (Some input) costs = λ total book holds series named.
+        let c = costs total book (held old start opens total book holds) series named in
+        record { runs = c.runs; first = c.first; spends = spends_behind (page_count old.size) (96 * length c.runs) (4 * length c.runs) (131 * length c.runs) old start new opens c.costs.reads c.costs.syncs c.costs.writes }
 
 pub stores_on : (name : List ℕ) (count : ℕ) (old start new : View) (t t' : Traffic) (answer told : Result ℕ End) → count ≡ page_count old.size → answer ≡ told → Opens (page_count old.size) old start → start.faults ≡ old.faults → (Honest old → book_pages count start.image ≡ book_pages count old.image) → t' ≡ t
     → Stores name count start new t' answer → Stores name (page_count old.size) old new t told

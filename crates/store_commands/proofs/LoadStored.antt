@@ -16,7 +16,7 @@ use Rattle.stored_book.proofs.CurrentLemmas.{spelled_current}
 use Rattle.chart_service.specs.MomentLaws.{since_none}
 use Rattle.chart_service.specs.Moments.{Since}
 use Rattle.series_load.specs.Sets.{IsNamed, IsAfterSome, OfRefusal}
-use Rattle.series_load.specs.Ends.{IsLoaded, IsAtBad, IsAtRefusal, IsTaken, IsPast, IsLoadCause, KeepsSome, EndsLoad, Outcome}
+use Rattle.series_load.specs.Ends.{CostsFirst, IsLoaded, IsAtBad, IsAtRefusal, IsTaken, IsPast, IsLoadCause, KeepsSome, EndsLoad, Outcome}
 use Rattle.run_ends.specs.Statuses.{block_of}
 use Rattle.run_ends.specs.declared.ending.End.{End}
 use Rattle.run_ends.specs.declared.ending.End.TheVariants.{NoMemory, ReadFault, DiskFault, DamagedPage, BadInput, InputTooLong, UnknownSeries, Refused}
@@ -107,6 +107,17 @@ module _ (name : List ℕ) (count count' : ℕ) (sound sound' : Bool) (old new :
       (since_none old IsSo (λ image left_so.
       let is = holds.images image left_so in
       (record { readable = is.readable; within = within; old = is.old; so = some_at_first total name book series t.left (book_pages count image) is.stands }, refl)))
+
+  on_disk : (series : Series) → CostsFirst series t.left (pages_view count sound old) (pages_view count' sound' new) → CostsFirst series t.left old new
+  on_disk series c = record { runs = c.runs; first = c.first; costs = record { reads = c.costs.reads; syncs = c.costs.syncs; writes = c.costs.writes } }
+
+  cost_of : (answer : Result ℕ End) (total : ℕ) (book : List Series) (series : Series) → Outcome total name book series t.left t.left_now answer (pages_view count sound old) (pages_view count' sound' new) → CostsFirst series t.left old new
+  cost_of (Ok readings) total book series comes = on_disk series comes.costs
+  cost_of (Err e) total book series comes = on_disk series comes.costs
+
+  pub costs_by : (answer : Result ℕ End) → Comes answer → OfSeries count old name (λ total book series. CostsFirst series t.left old new)
+  costs_by answer comes = λ total book holds series named.
+      cost_of answer total book series (of_pages (λ total book series. Outcome total name book series t.left t.left_now answer (pages_view count sound old) (pages_view count' sound' new)) comes total book holds series named)
 
   quiet_by : (answer : Result ℕ End) → Comes answer → Finds answer → (answer ≡ Err UnknownSeries → new ≡ old) → OfBook count old (λ total book. sent_now new ≡ sent_now old)
   quiet_by answer comes finds stays = λ total book holds. elim (named_or name book) [

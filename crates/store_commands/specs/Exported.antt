@@ -19,6 +19,7 @@ use Rattle.run_ends.specs.declared.ending.End.{End}
 use Rattle.run_ends.specs.declared.ending.End.TheVariants.{Done, NoMemory, SendFault, DiskFault, DamagedPage, UnknownSeries}
 use Rattle.store_commands.specs.Loaded.{OfSeries, Unnamed}
 pub use Rattle.store_commands.specs.Loaded.{HasNone, unnamed_ends}
+use Rattle.store_commands.specs.Salvaged.{ReadsHeld, Salvages}
 use Rattle.store_commands.specs.Unopened.{IsUnopenedEnd}
 
 -- the text of the series of this name was sent, in the window if there is one
@@ -61,6 +62,9 @@ pub record ExportEnds (name : List ℕ) (window : Option Window) (old new : View
   pub crash : LeavesSame (page_count old.size) old new
   pub holds : OfBook (page_count old.size) old (λ total book. HoldsBook (page_count old.size) total book new)
   pub reads : ReadsSeries name (page_count old.size) old new
+  -- of a series that the pages hold, whatever else they are
+  pub salvaged : Salvages name window (page_count old.size) old before now end
+  pub held_reads : ReadsHeld name window (page_count old.size) old new
   -- it syncs and writes no more than an opening
   pub few : WritesFew (page_count old.size) old new
   -- reads give what a crash may leave, where they did

@@ -10,6 +10,7 @@ use Rattle.run_ends.specs.Statuses.{block_of}
 use Rattle.run_ends.specs.declared.ending.End.{End}
 use Rattle.run_ends.specs.declared.ending.End.TheVariants as ends
 use Rattle.series_book.specs.Pages.{series_pages}
+use Rattle.series_export.specs.Exports.{window_pages}
 use Rattle.series_export.specs.declared.window.Window.{Window}
 use Rattle.series_store.specs.declared.send_errors.SendError.{SendError}
 use Rattle.series_store.specs.declared.send_errors.SendError.TheVariants.{SendFault, DiskFault, Damaged, NoMemory}
@@ -20,6 +21,7 @@ use Rattle.store_commands.specs.Damaged.{IsDamagedLater}
 use Rattle.store_commands.specs.Exported.{ExportsAll, ExportsPart, HasNone, IsBadForExport}
 use Rattle.store_commands.specs.Lacking.{LacksRecord}
 use Rattle.store_commands.specs.Loaded.{OfSeries, Unnamed}
+use Rattle.store_commands.specs.Salvaged.{OfFitSeries, Salvages}
 use Rattle.store_commands.specs.Traffic.{Traffic}
 
 -- the end by what sending a series answers
@@ -50,6 +52,8 @@ pub record ExportsStore (name : List ℕ) (window : Option Window) (count : ℕ)
   pub crash : LeavesSame count old new
   pub holds : OfBook count old (λ total book. HoldsBook count total book new)
   pub reads : OfSeries count old name (λ total book series. new.reads ≤ old.reads + series_pages series.slots)
+  pub salvaged : Salvages name window count old before now end
+  pub held_reads : OfFitSeries count old name (λ series. new.reads ≤ old.reads + window_pages series window)
   pub unwritten : CommitsNone old new
   -- reads give what a crash may leave, where they did
   pub honest : Honest old → Honest new

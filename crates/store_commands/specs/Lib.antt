@@ -9,7 +9,9 @@ pub mod Sending
 pub mod Codes
 pub mod Damaged
 pub mod Lacking
+pub mod Salvaged
 pub mod Unopened
+pub mod Spending
 pub mod Loaded
 pub mod Storing
 pub mod Checked

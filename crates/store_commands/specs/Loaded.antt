@@ -1,5 +1,5 @@
 -- How a load of the input into a series of the disk's store ends.
-use Rattle.std.specs.Prelude.{◌≡◌, ℕ, ◌<◌, ◌≤◌, List, [], ◌∷◌, ◌++◌, Contains, Option, Some, None, IfSome, codes}
+use Rattle.std.specs.Prelude.{◌≡◌, ℕ, ◌*◌, ◌<◌, ◌≤◌, List, [], ◌∷◌, ◌++◌, length, Contains, Option, Some, None, IfSome, codes}
 use Rattle.std.specs.Fmt.{decimal}
 use Rattle.block_disk.specs.Counts.{HasRisen}
 use Rattle.block_disk.specs.Streams.{sent_after}
@@ -25,6 +25,7 @@ use Rattle.run_ends.specs.declared.ending.End.TheVariants.{BadInput, InputTooLon
 use Rattle.store_commands.specs.Traffic.{IsLong, Traffic, WasRead}
 use Rattle.store_commands.specs.Damaged.{IsDamagedLater}
 use Rattle.store_commands.specs.Lacking.{LacksRecord}
+use Rattle.store_commands.specs.Spending.{Spends}
 use Rattle.store_commands.specs.Unopened.{IsUnopenedEnd}
 use Rattle.store_commands.specs.Books.{OfBook, Never, LeavesSame, SendsPartOf, HoldsPages}
 
@@ -82,6 +83,16 @@ LoadsTaken name count old new input bytes = OfSeries count old name (λ total bo
 abbrev pub LoadsWithin : List ℕ → ℕ → View → View → List ℕ → Type 0
 LoadsWithin name count old new input = OfSeries count old name (λ total book series. HoldsPages count total (IsPast total name book series input) new)
 
+-- The sets of some first runs of the input were done, or tried: each reads 96 blocks at most, and is one commit at most, of four
+-- syncs and 131 writes.
+pub record SpendsRuns (count : ℕ) (series : Series) (input : List ℕ) (old new : View) : Type 0 where
+  pub runs : List Run
+  pub first : AreFirst series.scale series.step input runs
+  pub spends : Spends count (96 * length runs) (4 * length runs) (131 * length runs) old new
+
+abbrev pub LoadsFew : List ℕ → ℕ → View → View → List ℕ → Type 0
+LoadsFew name count old new input = OfSeries count old name (λ total book series. SpendsRuns count series input old new)
+
 -- The sets of some first runs were done, and the next one is refused. The place tells the offset of its run's first line
 -- and the refusal's number.
 abbrev pub RefusesSet : List ℕ → ℕ → View → View → List ℕ → ℕ → Type 0
@@ -138,6 +149,7 @@ pub record LoadEnds (name : List ℕ) (old new : View) (t : Traffic) (end : End)
   pub lacks : end ≡ UnknownSeries → LacksRecord (page_count old.size) old name
   pub crash : IfSome t.left (λ input. LeavesLoads name (page_count old.size) input old new)
   pub kept : LeavesUnnamed name (page_count old.size) old new
+  pub costs : IfSome t.left (LoadsFew name (page_count old.size) old new)
   -- reads give what a crash may leave, where they did
   pub honest : Honest old → Honest new
   pub goes_on : GoesOn old new

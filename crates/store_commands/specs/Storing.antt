@@ -14,7 +14,7 @@ use Rattle.stored_book.specs.Standing.{RecoversTo}
 use Rattle.disk_store.specs.Held.{HoldsBook}
 use Rattle.chart_service.specs.Moments.{Since}
 use Rattle.series_load.specs.Sets.{IsAfterSome}
-use Rattle.series_load.specs.Ends.{IsLoaded}
+use Rattle.series_load.specs.Ends.{CostsFirst, IsLoaded}
 use Rattle.store_commands.specs.Traffic.{IsLong, Traffic, WasRead}
 use Rattle.store_commands.specs.Damaged.{IsDamagedLater}
 use Rattle.store_commands.specs.Books.{OfBook, Never, IsOnBook, HoldsPages}
@@ -61,6 +61,11 @@ pub record Stores (name : List ℕ) (count : ℕ) (old new : View) (t : Traffic)
   -- reads give what a crash may leave, where they did
   pub honest : Honest old → Honest new
   pub goes_on : GoesOn old new
+
+-- what its sets cost, over the pages of an open store on a world
+abbrev pub CostsOn : {W : Type 0} {disk : Ghosts W} → List ℕ → (W → View) → (W → Option (List ℕ)) → GatePages W disk → W → Type 0
+CostsOn name view left pages new =
+    OfSeries (gate.count pages) (view (gate.disk pages)) name (λ total book series. CostsFirst series (left (gate.disk pages)) (view (gate.disk pages)) (view new))
 
 -- the same over the pages of an open store on a world, by what passed through the streams
 abbrev pub StoresOn : {W : Type 0} {disk : Ghosts W} → List ℕ → (W → View) → GatePages W disk → W → Traffic → Result ℕ End → Type 0

@@ -7,7 +7,7 @@ ghost use Rattle.run_ends.specs.Faults.{end_fault};
 ghost use Rattle.run_ends.specs.Statuses.{status_of};
 ghost use Rattle.series_store.specs.Shown as shown;
 ghost use Rattle.store_commands.specs.Loaded.{LoadEnds, loaded_text};
-ghost use Rattle.store_commands.specs.Storing.{StoresOn};
+ghost use Rattle.store_commands.specs.Storing.{CostsOn, StoresOn};
 ghost use Rattle.store_commands.specs.Away.{TurnsAway};
 ghost use Rattle.store_commands.specs.Books.{HoldsAgain};
 ghost use Rattle.store_commands.specs.Traffic.{traffic};
@@ -51,6 +51,7 @@ fn load_store<W: World>(
 ) -> (Result<u64, End>, W)
     requires { AreSound (shown.pages store) }
     ensures stores { let pages = shown.pages store in StoresOn name.now W.view pages result.1 (traffic W.left W.sent W.read_faults W.send_faults (disk pages) result.1) result.0 }
+    ensures costs { CostsOn name.now W.view W.left (shown.pages store) result.1 }
     ensures faults { CountsFault (fault_in end_fault result.0) (W.view (disk (shown.pages store))) (W.view result.1) }
 {
     let answer = load(alloc, &mut store, name);

@@ -9,4 +9,5 @@ pub mod CurrentLemmas
 pub mod EmptyLemmas
 pub mod OneBook
 pub mod TellingLemmas
+pub mod OneSeriesLemmas
 pub mod TrailLemmas

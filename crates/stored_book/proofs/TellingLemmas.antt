@@ -49,7 +49,7 @@ slots_are image total tree list stands =
     let within : i < length list = omega (arith, low, stands.slots) in
     sym (slot_is list i None within) ∙ sym (value_is image total tree list i stands within)))
 
-series_are : (image : Image) (total : ℕ) (series : Series) (e : Entry) → IsKept image total series e → series ≡ series_told image e
+pub series_are : (image : Image) (total : ℕ) (series : Series) (e : Entry) → IsKept image total series e → series ≡ series_told image e
 series_are image total series e is =
     equal series (series_told image e)
     (sym is.record_is.name)

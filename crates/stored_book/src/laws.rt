@@ -12,6 +12,7 @@ ghost use Rattle.store_upgrade.specs.Upgraded.{current};
 ghost use Rattle.stored_book.specs.Books.{book_of};
 ghost use Rattle.stored_book.specs.Standing.{IsStore, PagesStand, StandsForBook, RecoversTo};
 ghost use Rattle.stored_book.specs.Changing.{IsSameImage};
+ghost use Rattle.stored_book.specs.OneSeries.{BooksHoldTheirSeries, NamesHaveOneSeries};
 ghost use Rattle.stored_book.specs.Laws.{SeriesHaveTheirTrees, ChangedSeriesStand, AddedSeriesStand, FullTreesAreFullBooks};
 
 /// Pages stand for one book alone, with one total.
@@ -65,6 +66,12 @@ pub fn same_pages_stand()
 /// Where pages stand for a book, each series has a tree, beside which the pages of the others are in use.
 pub fn series_have_their_trees()
     ensures { SeriesHaveTheirTrees }
+{}
+
+/// Pages that stand for a book hold each of its series by itself. Whatever else they are, they hold one of a name at most.
+pub fn books_hold_their_series()
+    ensures each { BooksHoldTheirSeries }
+    ensures one { NamesHaveOneSeries }
 {}
 
 /// Where the tree of a series is changed and then its record, the pages stand for the book with the changed series.

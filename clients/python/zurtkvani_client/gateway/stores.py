@@ -9,6 +9,7 @@ from .. import store_file
 from ..store import Series
 from ..timestamps import UNITS, unit_of
 from ..unfit import Unfit
+from ..words import numbers_of
 from . import child
 from .labels import NAME, text_of
 from .log import tell
@@ -20,7 +21,7 @@ MOST_SERIES = 512  # of a store
 MOST_LOST = 8  # runs that end while they make series, until those who asked for them are told
 START_SECONDS = 30  # until a run that is started again stands
 MOST_LABELS = 4000  # bytes of a series' labels
-FULL, EXISTS, TOO_MANY = 21, 9, 10  # refusals
+FULL, EXISTS, TOO_MANY = numbers_of("Full", "SeriesExists", "TooManySeries")
 
 
 class Known:

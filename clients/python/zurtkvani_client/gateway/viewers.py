@@ -11,6 +11,7 @@ import struct
 import time
 
 from ..page_rules import CLOSED, GONE, OPENED, REFUSED, SESSION_OPEN, SWEEP, UNKNOWN_SESSION, refusal_in
+from ..words import numbers_of
 from .sessions import FIRST_OWN, Sessions
 
 MOST_CACHE = 131_072
@@ -23,7 +24,7 @@ LINE = re.compile(
     rb"|sum (?P<summer>[1-9][0-9]{0,9}) (?P<sum>NAME NAME( -?[0-9]{1,19}){2} WINDOW))\r?".replace(b"NAME", b"[A-Za-z0-9_.-]{1,31}")
     .replace(b"WINDOW", b"[0-9]{1,4} [0-9]{1,4}( -?[0-9]{1,19}){2} (?:auto|-?[0-9]{1,19}[.]{2}-?[0-9]{1,19})")
 )
-UNKNOWN_SERIES, NO_VIEW = 8, 16  # numbers of refusals
+UNKNOWN_SERIES, NO_VIEW = numbers_of("UnknownSeries", "NoView")
 MOST_PUSHES = 64  # frames that wait for a page
 
 

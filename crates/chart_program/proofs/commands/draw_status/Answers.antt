@@ -31,7 +31,7 @@ returns-clause-ends g c =
     subst S (sym c.status_of.ensures.status)
     (subst E (sym c.drawing_end.ensures)
     (drawn (view old) (view new) (left old) (left new) (sent old) (sent new) faults (record { one = c.one_frame_a_spelling.ensures; told = c.length_is_told.ensures; good = c.spellings_are_good.ensures }) c.more_bytes_mend_nothing.ensures.stays
-    c.replies_draw_the_book.ensures c.one_session_draws_the_book.ensures c.replies_are_accepted.ensures c.own_replies_are_accepted.ensures c.draw-answer.result e.done (read_on c.draw-answer.result (left old) (left new) e.within e.whole) e.ends e.read e.send e.disk))
+    c.frames_draw_the_book.ensures.book c.frames_draw_the_book.ensures.good c.draw-answer.result e.done (read_on c.draw-answer.result (left old) (left new) e.within e.whole) e.ends e.read e.send e.disk))
 
 pub returns-clause-faults : goal.returns-clause-faults
 returns-clause-faults g c =
@@ -51,4 +51,4 @@ returns-clause-does g c =
     let e = c.draw-answer.ensures in
     let known : Known = record { one = c.one_frame_a_spelling.ensures; told = c.length_is_told.ensures; good = c.spellings_are_good.ensures } in
     let E : End → Type 0 = λ x. Draws None at x in
-    (c.drawing_end.result, c.status_of.ensures.status, subst E (sym c.drawing_end.ensures) (drawn_by at None known c.more_bytes_mend_nothing.ensures.stays c.replies_draw_the_book.ensures c.one_session_draws_the_book.ensures c.replies_are_accepted.ensures c.own_replies_are_accepted.ensures c.draw-answer.result e.done (read_on c.draw-answer.result at.left at.left_now e.within e.whole) e.ends e.disk))
+    (c.drawing_end.result, c.status_of.ensures.status, subst E (sym c.drawing_end.ensures) (drawn_by at None known c.more_bytes_mend_nothing.ensures.stays c.frames_draw_the_book.ensures.book c.frames_draw_the_book.ensures.good c.draw-answer.result e.done (read_on c.draw-answer.result at.left at.left_now e.within e.whole) e.ends e.disk))

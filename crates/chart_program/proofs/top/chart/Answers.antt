@@ -9,7 +9,7 @@ use Rattle.chart_program.proofs.Apart.{apart}
 use Rattle.chart_program.proofs.CommandCodes.{never}
 use Rattle.chart_program.proofs.ExactRuns.{drawings_told, runs_begun, runs_made}
 use Rattle.chart_program.proofs.LivesLemmas.{lives_told}
-use Rattle.chart_program.proofs.Parsing.{told_good, replies_good, covers_book}
+use Rattle.chart_program.proofs.DrawnBook.{told_good, covers_book}
 use Rattle.chart_program.proofs.Codes.{told_both}
 use Rattle.chart_program.proofs.Words.{of_command, with_operands, chart_codes, streams, one_init, one_draw, completes, covers_complete, good_never, wrong_never, wrong_end}
 use Rattle.chart_program.proofs.OneCommand.{by_words}
@@ -531,7 +531,7 @@ returns-in-Err-NoMemory-clause-unknown g c = λ is. apart (sym c.status_of-in-Er
 pub returns-in-Ok-clause-covered : goal.returns-in-Ok-clause-covered
 returns-in-Ok-clause-covered g c =
     let e = c.status_of_command.ensures.ends in
-    covers_complete c.args.words.now _ c.in-Ok.command _ _ _ (replies_good c.replies_are_accepted.ensures c.own_replies_are_accepted.ensures) c.in-Ok.ensures.command e.complete
+    covers_complete c.args.words.now _ c.in-Ok.command _ _ _ c.frames_draw_the_book.ensures.good c.in-Ok.ensures.command e.complete
 
 pub returns-in-Err-Wrong-clause-covered : goal.returns-in-Err-Wrong-clause-covered
 returns-in-Err-Wrong-clause-covered g c = λ given.
@@ -544,8 +544,7 @@ pub returns-in-Ok-clause-covers : goal.returns-in-Ok-clause-covers
 returns-in-Ok-clause-covers g c =
     let e = c.status_of_command.ensures.ends in
     λ is. of_command _ c.in-Ok.command c.in-Ok.command _ refl c.in-Ok.ensures.command
-    (covers_book (record { one = c.one_frame_a_spelling.ensures; told = c.length_is_told.ensures; good = c.spellings_are_good.ensures }) c.replies_draw_the_book.ensures c.one_session_draws_the_book.ensures
-    c.in-Ok.command (g.W.Disk.view c.args.world) (g.W.Disk.view c.status_of_command.result.1) (g.W.Streams.left c.args.world) (g.W.Streams.sent c.args.world) (g.W.Streams.sent c.status_of_command.result.1) (e.done is))
+    (covers_book c.frames_draw_the_book.ensures.book c.in-Ok.command (g.W.Disk.view c.args.world) (g.W.Disk.view c.status_of_command.result.1) (g.W.Streams.left c.args.world) (g.W.Streams.sent c.args.world) (g.W.Streams.sent c.status_of_command.result.1) (e.done is))
 
 pub returns-in-Err-Wrong-clause-covers : goal.returns-in-Err-Wrong-clause-covers
 returns-in-Err-Wrong-clause-covers g c = λ is. apart (sym c.status_of.ensures.code ∙ is) refl

@@ -1,4 +1,4 @@
-use Rattle.std.proofs.Common.{◌≢◌, ℕ, Err, sym, subst, ◌∙◌}
+use Rattle.std.proofs.Common.{◌≢◌, ℕ, Err, length, sym, subst, ◌∙◌}
 use Rattle.std.specs.Prelude.{IsTrue}
 use Rattle.chart_world.specs.Faults.{CountsFault, fault_in}
 use Rattle.gate_pages.specs.GatePages.{IsClosed}
@@ -8,6 +8,7 @@ use Rattle.run_ends.specs.Faults.{end_fault}
 use Rattle.demo_workload.specs.Workload.{workload}
 use Rattle.store_commands.proofs.Stores.{store_disk, store_sound}
 use Rattle.demo_workload.specs.Answered.{Answered}
+use Rattle.demo_workload.specs.Ending.{CostsRequests}
 use Rattle.store_commands.proofs.Held.{rests_new}
 use Rattle.demo_workload.proofs.DemoRequests.{answered_by}
 use Rattle.demo_workload.proofs.demo.answer_all.Goals as goal
@@ -42,3 +43,14 @@ returns-clause-faults g c =
     let same_disk = c.disk_of.ensures.disk ∙ store_disk c.into_store.result after.store c.into_store.ensures in
     let D : g.row.W.Denot → Type 0 = λ d. CountsFault (fault_in end_fault answer) (view (shown.pages c.args.service).disk) (view d) in
     subst D (sym same_disk) c.run_workload-answer.ensures.faults
+
+pub returns-clause-costs : goal.returns-clause-costs
+returns-clause-costs g c =
+    let view = g.W.Disk.view in
+    let after = c.run_workload-answer.new.service in
+    let same_disk = c.disk_of.ensures.disk ∙ store_disk c.into_store.result after.store c.into_store.ensures in
+    let made = c.run_workload-answer.ensures.costs in
+    let old = view (shown.pages c.args.service).disk in
+    let R : ℕ → Type 0 = λ n. CostsRequests (length (workload c.args.seed n)) old (view (shown.pages after).disk) in
+    let D : g.row.W.Denot → Type 0 = λ d. CostsRequests (length (workload c.args.seed c.args.rounds)) old (view d) in
+    subst D (sym same_disk) (subst R c.from.ensures (record { syncs = made.syncs; writes = made.writes }))

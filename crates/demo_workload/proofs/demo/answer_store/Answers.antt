@@ -1,4 +1,4 @@
-use Rattle.std.proofs.Common.{None, Err, refl, sym, subst, ◌∙◌}
+use Rattle.std.proofs.Common.{None, Err, length, refl, sym, subst, ◌∙◌}
 use Rattle.chart_world.specs.Faults.{CountsFault}
 use Rattle.chart_world.specs.FaultLaws.{counts_none}
 use Rattle.series_store.specs.Shown as shown
@@ -6,7 +6,9 @@ use Rattle.run_ends.specs.declared.ending.End.TheVariants.{NoMemory}
 use Rattle.demo_workload.specs.Workload.{workload}
 use Rattle.store_commands.proofs.Stores.{store_disk}
 use Rattle.demo_workload.specs.Answered.{Answered}
+use Rattle.demo_workload.specs.Ending.{CostsRequests}
 use Rattle.demo_workload.proofs.DemoRequests.{answered_none}
+use Rattle.demo_workload.proofs.Moved.{costs_none}
 use Rattle.demo_workload.proofs.demo.answer_store.Goals as goal
 
 pub returns-in-Err-clause-answered : goal.returns-in-Err-clause-answered
@@ -25,3 +27,11 @@ returns-in-Err-clause-faults g c =
     let old = view (shown.pages c.args.store).disk in
     let D : g.row.W.Denot → Type 0 = λ d. CountsFault None old (view d) in
     subst D (sym (c.disk_of.ensures.disk ∙ store_disk c.in-Err.field-0.value c.args.store c.in-Err.ensures.back)) (counts_none old old refl refl refl)
+
+pub returns-in-Err-clause-costs : goal.returns-in-Err-clause-costs
+returns-in-Err-clause-costs g c =
+    let view = g.W.Disk.view in
+    let old = view (shown.pages c.args.store).disk in
+    let requests = length (workload c.args.seed c.args.rounds) in
+    let D : g.row.W.Denot → Type 0 = λ d. CostsRequests requests old (view d) in
+    subst D (sym (c.disk_of.ensures.disk ∙ store_disk c.in-Err.field-0.value c.args.store c.in-Err.ensures.back)) (costs_none requests old)

@@ -11,7 +11,7 @@ use Rattle.demo_workload.specs.Summaries.{summary_line}
 use Rattle.demo_workload.specs.Workload.{workload}
 use Rattle.demo_workload.proofs.DemoRequests.{answered_opened}
 use Rattle.demo_workload.proofs.DemoSent.{sent_ends}
-use Rattle.demo_workload.proofs.DemoEnds.{again_answered, undemonstrated, stopped_ends}
+use Rattle.demo_workload.proofs.DemoEnds.{again_answered, costs_behind, undemonstrated, stopped_ends}
 use Rattle.std.specs.Prelude.{◌≤◌}
 use Rattle.block_disk.specs.View.{sent_now}
 use Rattle.gate_pages.specs.Journal.{page_count}
@@ -38,6 +38,7 @@ returns-in-Ok-answer-clause-ends g c =
     (sym (w.beside_sent mid) ∙ ap (λ (b : Beside). b.sent) a.beside ∙ w.beside_sent old)
     (sym (w.beside_send_faults mid) ∙ ap (λ (b : Beside). b.send_faults) a.beside ∙ w.beside_send_faults old)
     (c.send_text.ensures.sends (summary_line summary) c.line.ensures)
+    (costs_behind c.args.seed c.args.rounds (view old) (view opened.disk) (view mid) c.in-Ok.ensures.opens c.answer_store-answer.ensures.costs)
 
 pub returns-in-Err-answer-clause-ends : goal.returns-in-Err-answer-clause-ends
 returns-in-Err-answer-clause-ends g c =
@@ -52,6 +53,7 @@ returns-in-Err-answer-clause-ends g c =
     let a = answered_opened (workload c.args.seed c.args.rounds) opened.count (view old) (view opened.disk) (view new) c.answer_store-answer.result.0 (Err end) c.in-Ok.ensures.count c.in-Err-answer.is c.in-Ok.ensures.opens c.in-Ok.ensures.quiet c.answer_store-answer.ensures.answered in
     stopped_ends c.args.seed c.args.rounds (view old) (view new) (sent old) (sent new) (sends old) (sends new) end a
     (sym (w.beside_sent new) ∙ ap (λ (b : Beside). b.sent) a.beside ∙ w.beside_sent old)
+    (costs_behind c.args.seed c.args.rounds (view old) (view opened.disk) (view new) c.in-Ok.ensures.opens c.answer_store-answer.ensures.costs)
 
 pub returns-in-Err-clause-ends : goal.returns-in-Err-clause-ends
 returns-in-Err-clause-ends g c =

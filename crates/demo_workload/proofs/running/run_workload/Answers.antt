@@ -1,4 +1,4 @@
-use Rattle.std.proofs.Common.{◌≡◌, ◌+◌, ◌≤◌, [], ◌∷◌, None, length, refl, ap, ◌∙◌, arith}
+use Rattle.std.proofs.Common.{◌≡◌, ◌+◌, ◌≤◌, suc, [], ◌∷◌, None, length, refl, ap, ◌∙◌, arith}
 use Rattle.block_disk.proofs.Passing.{passes_none}
 use Rattle.chart_world.specs.FaultLaws.{counts_then}
 use Rattle.gate_pages.specs.Pages.{Quiet}
@@ -13,7 +13,7 @@ use Rattle.demo_workload.proofs.Rounds.{few_requests}
 use Rattle.demo_workload.proofs.Replies.{starts, nothing_done, next_reaches, reaches_more, reached_part, reached_all, next_part, accepted_none, accepted_more}
 use Rattle.demo_workload.proofs.Knowing.{knows_none}
 use Rattle.chart_service.proofs.Outcomes.{ok_err}
-use Rattle.demo_workload.proofs.Moved.{runs_none, runs_on, moments_more, cause_on, given_some, given_none, one_fewer}
+use Rattle.demo_workload.proofs.Moved.{runs_none, runs_on, moments_more, cause_on, costs_most, costs_none, costs_on, given_some, given_none, one_counted, one_fewer}
 use Rattle.demo_workload.proofs.running.run_workload.Goals as goal
 
 pub returns-in_default-clause-left : goal.returns-in_default-clause-left
@@ -28,6 +28,11 @@ requests-init g c = record {
       let same : length c.new-workload.result ≡ length (workload c.args.seed c.args.count) = ap length c.new-workload.ensures in
       let none : c.new-summary.result.requests ≡ 0 = c.new-summary.ensures.none in
       omega arith;
+  counted =
+      let same : length c.new-workload.result ≡ length (workload c.args.seed c.args.count) = ap length c.new-workload.ensures in
+      let none : c.new-summary.result.requests ≡ 0 = c.new-summary.ensures.none in
+      omega (arith, same, none);
+  costs = costs_none c.new-summary.result.requests (shown.view c.args.service.now);
   knows = knows_none c.args.service.now.sessions c.in-Ok.client c.requires.alone c.in-Ok.ensures;
   accepted = accepted_none c.in-Ok.client c.in-Ok.ensures;
   reaches = λ total book told stands.
@@ -82,6 +87,12 @@ requests-preserved g c =
           let one : c.answer-answered.new.summary.requests ≡ c.requests.summary.requests + 1 = c.in-Ok-answered.ensures.requests in
           let was : c.requests.summary.requests + length c.requests.workload ≤ 12290 = c.requests.invariant.few in
           one_fewer c.requests.summary.requests c.answer-answered.new.summary.requests c.requests.workload c.next.new.self c.in-Some.request is one was;
+      counted =
+          let one : c.answer-answered.new.summary.requests ≡ c.requests.summary.requests + 1 = c.in-Ok-answered.ensures.requests in
+          let was : c.requests.summary.requests + length c.requests.workload ≡ length (workload c.args.seed c.args.count) = c.requests.invariant.counted in
+          one_counted c.requests.summary.requests c.answer-answered.new.summary.requests c.requests.workload c.next.new.self c.in-Some.request (length (workload c.args.seed c.args.count)) is one was;
+      costs = costs_on (shown.IsTold c.requests.service) (shown.IsTold c.answer-answered.new.service) c.requests.summary.requests c.answer-answered.new.summary.requests (shown.view c.args.service.now) (shown.view c.requests.service) (shown.view c.answer-answered.new.service)
+          (omega (arith, c.in-Ok-answered.ensures.requests)) c.requests.invariant.costs c.in-Ok-answered.ensures.steps;
       knows = c.in-Ok-answered.ensures.known;
       accepted = accepted_more c.requests.client c.answer-answered.new.client c.requests.invariant.accepted c.in-Ok-answered.ensures.accepts;
       reaches = λ total book told stands.
@@ -109,3 +120,24 @@ returns-in-Err-clause-cause g c =
 pub returns-in-Err-clause-faults : goal.returns-in-Err-clause-faults
 returns-in-Err-clause-faults g c =
     counts_then (end_fault c.in-Err.end) (shown.view c.args.service.now) (shown.view c.requests.service) (shown.view c.answer-answered.new.service) c.requests.invariant.faults c.in-Err.ensures.faults
+
+pub returns-in_default-clause-costs : goal.returns-in_default-clause-costs
+returns-in_default-clause-costs g c = costs_none (length (workload c.args.seed c.args.count)) (shown.view c.args.service.now)
+
+pub returns-in_default-next-clause-costs : goal.returns-in_default-next-clause-costs
+returns-in_default-next-clause-costs g c =
+    let was : c.requests.summary.requests + length c.requests.workload ≡ length (workload c.args.seed c.args.count) = c.requests.invariant.counted in
+    costs_most c.requests.summary.requests (length (workload c.args.seed c.args.count)) (shown.view c.args.service.now) (shown.view c.requests.service) (omega (arith, was)) c.requests.invariant.costs
+
+pub returns-in_default-next-2-clause-costs : goal.returns-in_default-next-2-clause-costs
+returns-in_default-next-2-clause-costs g c =
+    let was : c.requests.summary.requests + length c.requests.workload ≡ length (workload c.args.seed c.args.count) = c.requests.invariant.counted in
+    costs_most c.requests.summary.requests (length (workload c.args.seed c.args.count)) (shown.view c.args.service.now) (shown.view c.requests.service) (omega (arith, was)) c.requests.invariant.costs
+
+pub returns-in-Err-clause-costs : goal.returns-in-Err-clause-costs
+returns-in-Err-clause-costs g c =
+    let is : c.requests.workload ≡ c.in-Some.request ∷ c.next.new.self = given_some c.in-Ok-next.next c.in-Some.request _ _ c.in-Ok-next.ensures.given c.in-Some.is in
+    let was : c.requests.summary.requests + length c.requests.workload ≡ length (workload c.args.seed c.args.count) = c.requests.invariant.counted in
+    let some : length c.requests.workload ≡ suc (length c.next.new.self) = ap length is in
+    costs_on (shown.IsTold c.requests.service) (shown.IsTold c.answer-answered.new.service) c.requests.summary.requests (length (workload c.args.seed c.args.count)) (shown.view c.args.service.now) (shown.view c.requests.service) (shown.view c.answer-answered.new.service)
+    (omega (arith, was, some)) c.requests.invariant.costs c.in-Err.ensures.steps

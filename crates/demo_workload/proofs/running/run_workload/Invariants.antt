@@ -9,7 +9,7 @@ use Rattle.chart_service.specs.Shown as shown
 use Rattle.demo_workload.specs.Workload.{workload}
 use Rattle.demo_workload.specs.Summaries.{IsSmall}
 use Rattle.demo_workload.specs.Replying.{IsPartWay}
-use Rattle.demo_workload.specs.Ending.{Runs}
+use Rattle.demo_workload.specs.Ending.{CostsRequests, Runs}
 use Rattle.demo_workload.specs.Answering.{KnowsOpen, HasAccepted, Reaches}
 use Rattle.demo_workload.proofs.running.run_workload.Given as goal
 
@@ -19,6 +19,8 @@ invariant-requests g l = record {
   fit : (shown.view l.service).fit;
   small : IsSmall l.summary;
   few : l.summary.requests + length l.workload ≤ 12290;
+  counted : l.summary.requests + length l.workload ≡ length (workload l.fn.seed l.fn.count);
+  costs : CostsRequests l.summary.requests (shown.view l.fn.service) (shown.view l.service);
   knows : KnowsOpen l.service.sessions l.client;
   accepted : HasAccepted l.client;
   reaches : (total : ℕ) (book : List Series) → shown.IsTold l.fn.service → StandsForBook (shown.image l.fn.service) total book

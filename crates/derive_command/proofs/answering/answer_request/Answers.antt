@@ -11,7 +11,7 @@ use Rattle.series_pair.specs.Derived.{IsChartAnswer, sum_fault}
 use Rattle.series_pair.specs.declared.sum_error.SumError.{SumError}
 use Rattle.series_store.specs.Shown as shown
 use Rattle.derive_command.specs.WorkLaws.{goes_further}
-use Rattle.derive_command.proofs.DoingLemmas.{causes_later, chart_cause, chart_fault, goes_looks, goes_sends, request_drawn, request_refused, request_undrawn, sent_cause}
+use Rattle.derive_command.proofs.DoingLemmas.{causes_later, chart_cause, chart_fault, chart_lacks, goes_looks, goes_sends, refusal_lacks, request_drawn, request_refused, request_undrawn, says_some, sent_cause, unsent_lacks}
 use Rattle.store_commands.specs.Faulting.{counts_told}
 use Rattle.store_commands.specs.Sides.{AreBeside, side_of}
 use Rattle.derive_command.specs.Doing.{end_at}
@@ -160,3 +160,22 @@ returns-in-Err-clause-long g c = λ same. refused_short c.args.at c.in-Err.refus
 
 pub returns-in-Err-chart-clause-long : goal.returns-in-Err-chart-clause-long
 returns-in-Err-chart-clause-long g c = λ same. chart_short c.args.at c.in-Err-chart.error c.end_at.result c.end_at.ensures same
+
+pub returns-in-Err-clause-lacking : goal.returns-in-Err-clause-lacking
+returns-in-Err-clause-lacking g c = refusal_lacks c.args.request.now c.args.at (shown.catalog c.args.store.now) c.in-Err.refusal c.refused_at.result c.refused_at.ensures c.in-Err.ensures.lacks
+
+pub returns-in-Ok-chart-clause-says : goal.returns-in-Ok-chart-clause-says
+returns-in-Ok-chart-clause-says g c =
+    let sent = g.P.Streams.sent in
+    let w = g.met.P.PageWorld in
+    let first = shown.pages c.args.store.now in
+    let mid = shown.pages c.chart_of_sum-chart.new.store in
+    let new = shown.pages c.send_picture.new.store in
+    says_some (picture c.in-Ok-chart.chart) (sent first) (sent mid) (sent new) c.send_picture.result
+    (sym (w.beside_sent mid) ∙ ap (λ (b : Beside). b.sent) c.chart_of_sum-chart.ensures.looks.beside ∙ w.beside_sent first) c.send_picture.ensures.whole
+
+pub returns-in-Ok-chart-clause-lacking : goal.returns-in-Ok-chart-clause-lacking
+returns-in-Ok-chart-clause-lacking g c = unsent_lacks c.args.request.now c.args.at (shown.catalog c.send_picture.new.store) _ _ _ c.send_picture.result c.send_picture.ensures.stops
+
+pub returns-in-Err-chart-clause-lacking : goal.returns-in-Err-chart-clause-lacking
+returns-in-Err-chart-clause-lacking g c = chart_lacks c.args.request.now c.args.at (shown.catalog c.chart_of_sum-chart.new.store) c.in-Err-chart.error c.end_at.result c.end_at.ensures

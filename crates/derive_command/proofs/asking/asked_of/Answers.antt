@@ -2,7 +2,7 @@ use Rattle.std.proofs.Common.{◌∙◌, ℤ, SFits, rules, subst, sym}
 use Rattle.std.proofs.lemmas.Int.{to_z-of_z}
 use Rattle.std.specs.Int.{w64}
 use Rattle.series_pair.specs.Derived.{AreShifted}
-use Rattle.derive_command.proofs.AskLemmas.{ids_refused, view_refused}
+use Rattle.derive_command.proofs.AskLemmas.{ids_refused, view_known, view_refused}
 use Rattle.derive_command.proofs.asking.asked_of.Goals as goal
 
 pub returns-in-Err-clause-asked : goal.returns-in-Err-clause-asked
@@ -30,3 +30,9 @@ returns-clause-asked g c = λ total book sound told stands.
       grid_is = view.0;
       range_is = view.1;
     }
+
+pub returns-in-Err-clause-lacks : goal.returns-in-Err-clause-lacks
+returns-in-Err-clause-lacks g c = λ is. c.in-Err.ensures.lacks
+
+pub returns-in-Err-view_of-clause-lacks : goal.returns-in-Err-view_of-clause-lacks
+returns-in-Err-view_of-clause-lacks g c = λ is. absurd (view_known c.args.request.now c.in-Err-view_of.refusal c.in-Err-view_of.ensures.view is)

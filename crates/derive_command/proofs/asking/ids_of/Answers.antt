@@ -10,3 +10,9 @@ returns-in_default-series-clause-ids g c = λ total book sound told stands. (ref
 pub returns-clause-ids : goal.returns-clause-ids
 returns-clause-ids g c = λ total book sound told stands.
     record { first = (c.in-Some.ensures.info total book sound told stands).0; second = (c.in-Some-series.ensures.info total book sound told stands).0 }
+
+pub returns-in_default-clause-lacks : goal.returns-in_default-clause-lacks
+returns-in_default-clause-lacks g c = inl c.in_default.ensures.named
+
+pub returns-in_default-series-clause-lacks : goal.returns-in_default-series-clause-lacks
+returns-in_default-series-clause-lacks g c = inr c.in_default-series.ensures.named

@@ -6,6 +6,7 @@ use Rattle.needed_nodes.specs.Answers.{IsShownRow}
 use Rattle.query_rewriter.specs.Kept.{plan_keeps, query_keeps}
 use Rattle.plain_chart.specs.Samples.{sample_points}
 use Rattle.filter_scan.proofs.PointLaws.{query_rows, shown_by_plan, all_slots}
+use Rattle.filter_scan.proofs.WindowLaws.{window_of, window_reads}
 use Rattle.filter_scan.proofs.rows.rows_of_query.Goals as goal
 
 pub returns-clause-rows : goal.returns-clause-rows
@@ -21,3 +22,8 @@ pub returns-clause-shown : goal.returns-clause-shown
 returns-clause-shown g c =
     IfOk-weaker c.m4_rows.result (All (IsShownRow c.in_ok-plan.plan.grid.w)) (All (IsShownRow c.args.query.now.grid.w))
     (λ rows. shown_by_plan c.args.query.now c.in_ok-plan.plan rows c.in_ok-plan.ensures.grid) c.m4_rows.ensures.shown
+
+pub returns-clause-window : goal.returns-clause-window
+returns-clause-window g c =
+    let plan = c.in_ok-plan.plan in
+    window_of c.args.query.now.axis plan.grid c.args.query.now.grid _ _ c.in_ok-plan.ensures.grid (window_reads c.args.query.now.axis plan _ _ c.in_ok-plan.ensures.scan c.m4_rows.ensures.reads)

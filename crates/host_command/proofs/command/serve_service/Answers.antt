@@ -2,7 +2,7 @@ use Rattle.std.proofs.Common.{◌≡◌, ◌≢◌, ◌∙◌, ℕ, List, ap, sy
 use Rattle.std.specs.Prelude.{IfSome, IsTrue}
 use Rattle.chart_service.specs.Shown as shown
 use Rattle.run_ends.specs.Faults.{end_fault}
-use Rattle.run_ends.specs.declared.ending.End.TheVariants.{DiskFault}
+use Rattle.run_ends.specs.declared.ending.End.TheVariants.{DiskFault, Done}
 use Rattle.chart_service.specs.declared.service.Service.{Service}
 use Rattle.gate_pages.specs.GatePages.{IsClosed}
 use Rattle.live_service.specs.Shown as its
@@ -20,6 +20,8 @@ use Rattle.hosted_lines.proofs.DiskSides.{begins_so}
 use Rattle.host_command.proofs.DiskLemmas.{costs_from, served_by}
 use Rattle.live_service.proofs.LiveShown.{begun_service, ended_store}
 use Rattle.chart_world.specs.Faults.{CountsFault}
+use Rattle.hosted_lines.specs.Answers.{MayAnswerHost, SendsAnswers}
+use Rattle.hosted_lines.proofs.AnswersLemmas.{sends_answers}
 use Rattle.host_command.proofs.command.serve_service.Goals as goal
 
 pub returns-clause-serves : goal.returns-clause-serves
@@ -95,3 +97,23 @@ returns-clause-faults g c =
     let D : g.row.W.Denot → Type 0 = λ d. CountsFault fault (view (shown.pages (its.service start)).disk) (view d) in
     let S : Service _ _ → Type 0 = λ s. CountsFault fault (view (shown.pages s).disk) (view c.disk_of.result) in
     subst S is_service (subst D (sym same_disk) c.host_lines-end.ensures.faults)
+
+pub returns-clause-answers : goal.returns-clause-answers
+returns-clause-answers g c =
+    let left = g.W.Streams.left in
+    let sent = g.W.Streams.sent in
+    let service = c.args.service in
+    let start = c.new-live.result in
+    let after = c.host_lines-end.new.live in
+    let end = c.host_lines-end.result in
+    let disk = (shown.pages (its.service start)).disk in
+    let new = (shown.pages (its.service after)).disk in
+    let store = c.into_store.result in
+    let is_service = begun_service start c.new.result service c.new-live.ensures.stepper c.new.ensures in
+    let is_store = ended_store after c.into_stepper.result c.into_service-service.result store c.into_stepper.ensures c.into_service-service.ensures c.into_store.ensures in
+    let same_disk = c.disk_of.ensures.disk ∙ store_disk store (its.service after).store is_store in
+    let alone = ap (λ (s : Service _ _). s.sessions) is_service ∙ c.requires.alone in
+    let D : g.row.W.Denot → Type 0 = λ d. end ≡ Done → IfSome (left disk) (λ input. SendsAnswers MayAnswerHost input (sent disk) (sent d)) in
+    let S : Service _ _ → Type 0 = λ s. end ≡ Done → IfSome (left (shown.pages s).disk) (λ input. SendsAnswers MayAnswerHost input (sent (shown.pages s).disk) (sent c.disk_of.result)) in
+    subst S is_service (subst D (sym same_disk)
+    (λ done. sends_answers MayAnswerHost (left disk) (shown.sessions (its.service start)) (shown.sessions (its.service after)) (sent disk) (sent new) alone (c.host_lines-end.ensures.answers done)))

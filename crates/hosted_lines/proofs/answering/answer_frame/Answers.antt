@@ -19,6 +19,10 @@ use Rattle.chart_world.specs.FaultLaws.{counts_then}
 use Rattle.run_ends.specs.Faults.{end_fault}
 use Rattle.chart_world.specs.Faults.{fault_in}
 use Rattle.hosted_lines.proofs.FaultLemmas.{step_short, unmade_counts}
+use Rattle.chart_service.specs.Shown as shown
+use Rattle.live_service.specs.Kinds.{MayAnswerLive}
+use Rattle.live_service.specs.Shown as its
+use Rattle.hosted_lines.proofs.AnswersLemmas.{sends_answer}
 use Rattle.hosted_lines.proofs.answering.answer_frame.Goals as goal
 
 pub returns-in-Ok-clause-does : goal.returns-in-Ok-clause-does
@@ -123,3 +127,17 @@ returns-in-Ok-clause-rises g c =
 
 pub returns-in-Err-clause-rises : goal.returns-in-Err-clause-rises
 returns-in-Err-clause-rises g c = c.in-Err.ensures.steps.syncs.low
+
+pub returns-in-Ok-clause-sends : goal.returns-in-Ok-clause-sends
+returns-in-Ok-clause-sends g c =
+    let sent = g.P.Streams.sent in
+    let w = g.met.P.PageWorld in
+    let old = c.args.live.now in
+    let mid = c.step_line.new.live in
+    let new = c.send_frame.new.live in
+    let e = c.in-Ok.ensures in
+    let made = c.send_frame.ensures in
+    let text = c.args.line.now in
+    let L : Option (List ℕ) → Type 0 = λ l. MayAnswerLive l c.in-Ok.frame in
+    sends_answer MayAnswerLive c.send_frame.result c.in-Ok.frame (shown.sessions (its.service old)) (shown.sessions (its.service mid)) (shown.sessions (its.service new)) (sent (pages old)) (sent (pages mid)) (sent (pages new)) e.fits
+    e.opens made.beside.changed.sessions (sym (w.beside_sent (pages mid)) ∙ ap (λ (b : Beside). b.sent) e.steps.beside ∙ w.beside_sent (pages old)) made.whole (Some text) (subst L (text_is text c.requires.short) e.may)

@@ -1,5 +1,6 @@
-use Rattle.std.proofs.Common.{[], ◌∷◌, None, length, refl}
+use Rattle.std.proofs.Common.{[], ◌∷◌, None, length, refl, sym, subst}
 use Rattle.chart_frames.specs.Frames.{spelling}
+use Rattle.chart_frames.specs.declared.frame.Frame.{Frame}
 use Rattle.live_service.specs.LiveReplies.{LiveReplied}
 use Rattle.hosted_lines.specs.Doing.{held_by, held_with}
 use Rattle.hosted_lines.specs.Shown.{pages}
@@ -7,6 +8,13 @@ use Rattle.chart_service.specs.MomentLaws.{through_none}
 use Rattle.hosted_lines.proofs.EventLemmas.{by_answer, long_replied, reads_answer}
 use Rattle.hosted_lines.specs.GoesLaws.{held_same}
 use Rattle.hosted_lines.proofs.LineLemmas.{frame_does}
+use Rattle.chart_service.specs.Opening.{OpensBy}
+use Rattle.chart_service.specs.Shown as shown
+use Rattle.live_service.specs.Kinds.{MayAnswerLive}
+use Rattle.live_service.specs.Shown as its
+use Rattle.live_service.proofs.KindLemmas.{refused_stays}
+use Rattle.series_book.specs.declared.refusals.Refusal.TheVariants.{LineTooLong}
+use Rattle.hosted_lines.proofs.AnswersLemmas.{sends_answer}
 use Rattle.hosted_lines.proofs.answering.refuse_line.Goals as goal
 
 pub returns-clause-does : goal.returns-clause-does
@@ -34,3 +42,15 @@ returns-clause-syncs g c =
     let w = g.met.P.PageWorld in
     let n = length (spelling c.refused.result) in
     (w.send_keeps n (pages c.args.live.now) (pages c.send_frame.new.live) c.send_frame.ensures.beside.changed.store_is.pages_are).syncs
+
+pub returns-clause-sends : goal.returns-clause-sends
+returns-clause-sends g c =
+    let sent = g.P.Streams.sent in
+    let old = c.args.live.now in
+    let new = c.send_frame.new.live in
+    let frame = c.refused.result in
+    let own = shown.sessions (its.service old) in
+    let made = c.send_frame.ensures in
+    let O : Frame → Type 0 = λ f. OpensBy f own own in
+    sends_answer MayAnswerLive c.send_frame.result frame own own (shown.sessions (its.service new)) (sent (pages old)) (sent (pages old)) (sent (pages new)) c.refused.ensures.fits
+    (subst O (sym c.refused.ensures.frame) (refused_stays LineTooLong own)) made.beside.changed.sessions refl made.whole None c.refused.ensures.frame

@@ -15,6 +15,11 @@ use Rattle.chart_world.specs.FaultLaws.{counts_then}
 use Rattle.run_ends.specs.Faults.{end_fault}
 use Rattle.chart_world.specs.Faults.{fault_in}
 use Rattle.hosted_lines.proofs.FaultLemmas.{step_short, unmade_counts}
+use Rattle.chart_frames.specs.Frames.{Fits}
+use Rattle.chart_service.specs.Opening.{OpensBy}
+use Rattle.chart_service.specs.Shown as shown
+use Rattle.live_service.specs.Kinds.{MayAnswerLive, MayPush}
+use Rattle.hosted_lines.proofs.AnswersLemmas.{sends_push}
 use Rattle.hosted_lines.proofs.answering.send_push.Goals as goal
 
 pub returns-in-Ok-Some-clause-does : goal.returns-in-Ok-Some-clause-does
@@ -82,3 +87,21 @@ returns-in-Err-clause-faults g c =
 
 pub returns-in-Err-clause-long : goal.returns-in-Err-clause-long
 returns-in-Err-clause-long g c = λ same. step_short c.in-Err.error c.step_end.result c.step_end.ensures same
+
+pub returns-in-Ok-Some-clause-sends : goal.returns-in-Ok-Some-clause-sends
+returns-in-Ok-Some-clause-sends g c =
+    let sent = g.P.Streams.sent in
+    let w = g.met.P.PageWorld in
+    let old = c.args.live.now in
+    let mid = c.push.new.live in
+    let new = c.send_frame.new.live in
+    let e = c.in-Ok-Some.ensures in
+    let made = c.send_frame.ensures in
+    let frame = c.in-Ok-Some.frame in
+    let some = c.in-Ok-Some.field-0 in
+    let is = c.in-Ok-Some.field-0-is in
+    let own = shown.sessions (its.service old) in
+    let behind = shown.sessions (its.service mid) in
+    sends_push MayAnswerLive c.send_frame.result frame own behind (shown.sessions (its.service new)) (sent (pages old)) (sent (pages mid)) (sent (pages new)) (of_frame some frame Fits is e.fits)
+    (of_frame some frame (λ f. OpensBy f own behind) is e.opens) made.beside.changed.sessions (sym (w.beside_sent (pages mid)) ∙ ap (λ (b : Beside). b.sent) e.steps.beside ∙ w.beside_sent (pages old)) made.whole
+    (of_frame some frame (λ f. MayPush f) is e.may)

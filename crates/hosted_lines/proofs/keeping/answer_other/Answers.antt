@@ -6,6 +6,10 @@ use Rattle.hosted_lines.specs.Shown.{pages}
 use Rattle.hosted_lines.proofs.HostLemmas.{fails_wide, host_then, live_does}
 use Rattle.hosted_lines.proofs.RowLemmas.{passed_line}
 use Rattle.hosted_lines.proofs.WorkLemmas.{no_edits}
+use Rattle.chart_service.specs.Shown as shown
+use Rattle.live_service.specs.Shown as its
+use Rattle.hosted_lines.specs.Answers.{MayAnswerHost}
+use Rattle.hosted_lines.proofs.AnswersLemmas.{sends_host, sends_then}
 use Rattle.hosted_lines.proofs.keeping.answer_other.Goals as goal
 
 pub returns-in-Ok-clause-does : goal.returns-in-Ok-clause-does
@@ -34,3 +38,15 @@ returns-in-Err-clause-does g c = λ lines spell total book told stands sound.
     let new = c.settle.new.live in
     fails_wide 1 lines (unless_empty (Some c.args.line.now)) total (held_with total book (held_by old)) c.in-Err.end (view (pages old)) (view (pages new)) (held_by new) (sent (pages old)) (sent (pages new))
     (c.in-Err.ensures.does lines spell total book told stands sound)
+
+pub returns-in-Ok-clause-sends : goal.returns-in-Ok-clause-sends
+returns-in-Ok-clause-sends g c = λ lines spell.
+    let sent = g.P.Streams.sent in
+    let old = c.args.live.now in
+    let mid = c.settle.new.live in
+    let new = c.answer_line.new.live in
+    let more = unless_empty (Some c.args.line.now) in
+    let between = shown.sessions (its.service mid) in
+    let behind = shown.sessions (its.service new) in
+    sends_then MayAnswerHost c.answer_line.result lines more (shown.sessions (its.service old)) between behind (sent (pages old)) (sent (pages mid)) (sent (pages new)) (c.in-Ok.ensures.sends lines spell)
+    (sends_host c.answer_line.result more between behind (sent (pages mid)) (sent (pages new)) (passed_line c.args.line.now c.requires.passed) c.answer_line.ensures.sends)

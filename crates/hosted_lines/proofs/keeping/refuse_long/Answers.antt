@@ -2,6 +2,10 @@ use Rattle.std.proofs.Common.{[], ◌∷◌, None}
 use Rattle.hosted_lines.specs.Doing.{held_by, held_with}
 use Rattle.hosted_lines.specs.Shown.{pages}
 use Rattle.hosted_lines.proofs.HostLemmas.{fails_wide, host_then, live_does}
+use Rattle.chart_service.specs.Shown as shown
+use Rattle.live_service.specs.Shown as its
+use Rattle.hosted_lines.specs.Answers.{MayAnswerHost}
+use Rattle.hosted_lines.proofs.AnswersLemmas.{sends_host, sends_then}
 use Rattle.hosted_lines.proofs.keeping.refuse_long.Goals as goal
 
 pub returns-in-Ok-clause-does : goal.returns-in-Ok-clause-does
@@ -27,3 +31,14 @@ returns-in-Err-clause-does g c = λ lines spell total book told stands sound.
     let new = c.settle.new.live in
     fails_wide 1 lines (None ∷ []) total (held_with total book (held_by old)) c.in-Err.end (view (pages old)) (view (pages new)) (held_by new) (sent (pages old)) (sent (pages new))
     (c.in-Err.ensures.does lines spell total book told stands sound)
+
+pub returns-in-Ok-clause-sends : goal.returns-in-Ok-clause-sends
+returns-in-Ok-clause-sends g c = λ lines spell.
+    let sent = g.P.Streams.sent in
+    let old = c.args.live.now in
+    let mid = c.settle.new.live in
+    let new = c.refuse_line.new.live in
+    let between = shown.sessions (its.service mid) in
+    let behind = shown.sessions (its.service new) in
+    sends_then MayAnswerHost c.refuse_line.result lines (None ∷ []) (shown.sessions (its.service old)) between behind (sent (pages old)) (sent (pages mid)) (sent (pages new)) (c.in-Ok.ensures.sends lines spell)
+    (sends_host c.refuse_line.result (None ∷ []) between behind (sent (pages mid)) (sent (pages new)) (tt, tt) c.refuse_line.ensures.sends)

@@ -2,6 +2,10 @@ use Rattle.std.proofs.Common.{[], ◌∷◌, Some}
 use Rattle.hosted_lines.specs.Doing.{held_by, held_with}
 use Rattle.hosted_lines.specs.Shown.{pages}
 use Rattle.hosted_lines.proofs.HostLemmas.{fails_wide, host_then}
+use Rattle.chart_service.specs.Shown as shown
+use Rattle.live_service.specs.Shown as its
+use Rattle.hosted_lines.specs.Answers.{MayAnswerHost}
+use Rattle.hosted_lines.proofs.AnswersLemmas.{sends_then}
 use Rattle.hosted_lines.proofs.reporting.answer_asked.Goals as goal
 
 pub returns-in-Ok-clause-does : goal.returns-in-Ok-clause-does
@@ -25,3 +29,12 @@ returns-in-Err-clause-does g c = λ line asks lines spell total book told stands
     let new = c.settle.new.live in
     fails_wide 1 lines (Some line ∷ []) total (held_with total book (held_by old)) c.in-Err.end (view (pages old)) (view (pages new)) (held_by new) (sent (pages old)) (sent (pages new))
     (c.in-Err.ensures.does lines spell total book told stands sound)
+
+pub returns-in-Ok-clause-sends : goal.returns-in-Ok-clause-sends
+returns-in-Ok-clause-sends g c = λ line asks lines spell.
+    let sent = g.P.Streams.sent in
+    let old = c.args.live.now in
+    let mid = c.settle.new.live in
+    let new = c.send_report.new.live in
+    sends_then MayAnswerHost c.send_report.result lines (Some line ∷ []) (shown.sessions (its.service old)) (shown.sessions (its.service mid)) (shown.sessions (its.service new)) (sent (pages old)) (sent (pages mid)) (sent (pages new))
+    (c.in-Ok.ensures.sends lines spell) (c.send_report.ensures.sends line asks)

@@ -1,4 +1,4 @@
-use Rattle.std.proofs.Common.{◌∙◌, length, ap, sym, subst}
+use Rattle.std.proofs.Common.{◌∙◌, length, ap, sym, subst, Some}
 use Rattle.block_disk.specs.View.{Beside, Image}
 use Rattle.chart_frames.specs.Frames.{spelling}
 use Rattle.chart_world.specs.FaultLaws.{counts_then}
@@ -13,6 +13,10 @@ use Rattle.hosted_lines.specs.GoesLaws.{held_same}
 use Rattle.hosted_lines.specs.Shown.{pages}
 use Rattle.hosted_lines.proofs.FaultLemmas.{unmade_counts}
 use Rattle.hosted_lines.proofs.ReportLemmas.{report_costs, report_moments, report_sends, report_unmade, unmade_cause}
+use Rattle.chart_service.specs.Shown as shown
+use Rattle.live_service.specs.Shown as its
+use Rattle.hosted_lines.specs.Answers.{MayAnswerHost}
+use Rattle.hosted_lines.proofs.AnswersLemmas.{may_report, sends_answer}
 use Rattle.hosted_lines.proofs.reporting.send_report.Goals as goal
 
 pub returns-in-Ok-clause-does : goal.returns-in-Ok-clause-does
@@ -78,3 +82,16 @@ pub returns-in-Err-clause-faults : goal.returns-in-Err-clause-faults
 returns-in-Err-clause-faults g c =
     let view = g.P.Pages.view in
     unmade_counts c.in-Err.error c.step_end.result (view (pages c.args.live.now)) (view (pages c.make_report.new.live)) c.step_end.ensures c.in-Err.ensures.makes.faults
+
+pub returns-in-Ok-clause-sends : goal.returns-in-Ok-clause-sends
+returns-in-Ok-clause-sends g c = λ line asks.
+    let sent = g.P.Streams.sent in
+    let w = g.met.P.PageWorld in
+    let old = c.args.live.now in
+    let mid = c.make_report.new.live in
+    let new = c.send_frame.new.live in
+    let frame = c.in-Ok.frame in
+    let e = c.in-Ok.ensures.makes in
+    let made = c.send_frame.ensures in
+    sends_answer MayAnswerHost c.send_frame.result frame (shown.sessions (its.service old)) (shown.sessions (its.service mid)) (shown.sessions (its.service new)) (sent (pages old)) (sent (pages mid)) (sent (pages new)) e.fits e.opens
+    made.beside.changed.sessions (sym (w.beside_sent (pages mid)) ∙ ap (λ (b : Beside). b.sent) e.looks.beside ∙ w.beside_sent (pages old)) made.whole (Some line) (may_report line c.args.asked.now frame asks e.may)

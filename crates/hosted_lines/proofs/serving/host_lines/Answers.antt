@@ -1,20 +1,27 @@
 use Rattle.std.proofs.Common.{rules, List, ◌≡◌, ◌≢◌, ◌≤◌, ◌<◌, [], IfSome, length, refl, subst, sym}
+use Rattle.block_disk.specs.View.{sent_now}
 use Rattle.chart_service.specs.EditGroups.{SpellEdits}
+use Rattle.chart_service.specs.Serving.{told}
 use Rattle.chart_service.specs.Shown as shown
 use Rattle.series_book.specs.declared.edits.Edit.{Edit}
 use Rattle.chart_world.specs.Faults.{CountsFault}
 use Rattle.chart_world.specs.Reading.{IsReadUp}
+use Rattle.line_runs.specs.Runs.{AreAll}
 use Rattle.line_runs.specs.EndLaws.{came_to_end, causes_so, end_cause, input_long, same_fault}
 use Rattle.live_service.specs.Shown as its
 use Rattle.run_ends.specs.Faults.{end_fault}
 use Rattle.run_ends.specs.declared.ending.End.{End}
 use Rattle.run_ends.specs.declared.ending.End.TheVariants.{Done, DiskFault, InputTooLong}
+use Rattle.hosted_lines.specs.Answers.{MayAnswerHost, SendsFor}
 use Rattle.hosted_lines.specs.Doing.{held_by, side_of}
 use Rattle.hosted_lines.specs.HostCauses.{IsHostCause}
 use Rattle.hosted_lines.specs.Input.{most_bytes}
 use Rattle.hosted_lines.specs.Served.{EndsOn}
 use Rattle.hosted_lines.specs.Shown.{pages}
+use Rattle.hosted_lines.specs.Standing.{Any, IsNamed, Over}
 use Rattle.hosted_lines.specs.Working.{CausesEnd, IsHosted}
+use Rattle.hosted_lines.proofs.AnyLemmas.{all_sends}
+use Rattle.hosted_lines.proofs.OverLemmas.{over_done, over_lasts, over_stops}
 use Rattle.hosted_lines.proofs.EndLemmas.{costs_so, ends_so, first_at, lasts_so, none_costs, none_ends, none_lasts, sound_behind}
 use Rattle.hosted_lines.proofs.serving.host_lines.Goals as goal
 
@@ -50,7 +57,8 @@ returns-clause-ends g c = λ total book told stands.
     let E : End → Type 0 = λ end. EndsOn g.P.Streams total book old new end in
     subst E (sym c.run_end.ensures)
     (ends_so total book (held_by old) (its.view old) (sent (pages old)) (its.view new) (held_by new) work.edits.items (shown.IsTold (its.service new)) (left (pages old)) (left (pages new)) (sent (pages new)) (pieces (pages old)) (pieces (pages new))
-    c.run_lines-answer.result (e.done hosted here) (e.stops hosted here))
+    c.run_lines-answer.result (over_done hosted work.edits.items (shown.IsTold (its.service new)) (its.view new) (held_by new) (sent (pages new)) c.run_lines-answer.result (AreAll (pieces (pages old)) (pieces (pages new))) (left (pages old)) (sent (pages old)) (e.done (Over hosted) here))
+    (over_stops hosted work.edits.items (shown.IsTold (its.service new)) (its.view new) (held_by new) (sent (pages new)) most_bytes (left (pages old)) (left (pages new)) (sent (pages old)) (pieces (pages old)) (pieces (pages new)) c.run_lines-answer.result (e.stops (Over hosted) here)))
 
 pub returns-clause-crash : goal.returns-clause-crash
 returns-clause-crash g c = λ total book told stands.
@@ -67,7 +75,7 @@ returns-clause-crash g c = λ total book told stands.
     let here : IsHosted hosted c.new.result.items (shown.IsTold (its.service old)) (its.view old) (held_by old) (sent (pages old)) =
     record { told_so = told; stands = stands; sound = c.requires.book total book told stands; held_is = refl; idle = c.requires.idle; spell = subst S (sym none) tt; sent_is = refl; reads_are = refl; syncs_are = refl } in
     lasts_so total book (held_by old) (its.view old) (sent (pages old)) (its.view new) (held_by new) work.edits.items (shown.IsTold (its.service new)) (left (pages old)) (left (pages new)) (sent (pages new)) (pieces (pages old)) (pieces (pages new))
-    (left (pages old)) (sent (pages old)) (λ lasts. e.crash hosted here lasts)
+    (left (pages old)) (sent (pages old)) (λ lasts. over_lasts hosted most_bytes (left (pages old)) (sent (pages old)) (sent_now (its.view old)) (its.view old) (its.view new) (e.crash (Over hosted) here lasts))
 
 pub returns-clause-costs : goal.returns-clause-costs
 returns-clause-costs g c = λ total book told stands.
@@ -84,7 +92,8 @@ returns-clause-costs g c = λ total book told stands.
     let here : IsHosted hosted c.new.result.items (shown.IsTold (its.service old)) (its.view old) (held_by old) (sent (pages old)) =
     record { told_so = told; stands = stands; sound = c.requires.book total book told stands; held_is = refl; idle = c.requires.idle; spell = subst S (sym none) tt; sent_is = refl; reads_are = refl; syncs_are = refl } in
     costs_so total book (held_by old) (its.view old) (sent (pages old)) (its.view new) (held_by new) work.edits.items (shown.IsTold (its.service new)) (left (pages old)) (left (pages new)) (sent (pages new)) (pieces (pages old)) (pieces (pages new))
-    c.run_lines-answer.result (e.done hosted here) (e.stops hosted here)
+    c.run_lines-answer.result (over_done hosted work.edits.items (shown.IsTold (its.service new)) (its.view new) (held_by new) (sent (pages new)) c.run_lines-answer.result (AreAll (pieces (pages old)) (pieces (pages new))) (left (pages old)) (sent (pages old)) (e.done (Over hosted) here))
+    (over_stops hosted work.edits.items (shown.IsTold (its.service new)) (its.view new) (held_by new) (sent (pages new)) most_bytes (left (pages old)) (left (pages new)) (sent (pages old)) (pieces (pages old)) (pieces (pages new)) c.run_lines-answer.result (e.stops (Over hosted) here))
 
 pub returns-clause-within : goal.returns-clause-within
 returns-clause-within g c =
@@ -145,3 +154,22 @@ returns-clause-sound g c =
     let e = c.run_lines-answer.ensures in
     let S : End → Type 0 = λ end. end ≢ DiskFault → (its.view new).fit in
     subst S (sym c.run_end.ensures) (sound_behind (λ end s s'. CausesEnd end (side s) (side s')) old new c.run_lines-answer.result (λ fit. fit.sound) (λ end is other. is.sound other) e.fit e.fit_on_err e.cause)
+
+pub returns-clause-answers : goal.returns-clause-answers
+returns-clause-answers g c =
+    let side = side_of g.P.Streams in
+    let left = g.P.Streams.left in
+    let sent = g.P.Streams.sent in
+    let pieces = g.P.Streams.pieces in
+    let old = c.args.live.now in
+    let new = c.run_lines-answer.new.from in
+    let work = c.run_lines-answer.new.work in
+    let e = c.run_lines-answer.ensures in
+    let own = shown.sessions (its.service old) in
+    let none : c.new.result.items ≡ [] = search rules in
+    let here : IsNamed (record { ahead = []; sessions = own }) c.new.result.items (held_by old) = record { spell = subst (SpellEdits []) (sym none) tt; sessions_are = refl } in
+    let A : End → Type 0 = λ end. end ≡ Done → IfSome (left (pages old)) (λ input. SendsFor g.P.Streams MayAnswerHost (told input) old new) in
+    subst A (sym c.run_end.ensures)
+    (came_to_end (λ end s s'. CausesEnd end (side s) (side s')) old new c.run_lines-answer.result (λ none. none.cause)
+    (all_sends own work.edits.items (shown.IsTold (its.service new)) (its.view new) (held_by new) (sent (pages old)) (sent (pages new)) (pieces (pages old)) (pieces (pages new)) c.run_lines-answer.result (left (pages old))
+    (e.done (Any (record { ahead = []; sessions = own })) here)) e.cause)

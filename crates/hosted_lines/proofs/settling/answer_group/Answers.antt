@@ -1,4 +1,4 @@
-use Rattle.std.proofs.Common.{◌∙◌, List, length, ap, sym, subst}
+use Rattle.std.proofs.Common.{◌∙◌, List, length, ap, sym, subst, ◌≡◌}
 use Rattle.block_disk.specs.View.{Beside}
 use Rattle.chart_frames.specs.declared.frame.Frame.{Frame}
 use Rattle.gate_pages.proofs.Moving.{sent_same}
@@ -9,6 +9,11 @@ use Rattle.hosted_lines.specs.Lives.{spelled}
 use Rattle.hosted_lines.specs.Shown.{pages}
 use Rattle.hosted_lines.proofs.GroupLemmas.{group_sends, group_unmade}
 use Rattle.hosted_lines.proofs.SpelledLemmas.{sound_edits}
+use Rattle.chart_service.specs.Shown as shown
+use Rattle.live_service.specs.Shown as its
+use Rattle.std.specs.Prelude.{OnOk}
+use Rattle.block_disk.specs.Streams.{sent_after}
+use Rattle.hosted_lines.proofs.AnswersLemmas.{sends_group}
 use Rattle.hosted_lines.proofs.settling.answer_group.Goals as goal
 
 pub returns-in-Ok-clause-does : goal.returns-in-Ok-clause-does
@@ -51,3 +56,17 @@ returns-in-Err-clause-does g c = λ lines spell total book told stands sound.
     (e.standing total book told stands) (λ other. e.left total book told stands (λ is. other (cc)))
     (sym (w.beside_sent between) ∙ ap (λ (b : Beside). b.sent) e.moves.beside ∙ w.beside_sent at)
     (e.moments total book told stands) (e.reads total book told stands) (e.syncs total book told stands)
+
+pub returns-in-Ok-clause-sends : goal.returns-in-Ok-clause-sends
+returns-in-Ok-clause-sends g c = λ lines spell.
+    let sent = g.P.Streams.sent in
+    let w = g.met.P.PageWorld in
+    let old = c.args.live.now in
+    let mid = c.step_edits.new.live in
+    let new = c.send_frames.new.live in
+    let frames = c.in-Ok.frames.items in
+    let e = c.in-Ok.ensures in
+    let made = c.send_frames.ensures in
+    let W : List Frame → Type 0 = λ f. OnOk c.send_frames.result (sent (pages new) ≡ sent_after (spelled f) (sent (pages mid))) in
+    sends_group c.send_frames.result lines c.args.edits.now frames (shown.sessions (its.service old)) (shown.sessions (its.service mid)) (shown.sessions (its.service new)) (sent (pages old)) (sent (pages mid)) (sent (pages new)) spell e.each e.replies e.fits e.sessions
+    made.beside.changed.sessions (sym (w.beside_sent (pages mid)) ∙ ap (λ (b : Beside). b.sent) e.moves.beside ∙ w.beside_sent (pages old)) (subst W c.as_slice.ensures.value made.whole)

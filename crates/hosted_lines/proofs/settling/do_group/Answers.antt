@@ -1,10 +1,14 @@
-use Rattle.std.proofs.Common.{◌≡◌, [], length, sym, arith}
+use Rattle.std.proofs.Common.{◌≡◌, [], length, sym, arith, ℕ, List, Option, subst}
 use Rattle.std.proofs.lemmas.Grind.{common_steps}
 use Rattle.std.proofs.lemmas.List.{append-nil}
 use Rattle.hosted_lines.specs.Doing.{held_by, held_with}
 use Rattle.hosted_lines.specs.Shown.{pages}
 use Rattle.hosted_lines.proofs.HostLemmas.{host_then, lines_so, live_does, none_hosts}
 use Rattle.hosted_lines.proofs.SpelledLemmas.{spell_none}
+use Rattle.chart_service.specs.Shown as shown
+use Rattle.live_service.specs.Shown as its
+use Rattle.hosted_lines.specs.Answers.{MayAnswerHost, Sends}
+use Rattle.hosted_lines.proofs.AnswersLemmas.{sends_host, sends_none, sends_so, sends_then}
 use Rattle.hosted_lines.proofs.settling.do_group.Goals as goal
 
 pub returns-then-is_empty-clause-does : goal.returns-then-is_empty-clause-does
@@ -29,3 +33,24 @@ returns-in-Ok-clause-does g c = λ lines spell total book told stands sound.
     (host_then 1 0 lines [] total (held_with total book (held_by old)) (held_by mid) (held_by new) (view (pages old)) (view (pages mid)) (view (pages new)) (sent (pages old)) (sent (pages mid)) (sent (pages new)) first.done
     (w.counts_sent (pages old)) (w.counts_sent (pages mid)) first.moments c.send_pushes.result
     (live_does [] tt total (held_with total first.done.book (held_by mid)) c.send_pushes.result (view (pages mid)) (view (pages new)) (held_by new) (sent (pages mid)) (sent (pages new)) c.send_pushes.ensures.syncs second))
+
+pub returns-then-is_empty-clause-sends : goal.returns-then-is_empty-clause-sends
+returns-then-is_empty-clause-sends g c = λ lines spell.
+    let own = shown.sessions (its.service c.args.live.now) in
+    let sent = g.P.Streams.sent (pages c.args.live.now) in
+    let none : length c.args.edits.now ≡ 0 = grind (arith, common_steps) in
+    let S : List (Option (List ℕ)) → Type 0 = λ l. Sends MayAnswerHost l own own sent sent in
+    subst S (sym (spell_none lines c.args.edits.now none spell)) (sends_none MayAnswerHost own sent)
+
+pub returns-in-Ok-clause-sends : goal.returns-in-Ok-clause-sends
+returns-in-Ok-clause-sends g c = λ lines spell.
+    let sent = g.P.Streams.sent in
+    let old = c.args.live.now in
+    let mid = c.answer_group.new.live in
+    let new = c.send_pushes.new.live in
+    let own = shown.sessions (its.service old) in
+    let between = shown.sessions (its.service mid) in
+    let behind = shown.sessions (its.service new) in
+    sends_so MayAnswerHost c.send_pushes.result _ lines own behind (sent (pages old)) (sent (pages new)) (append-nil lines)
+    (sends_then MayAnswerHost c.send_pushes.result lines [] own between behind (sent (pages old)) (sent (pages mid)) (sent (pages new)) (c.in-Ok.ensures.sends lines spell)
+    (sends_host c.send_pushes.result [] between behind (sent (pages mid)) (sent (pages new)) tt c.send_pushes.ensures.sends))

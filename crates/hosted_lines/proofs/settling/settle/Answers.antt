@@ -7,3 +7,8 @@ pub returns-clause-does : goal.returns-clause-does
 returns-clause-does g c = λ lines spell.
     let S : List Edit → Type 0 = λ l. SpellEdits lines l in
     c.do_group-answer.ensures.does lines (subst S (sym c.as_slice.ensures.value) spell)
+
+pub returns-clause-sends : goal.returns-clause-sends
+returns-clause-sends g c = λ lines spell.
+    let S : List Edit → Type 0 = λ l. SpellEdits lines l in
+    c.do_group-answer.ensures.sends lines (subst S (sym c.as_slice.ensures.value) spell)

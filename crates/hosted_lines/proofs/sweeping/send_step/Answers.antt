@@ -1,4 +1,4 @@
-use Rattle.std.proofs.Common.{◌∙◌, length, ap, sym}
+use Rattle.std.proofs.Common.{◌∙◌, length, ap, sym, Some}
 use Rattle.block_disk.specs.View.{Beside}
 use Rattle.chart_frames.specs.Frames.{spelling}
 use Rattle.chart_world.specs.FaultLaws.{counts_then}
@@ -10,6 +10,10 @@ use Rattle.hosted_lines.specs.GoesLaws.{held_same}
 use Rattle.hosted_lines.specs.Shown.{pages}
 use Rattle.hosted_lines.proofs.FaultLemmas.{unmade_counts}
 use Rattle.hosted_lines.proofs.SweepLemmas.{step_costs, step_sends, step_unmade}
+use Rattle.chart_service.specs.Shown as shown
+use Rattle.live_service.specs.Shown as its
+use Rattle.hosted_lines.specs.Answers.{MayAnswerHost}
+use Rattle.hosted_lines.proofs.AnswersLemmas.{may_step, sends_answer, step_stays}
 use Rattle.hosted_lines.proofs.sweeping.send_step.Goals as goal
 
 pub returns-in-Ok-clause-does : goal.returns-in-Ok-clause-does
@@ -63,3 +67,19 @@ pub returns-in-Err-clause-faults : goal.returns-in-Err-clause-faults
 returns-in-Err-clause-faults g c =
     let view = g.P.Pages.view in
     unmade_counts c.in-Err.error c.step_end.result (view (pages c.args.live.now)) (view (pages c.sweep_step.new.live)) c.step_end.ensures c.in-Err.ensures.faults
+
+pub returns-in-Ok-clause-sends : goal.returns-in-Ok-clause-sends
+returns-in-Ok-clause-sends g c = λ line asks.
+    let sent = g.P.Streams.sent in
+    let w = g.met.P.PageWorld in
+    let old = c.args.live.now in
+    let mid = c.sweep_step.new.live in
+    let new = c.send_frame.new.live in
+    let frame = c.in-Ok.frame in
+    let e = c.in-Ok.ensures in
+    let made = c.send_frame.ensures in
+    let own = shown.sessions (its.service old) in
+    let between = shown.sessions (its.service mid) in
+    sends_answer MayAnswerHost c.send_frame.result frame own between (shown.sessions (its.service new)) (sent (pages old)) (sent (pages mid)) (sent (pages new)) e.fits
+    (step_stays frame _ _ _ own between e.sessions e.tells) made.beside.changed.sessions (sym (w.beside_sent (pages mid)) ∙ ap (λ (b : Beside). b.sent) e.carries.beside ∙ w.beside_sent (pages old)) made.whole
+    (Some line) (may_step line c.args.rule.now frame _ _ _ asks e.tells)

@@ -10,7 +10,9 @@ use Rattle.store_commands.proofs.WorldLemmas.{away_over, traffic_over, unopened_
 use Rattle.store_commands.specs.Faulting.{counts_unopened_end}
 use Rattle.store_commands.specs.Traffic.{Traffic, traffic}
 use Rattle.live_command.specs.Ended.{LiveEnds}
-use Rattle.live_command.proofs.DiskLemmas.{live_ends, reads_on, reads_unopened, syncs_on, syncs_unopened, unopened_ends}
+use Rattle.live_command.proofs.DiskLemmas.{live_ends, reads_on, reads_unopened, syncs_on, syncs_unopened, unopened_ends, opening_done}
+use Rattle.live_service.specs.Kinds.{MayAnswerLive}
+use Rattle.hosted_lines.proofs.AnswersLemmas.{answers_over}
 use Rattle.live_command.proofs.command.live.Goals as goal
 
 pub returns-in-Ok-clause-ends : goal.returns-in-Ok-clause-ends
@@ -97,3 +99,17 @@ returns-in-Err-clause-faults g c =
     let back = c.in-Err.field-0 in
     let e = c.in-Err.ensures in
     counts_unopened_end back.cause c.opening_end.result (view c.args.world) (view back.value) c.opening_end.ensures e.opens.beside_is e.cause e.quiet_err
+
+pub returns-in-Ok-clause-answers : goal.returns-in-Ok-clause-answers
+returns-in-Ok-clause-answers g c =
+    let left = g.W.Streams.left in
+    let sent = g.W.Streams.sent in
+    let old = c.args.world in
+    let start = (stored.pages c.in-Ok.store).disk in
+    let w = g.met.W.World in
+    let beside = c.in-Ok.ensures.opens.beside_is in
+    λ done. answers_over MayAnswerLive (left start) (left old) (sent start) (sent old) (sent c.serve_store.result.1) (sym (w.beside_left start) ∙ ap (λ (b : Beside). b.left) beside ∙ w.beside_left old)
+    (sym (w.beside_sent start) ∙ ap (λ (b : Beside). b.sent) beside ∙ w.beside_sent old) (c.serve_store.ensures.answers done)
+
+pub returns-in-Err-clause-answers : goal.returns-in-Err-clause-answers
+returns-in-Err-clause-answers g c = λ done. absurd (opening_done c.in-Err.field-0.cause (sym c.opening_end.ensures ∙ done))

@@ -1,7 +1,7 @@
-use Rattle.std.proofs.Common.{ℕ, None, refl, sym, subst, ◌∙◌}
+use Rattle.std.proofs.Common.{ℕ, None, refl, sym, subst, ◌∙◌, ◌≡◌}
 use Rattle.std.specs.Prelude.{IfSome, IsTrue}
 use Rattle.run_ends.specs.Faults.{end_fault}
-use Rattle.run_ends.specs.declared.ending.End.TheVariants.{NoMemory}
+use Rattle.run_ends.specs.declared.ending.End.TheVariants.{NoMemory, Done}
 use Rattle.series_store.specs.Shown as stored
 use Rattle.store_commands.specs.Traffic.{traffic}
 use Rattle.store_commands.proofs.Stores.{store_disk, store_count, store_sound}
@@ -11,6 +11,8 @@ use Rattle.live_command.proofs.SyncLemmas.{syncs_nothing}
 use Rattle.live_command.specs.Ending.{Served}
 use Rattle.live_command.proofs.DiskLemmas.{reads_untaken, served_none}
 use Rattle.chart_world.specs.Faults.{CountsFault}
+use Rattle.live_service.specs.Kinds.{MayAnswerLive}
+use Rattle.hosted_lines.specs.Answers.{SendsAnswers}
 use Rattle.live_command.proofs.command.serve_store.Goals as goal
 
 pub serve_service-requires-clause-sound : goal.serve_service-requires-clause-sound
@@ -98,3 +100,14 @@ returns-in-Err-clause-faults g c =
     let store = c.args.store in
     let D : g.row.W.Denot → Type 0 = λ d. CountsFault None (view (stored.pages store).disk) (view d) in
     subst D (sym (c.disk_of.ensures.disk ∙ store_disk c.in-Err.field-0.value store c.in-Err.ensures.back)) refl
+
+pub returns-in-Ok-clause-answers : goal.returns-in-Ok-clause-answers
+returns-in-Ok-clause-answers g c =
+    let left = g.W.Streams.left in
+    let sent = g.W.Streams.sent in
+    let store = c.args.store in
+    let made = c.in-Ok.service.store in
+    let new = c.serve_service.result.1 in
+    let end = c.serve_service.result.0 in
+    let D : g.row.W.Denot → Type 0 = λ d. end ≡ Done → IfSome (left d) (λ input. SendsAnswers MayAnswerLive input (sent d) (sent new)) in
+    subst D (store_disk made store c.in-Ok.ensures.store) c.serve_service.ensures.answers

@@ -22,6 +22,8 @@ use Rattle.chart_world.specs.FaultLaws.{counts_then, counts_kept}
 use Rattle.chart_service.proofs.Faulting.{counts_lines}
 use Rattle.store_commands.specs.Faulting.{counts_told}
 use Rattle.live_command.proofs.FaultLemmas.{input_fault_is, input_long_is, same_fault}
+use Rattle.chart_service.specs.Shown as shown
+use Rattle.live_command.proofs.AnswerLemmas.{FarAnswered, answered_far, far_answered_first, far_answered_kept, far_answered_line}
 use Rattle.live_command.proofs.serving.answer_lines.Goals as goal
 
 pub lines-init : goal.lines-init
@@ -46,6 +48,7 @@ lines-init g c =
       faults = refl;
       far = λ total book told stands. far_first o c.args.lines.now total book (view at).image (held_by old) before fresh stands (c.requires.book total book told stands);
       synced = far_synced_first o c.args.lines.now (view at).syncs fresh;
+      answered = far_answered_first o c.args.lines.now (shown.sessions (its.service old)) before fresh;
       read = λ total book told stands. far_read_first o c.args.lines.now total book (view at).image (held_by old) (view at).reads fresh stands (c.requires.book total book told stands);
       lasts = λ total book told stands. lasts_on_first total book (held_by old) o before (view at) (g.met.P.Pages.rests at c.requires.sound) stands;
     }
@@ -179,6 +182,11 @@ lines-preserved-in-Ok-refuse_line g c =
       synced =
           let F : Option (List ℕ) → Type 0 = λ l. FarSynced (left first) (unread c.next.new.self l) c.next.new.self.given (view first).syncs (view new).syncs in
           subst F (sym it.left) (far_synced_line (left first) c.lines.lines c.next.new.self (left mid) (left taken) line gives (view first).syncs (view taken).syncs (view new).syncs (none_syncs (edits_of (unless_empty line)) (view taken).syncs (view new).syncs it.syncs) (far_synced_kept (left first) (unread c.lines.lines (left mid)) c.lines.lines.given (view first).syncs (view mid).syncs (view taken).syncs kept.syncs inv.synced));
+      answered =
+          let own = shown.sessions (its.service start) in
+          let far = far_answered_kept (left first) (unread c.lines.lines (left mid)) c.lines.lines.given own (shown.sessions (its.service c.lines.live)) (shown.sessions (its.service c.next.new.from)) (sent first) (sent mid) (sent taken) beside.changed.sessions c.next.ensures.sent inv.answered in
+          let F : Option (List ℕ) → Type 0 = λ l. FarAnswered (left first) (unread c.next.new.self l) c.next.new.self.given own (shown.sessions (its.service c.refuse_line.new.live)) (sent first) (sent new) in
+          subst F (sym it.left) (far_answered_line (left first) c.lines.lines c.next.new.self (left mid) (left taken) line gives own (shown.sessions (its.service c.next.new.from)) (shown.sessions (its.service c.refuse_line.new.live)) (sent first) (sent taken) (sent new) it.sends far);
       read = λ total book told stands.
           let state = its.state start total book in
           let read = far_read_kept (left first) (unread c.lines.lines (left mid)) c.lines.lines.given total state (view mid).image (view taken).image (held_by c.lines.live) (held_by c.next.new.from) (view first).reads (view mid).reads (view taken).reads kept.image same kept.reads (inv.read total book told stands) in
@@ -328,6 +336,11 @@ lines-preserved g c =
       synced =
           let F : Option (List ℕ) → Type 0 = λ l. FarSynced (left first) (unread c.next.new.self l) c.next.new.self.given (view first).syncs (view new).syncs in
           subst F (sym it.left) (far_synced_line (left first) c.lines.lines c.next.new.self (left mid) (left taken) line gives (view first).syncs (view taken).syncs (view new).syncs (it.syncs) (far_synced_kept (left first) (unread c.lines.lines (left mid)) c.lines.lines.given (view first).syncs (view mid).syncs (view taken).syncs kept.syncs inv.synced));
+      answered =
+          let own = shown.sessions (its.service start) in
+          let far = far_answered_kept (left first) (unread c.lines.lines (left mid)) c.lines.lines.given own (shown.sessions (its.service c.lines.live)) (shown.sessions (its.service c.next.new.from)) (sent first) (sent mid) (sent taken) beside.changed.sessions c.next.ensures.sent inv.answered in
+          let F : Option (List ℕ) → Type 0 = λ l. FarAnswered (left first) (unread c.next.new.self l) c.next.new.self.given own (shown.sessions (its.service c.answer_line.new.live)) (sent first) (sent new) in
+          subst F (sym it.left) (far_answered_line (left first) c.lines.lines c.next.new.self (left mid) (left taken) line gives own (shown.sessions (its.service c.next.new.from)) (shown.sessions (its.service c.answer_line.new.live)) (sent first) (sent taken) (sent new) it.sends far);
       read = λ total book told stands.
           let state = its.state start total book in
           let read = far_read_kept (left first) (unread c.lines.lines (left mid)) c.lines.lines.given total state (view mid).image (view taken).image (held_by c.lines.live) (held_by c.next.new.from) (view first).reads (view mid).reads (view taken).reads kept.image same kept.reads (inv.read total book told stands) in
@@ -632,3 +645,17 @@ returns-in-Err-answer_line-clause-faults g c =
     let new = pages c.answer_line.new.live in
     let next = counts_kept view g.P.Streams.read_faults g.P.Streams.send_faults w.beside_read_faults w.beside_send_faults mid taken kept (c.in-Ok.ensures.quiet (ok_err _ _)) c.next.ensures.send_faults in
     counts_then (end_fault c.in-Err-answer_line.end) (view first) (view taken) (view new) (counts_then None (view first) (view mid) (view taken) inv.faults next) c.in-Err-answer_line.ensures.faults
+
+pub returns-in-End-clause-answers : goal.returns-in-End-clause-answers
+returns-in-End-clause-answers g c =
+    let left = g.P.Streams.left in
+    let sent = g.P.Streams.sent in
+    let start = c.args.live.now in
+    let first = pages start in
+    let mid = pages c.lines.live in
+    let taken = pages c.next.new.from in
+    let beside = c.next.ensures.beside in
+    let own = shown.sessions (its.service start) in
+    let now = shown.sessions (its.service c.next.new.from) in
+    let far = far_answered_kept (left first) (unread c.lines.lines (left mid)) c.lines.lines.given own (shown.sessions (its.service c.lines.live)) now (sent first) (sent mid) (sent taken) beside.changed.sessions c.next.ensures.sent c.lines.invariant.answered in
+    answered_far (left first) (unread c.lines.lines (left mid)) c.lines.lines.given own now (sent first) (sent taken) (c.in-Ok.ensures.end (ap Ok c.in-End.is)) far

@@ -6,6 +6,8 @@ use Rattle.live_service.specs.Shown as its
 use Rattle.live_view.specs.Live as follows
 use Rattle.live_command.proofs.ReadLemmas.{FarRead}
 use Rattle.live_command.proofs.SyncLemmas.{FarSynced}
+use Rattle.live_command.proofs.AnswerLemmas.{FarAnswered}
+use Rattle.chart_service.specs.Shown as shown
 use Rattle.live_command.proofs.RunLemmas.{Far, LastsOn}
 use Rattle.hosted_lines.specs.Doing.{Goes, held_by, side_of}
 use Rattle.hosted_lines.specs.Shown.{pages}
@@ -32,6 +34,7 @@ invariant-lines g l =
       far : its.ForBook first (λ total book. Far (left (pages first)) (unread l.lines (left (pages live))) l.lines.given total (its.state first total book) (its.view live).image (held_by live) (sent (pages first)) (sent (pages live)));
       read : its.ForBook first (λ total book. FarRead (left (pages first)) (unread l.lines (left (pages live))) l.lines.given total (its.state first total book) (its.view live).image (held_by live) (its.view first).reads (its.view live).reads);
       synced : FarSynced (left (pages first)) (unread l.lines (left (pages live))) l.lines.given (its.view first).syncs (its.view live).syncs;
+      answered : FarAnswered (left (pages first)) (unread l.lines (left (pages live))) l.lines.given (shown.sessions (its.service first)) (shown.sessions (its.service live)) (sent (pages first)) (sent (pages live));
       lasts : its.ForBook first (λ total book. LastsOn total (its.state first total book) (left (pages first)) (sent (pages first)) (its.view first) (its.view live));
     }
 

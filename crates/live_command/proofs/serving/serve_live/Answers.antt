@@ -46,3 +46,9 @@ returns-clause-long g c = λ is. c.in-Err.ensures.long (ap Err is)
 
 pub returns-clause-cause : goal.returns-clause-cause
 returns-clause-cause g c = λ other. c.in-Err.ensures.cause
+
+pub returns-clause-answers : goal.returns-clause-answers
+returns-clause-answers g c = λ is.
+    let side = side_of g.P.Streams in
+    let C : End → Type 0 = λ end. IsCause end (side c.args.live.now) (side c.answer_lines.new.live) in
+    absurd (subst C is c.in-Err.ensures.cause)

@@ -9,12 +9,14 @@ use Rattle.live_service.proofs.answering.step_line.Goals as goal
 pub returns-in-Ok : goal.returns-in-Ok
 returns-in-Ok g c =
     let fit = c.in-Ok.ensures.fit in
-    let facts = line_answered (record { answers = λ old line r new x. x; repeats = λ old session r new x. x; names = λ it name id x. x; sessions = λ it. refl }) (live_line c.args.line.now) c.args.line.now c.in-Ok.frame c.args.live.now c.step_line.new.self refl fit c.in-Ok.ensures.reply in
+    let facts = line_answered (record { answers = λ old line r new x. x; repeats = λ old session r new x. x; names = λ it name id x. x; sessions = λ it. refl }) (live_line c.args.line.now) c.args.line.now c.in-Ok.frame c.args.live.now c.step_line.new.self refl fit c.in-Ok.ensures.fits c.in-Ok.ensures.reply in
     record {
       reply = facts.reply;
       standing = facts.standing;
       moments = facts.moments;
       reads = facts.reads;
+      may = facts.may;
+      opens = facts.opens;
       fits = c.in-Ok.ensures.fits;
       unchanged = facts.unchanged;
       idle = facts.idle;
@@ -38,6 +40,8 @@ returns-in-Err-Stepper g c =
       standing = facts.standing;
       moments = facts.moments;
       reads = facts.reads;
+      may = facts.may;
+      opens = facts.opens;
       fits = tt;
       unchanged = facts.unchanged;
       idle = facts.idle;
@@ -61,6 +65,8 @@ returns-in-Err-NoMemory g c =
       standing = facts.standing;
       moments = facts.moments;
       reads = facts.reads;
+      may = facts.may;
+      opens = facts.opens;
       fits = tt;
       unchanged = facts.unchanged;
       idle = facts.idle;

@@ -1,12 +1,14 @@
-use Rattle.std.proofs.Common.{◌∙◌, length, ap, sym}
+use Rattle.std.proofs.Common.{◌∙◌, List, ap, length, subst, sym}
 use Rattle.block_disk.specs.View.{Beside}
+use Rattle.retention.specs.Sweeps.{LacksNamed, sweeps}
+use Rattle.series_catalog.specs.declared.stored_series.StoredSeries.{StoredSeries}
 use Rattle.series_store.specs.Shown as shown
 use Rattle.retain_command.specs.Answers.{swept_text}
 use Rattle.chart_world.specs.Faults.{fault_in}
 use Rattle.chart_world.specs.FaultLaws.{counts_then}
 use Rattle.run_ends.specs.Faults.{end_fault}
 use Rattle.retain_command.proofs.Counting.{sweep_counts}
-use Rattle.retain_command.proofs.DoingLemmas.{rule_answered, rule_stopped, swept_there}
+use Rattle.retain_command.proofs.DoingLemmas.{costs_of, rule_answered, rule_stopped, says_some, sweep_lacks, swept_there, unsent_lacks}
 use Rattle.retain_command.proofs.WorkLemmas.{sweep_short}
 use Rattle.retain_command.proofs.answering.answer_rule.Goals as goal
 
@@ -25,6 +27,7 @@ returns-in-Ok-clause-does g c = λ total book told stands.
     let sends = made.beside.pages_are in
     rule_answered total book c.args.rule.now c.args.at swept (view pages) (view mid) (view pages') (sent pages) (sent mid) (sent pages') (swept_there book c.args.rule.now swept (e.unknown total book told stands)) (e.done total book told stands) (e.moments total book told stands)
     (sym (w.beside_sent mid) ∙ ap (λ (b : Beside). b.sent) e.carries.beside ∙ w.beside_sent pages) (w.send_keeps n mid pages' sends) c.send_swept.result made.whole made.stops (g.met.P.Pages.rests mid e.sound) (w.send_passes n mid pages' sends) (w.send_counts n mid pages' sends)
+    (costs_of (length (sweeps total book c.args.rule.now)) (view pages) (view mid) (e.few_reads total book told stands) (e.commits total book told stands))
 
 pub returns-in-Err-clause-does : goal.returns-in-Err-clause-does
 returns-in-Err-clause-does g c = λ total book told stands.
@@ -36,6 +39,7 @@ returns-in-Err-clause-does g c = λ total book told stands.
     let e = c.in-Err.ensures in
     rule_stopped total book c.args.rule.now c.args.at (view pages) (view mid) (sent pages) (sent mid) c.in-Err.error c.end_at.result c.end_at.ensures (e.unknown total book told stands) (λ is. ap (λ s. shown.view s) (e.untouched is)) stands
     (sym (w.beside_sent mid) ∙ ap (λ (b : Beside). b.sent) e.carries.beside ∙ w.beside_sent pages) (e.stops total book told stands) (e.moments total book told stands)
+    (costs_of (length (sweeps total book c.args.rule.now)) (view pages) (view mid) (e.few_reads total book told stands) (e.commits total book told stands))
 
 pub returns-in-Ok-clause-faults : goal.returns-in-Ok-clause-faults
 returns-in-Ok-clause-faults g c =
@@ -46,3 +50,22 @@ returns-in-Err-clause-faults g c = sweep_counts c.args.at c.in-Err.error c.end_a
 
 pub returns-in-Err-clause-long : goal.returns-in-Err-clause-long
 returns-in-Err-clause-long g c = λ same. sweep_short c.args.at c.in-Err.error c.end_at.result c.end_at.ensures same
+
+pub returns-in-Ok-clause-says : goal.returns-in-Ok-clause-says
+returns-in-Ok-clause-says g c =
+    let sent = g.P.Streams.sent in
+    let w = g.met.P.PageWorld in
+    let pages = shown.pages c.args.store.now in
+    let mid = shown.pages c.sweep.new.store in
+    let pages' = shown.pages c.send_swept.new.store in
+    says_some c.send_swept.result (swept_text c.in-Ok.swept.clears c.in-Ok.swept.used) (sent pages) (sent mid) (sent pages')
+    (sym (w.beside_sent mid) ∙ ap (λ (b : Beside). b.sent) c.in-Ok.ensures.carries.beside ∙ w.beside_sent pages) c.send_swept.ensures.whole
+
+pub returns-in-Ok-clause-lacking : goal.returns-in-Ok-clause-lacking
+returns-in-Ok-clause-lacking g c = unsent_lacks c.send_swept.result c.args.rule.now c.args.at (shown.catalog c.send_swept.new.store) _ _ _ c.send_swept.ensures.stops
+
+pub returns-in-Err-clause-lacking : goal.returns-in-Err-clause-lacking
+returns-in-Err-clause-lacking g c =
+    let e = c.in-Err.ensures in
+    sweep_lacks c.in-Err.error c.args.rule.now c.args.at (shown.catalog c.sweep.new.store) c.end_at.result c.end_at.ensures
+    (λ is. let P : List StoredSeries → Type 0 = λ items. LacksNamed items c.args.rule.now in subst P (sym (ap (λ s. shown.catalog s) (e.untouched is))) (e.lacks is))

@@ -1,15 +1,20 @@
-use Rattle.std.proofs.Common.{◌≢◌, ap, subst, sym, arith}
+use Rattle.std.proofs.Common.{◌≢◌, ℕ, List, ap, subst, sym, arith}
 use Rattle.chart_world.specs.FaultLaws.{counts_no_disk, counts_then}
 use Rattle.chart_world.specs.Faults.{CountsFault}
 use Rattle.gate_pages.specs.GatePages.{IsClosed}
+use Rattle.gate_pages.specs.Journal.{pages_of}
 use Rattle.run_ends.specs.Faults.{end_fault}
 use Rattle.run_ends.specs.Statuses.{status_of}
 use Rattle.run_ends.specs.declared.ending.End.{End}
 use Rattle.run_ends.specs.declared.ending.End.TheVariants.{DiskFault}
+use Rattle.series_store.proofs.NameLemmas.{no_record}
+use Rattle.series_store.specs.Asking.{LacksName}
 use Rattle.series_store.specs.Shown as shown
+use Rattle.store_commands.proofs.Damages.{lacks_record}
 use Rattle.store_commands.proofs.Held.{rests_new}
 use Rattle.store_commands.proofs.TurnedAway.{away_never}
 use Rattle.store_commands.proofs.WorldLemmas.{away_over, traffic_over, unopened_over}
+use Rattle.store_commands.specs.Lacking.{LacksRecord}
 use Rattle.store_commands.specs.Faulting.{counts_unopened_end}
 use Rattle.store_commands.specs.Traffic.{Traffic, traffic}
 use Rattle.store_commands.specs.TrafficLaws.{was_read}
@@ -39,9 +44,15 @@ returns-in-Ok-clause-ends g c =
     λ other.
     let P : g.row.W.Denot → Type 0 = λ d. IsClosed (view d) in
     subst P c.disk_of.ensures.disk (c.disk_of.ensures.rests (made.sound other)) in
+    let lacking : end ≢ DiskFault → (name : List ℕ) → LacksName (shown.catalog after) name → LacksRecord end_pages.count (view new) name =
+    λ other name lacks.
+    let sound = made.sound other in
+    let keeps = rests_new end_pages.count (view new) (shown.numbers after) (end_pages.at_rest sound) (after.space.spelled sound) in
+    lacks_record end_pages.count (view new) (shown.numbers after) name keeps (λ honest. record { spelled = after.space.spelled sound honest; rules = after.space.rules })
+    (λ honest. no_record (pages_of end_pages.count (view new).image) (shown.numbers after) (shown.catalog after) name after.count (after.told sound honest) lacks) in
     let all = retained_by pages.count end_pages.count pages.sound end_pages.sound (view first) (view old) (view new) (shown.total before) (shown.total after) (traffic left sent reads sends old new) made.goes
     (rests_new pages.count (view old) (shown.numbers before) (pages.at_rest opened.sound) (before.space.spelled opened.sound)) (omega (arith, before.space.rules.total_high)) opened.count opened.opens opened.quiet
-    end (λ done. was_read (left old) (left new) (made.within done) (made.whole done)) made.long made.cause made.ends made.crash closed in
+    end (λ done. was_read (left old) (left new) (made.within done) (made.whole done)) made.long made.cause made.ends made.crash closed made.costs (shown.catalog after) made.faulty lacking in
     let same = traffic_over view left sent reads sends w.beside_left w.beside_sent w.beside_read_faults w.beside_send_faults first old new opened.opens.beside_is in
     let T : Traffic → Type 0 = λ t. RetainEnds (view first) (view new) t end in
     let D : g.row.W.Denot → Type 0 = λ d. RetainEnds (view first) (view d) (traffic left sent reads sends first d) end in

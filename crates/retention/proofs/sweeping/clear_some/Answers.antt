@@ -3,7 +3,7 @@ use Rattle.series_store.specs.Shown as shown
 use Rattle.chart_world.specs.FaultLaws.{counts_then, disk_stays}
 use Rattle.retention.specs.Faults.{sweep_fault}
 use Rattle.retention.proofs.LookLemmas.{carries_looks, carries_none, carries_then, commits_looks, commits_more, commits_then, read_later, read_sweeps}
-use Rattle.retention.proofs.SweepLemmas.{going_commits, going_more, going_none, is_known, later_moments, look_commits, look_moments, look_stops, looks_sound, swept_end, swept_last, swept_stops}
+use Rattle.retention.proofs.SweepLemmas.{going_commits, going_few, going_more, going_none, is_known, later_moments, look_commits, look_moments, look_stops, looks_sound, swept_end, swept_last, swept_stops}
 use Rattle.retention.proofs.sweeping.clear_some.Goals as goal
 
 -- ---- a clear failed
@@ -243,3 +243,25 @@ returns-in-Err-next_clear-clause-reads g c = omega (arith, c.clearing.invariant.
 
 pub returns-clause-reads : goal.returns-clause-reads
 returns-clause-reads g c = omega (arith, c.clearing.invariant.reads, c.clearing.invariant.few, c.in-Ok-next_clear.ensures.reads)
+
+-- ---- how much was read, where the pages stand for a book
+
+pub returns-in-Err-clause-few_reads : goal.returns-in-Err-clause-few_reads
+returns-in-Err-clause-few_reads g c = λ total book told stands.
+    let was = c.clearing.invariant in
+    omega (arith, was.reads, c.in-Err.ensures.reads, going_few total book c.args.rule.now c.args.most c.clearing.clears (shown.view c.args.store.now) (shown.view c.clearing.store) was.few (was.going total book told stands))
+
+pub returns-then-not-more-clause-few_reads : goal.returns-then-not-more-clause-few_reads
+returns-then-not-more-clause-few_reads g c = λ total book told stands.
+    let was = c.clearing.invariant in
+    omega (arith, was.reads, c.in-Ok.ensures.reads, going_few total book c.args.rule.now c.args.most c.clearing.clears (shown.view c.args.store.now) (shown.view c.clearing.store) was.few (was.going total book told stands))
+
+pub returns-in-Err-next_clear-clause-few_reads : goal.returns-in-Err-next_clear-clause-few_reads
+returns-in-Err-next_clear-clause-few_reads g c = λ total book told stands.
+    let was = c.clearing.invariant in
+    omega (arith, was.reads, c.in-Err-next_clear.ensures.reads, going_few total book c.args.rule.now c.args.most c.clearing.clears (shown.view c.args.store.now) (shown.view c.clearing.store) was.few (was.going total book told stands))
+
+pub returns-clause-few_reads : goal.returns-clause-few_reads
+returns-clause-few_reads g c = λ total book told stands.
+    let was = c.clearing.invariant in
+    omega (arith, was.reads, c.in-Ok-next_clear.ensures.reads, going_few total book c.args.rule.now c.args.most c.clearing.clears (shown.view c.args.store.now) (shown.view c.clearing.store) was.few (was.going total book told stands))

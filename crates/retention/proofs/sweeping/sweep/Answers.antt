@@ -1,6 +1,6 @@
 use Rattle.series_store.specs.Shown as shown
 use Rattle.retention.specs.declared.sweep_error.SweepError.TheVariants.{UnknownSeries}
-use Rattle.retention.proofs.StepLemmas.{err_moves, whole_commits, whole_moments, whole_stops, whole_swept}
+use Rattle.retention.proofs.StepLemmas.{err_moves, whole_commits, whole_moments, whole_reads, whole_stops, whole_swept}
 use Rattle.retention.proofs.SweepLemmas.{ok_err}
 use Rattle.retention.proofs.sweeping.sweep.Goals as goal
 
@@ -63,3 +63,15 @@ returns-in-Err-clause-faults g c = c.in-Err.ensures.faults
 
 pub returns-in-Err-clause-sound_for : goal.returns-in-Err-clause-sound_for
 returns-in-Err-clause-sound_for g c = c.in-Err.ensures.sound_for
+
+pub returns-in-Ok-clause-lacks : goal.returns-in-Ok-clause-lacks
+returns-in-Ok-clause-lacks g c = λ same. absurd (ok_err _ UnknownSeries same)
+
+pub returns-in-Err-clause-lacks : goal.returns-in-Err-clause-lacks
+returns-in-Err-clause-lacks g c = λ same. c.in-Err.ensures.lacks (err_moves c.in-Err.error UnknownSeries same)
+
+pub returns-in-Ok-clause-few_reads : goal.returns-in-Ok-clause-few_reads
+returns-in-Ok-clause-few_reads g c = λ total book told stands. whole_reads total book c.args.rule.now (shown.view c.args.store.now) (shown.view c.sweep_some.new.store) (c.in-Ok.ensures.few_reads total book told stands)
+
+pub returns-in-Err-clause-few_reads : goal.returns-in-Err-clause-few_reads
+returns-in-Err-clause-few_reads g c = λ total book told stands. whole_reads total book c.args.rule.now (shown.view c.args.store.now) (shown.view c.sweep_some.new.store) (c.in-Err.ensures.few_reads total book told stands)

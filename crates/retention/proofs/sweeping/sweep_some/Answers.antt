@@ -64,3 +64,15 @@ returns-then-names_none-clause-untouched g c = λ same. refl
 
 pub returns-then-names_none-clause-sound_for : goal.returns-then-names_none-clause-sound_for
 returns-then-names_none-clause-sound_for g c = c.requires.sound
+
+pub returns-then-names_none-clause-lacks : goal.returns-then-names_none-clause-lacks
+returns-then-names_none-clause-lacks g c = λ same. c.names_none.ensures.lacks c.if-names_none.true
+
+pub returns-clause-lacks : goal.returns-clause-lacks
+returns-clause-lacks g c = λ same. absurd (not_unknown c.clear_some.result c.clear_some.ensures.known same)
+
+pub returns-then-names_none-clause-few_reads : goal.returns-then-names_none-clause-few_reads
+returns-then-names_none-clause-few_reads g c = λ total book told stands. omega arith
+
+pub returns-clause-few_reads : goal.returns-clause-few_reads
+returns-clause-few_reads g c = c.clear_some.ensures.few_reads

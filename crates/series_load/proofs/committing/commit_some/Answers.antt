@@ -1,8 +1,9 @@
-use Rattle.std.proofs.Common.{Err, subst, sym}
+use Rattle.std.proofs.Common.{Err, length, subst, sym}
 use Rattle.run_ends.specs.Faults.{end_fault}
 use Rattle.series_load.specs.Steps.{IsSetCause}
 use Rattle.run_ends.specs.declared.ending.End.{End}
 use Rattle.chart_world.specs.Faults.{CountsFault}
+use Rattle.series_load.proofs.CostLemmas.{costs_commit}
 use Rattle.series_load.proofs.Counting.{set_counts}
 use Rattle.series_load.proofs.GroupLemmas.{counted, counted_cause, counted_faults, counted_most, counted_some, counted_sound, counts_as, edit_cause, err_as, group_failed}
 use Rattle.series_load.proofs.SetLemmas.{cause_of}
@@ -12,7 +13,9 @@ use Rattle.series_load.proofs.committing.commit_some.Goals as goal
 pub returns-in-Ok-clause-does : goal.returns-in-Ok-clause-does
 returns-in-Ok-clause-does g c = λ total name book runs told stands are.
     counted total name book runs c.args.sets.now c.args.ats.now c.in-Ok.answers.items c.to_count.result (shown.view c.args.store.now) (shown.view c.edit_until_refused.new.self) are (c.in-Ok.ensures.done total book told stands)
-    (c.in-Ok.ensures.last total book told stands) (c.in-Ok.ensures.moments total book told stands) (counts_as c.args.ats.now c.in-Ok.answers.items c.as_slice.result.now c.to_count.result c.as_slice.ensures.value c.to_count.ensures)
+    (c.in-Ok.ensures.last total book told stands) (c.in-Ok.ensures.moments total book told stands) c.in-Ok.ensures.covered.1
+    (costs_commit (length c.in-Ok.answers.items) (shown.view c.args.store.now) (shown.view c.edit_until_refused.new.self) c.in-Ok.ensures.covered.0 (c.in-Ok.ensures.few_reads total book told stands) c.edit_until_refused.ensures.moves.syncs c.edit_until_refused.ensures.moves.writes)
+    (counts_as c.args.ats.now c.in-Ok.answers.items c.as_slice.result.now c.to_count.result c.as_slice.ensures.value c.to_count.ensures)
 
 pub returns-in-Ok-clause-cause : goal.returns-in-Ok-clause-cause
 returns-in-Ok-clause-cause g c = counted_cause c.args.ats.now c.in-Ok.answers.items c.to_count.result _ _ _ _ (counts_as c.args.ats.now c.in-Ok.answers.items c.as_slice.result.now c.to_count.result c.as_slice.ensures.value c.to_count.ensures)
@@ -33,6 +36,7 @@ pub returns-in-Err-clause-does : goal.returns-in-Err-clause-does
 returns-in-Err-clause-does g c = λ total name book runs told stands are.
     group_failed total name book runs c.args.sets.now c.args.ats.now _ c.in-Err.error (Err c.end_at.result) (shown.IsTold c.args.store.now) (shown.view c.args.store.now) (shown.view c.edit_until_refused.new.self) (err_as c.end_at.result _ c.end_at.ensures) are told stands
     (c.in-Err.ensures.outside total book told stands) c.in-Err.ensures.unchanged (c.edit_until_refused.ensures.whole total book told stands)
+    (costs_commit (length c.args.sets.now) (shown.view c.args.store.now) (shown.view c.edit_until_refused.new.self) c.requires.some (c.edit_until_refused.ensures.reads total book told stands) c.edit_until_refused.ensures.moves.syncs c.edit_until_refused.ensures.moves.writes)
 
 pub returns-in-Err-clause-cause : goal.returns-in-Err-clause-cause
 returns-in-Err-clause-cause g c =

@@ -1,6 +1,7 @@
 use Rattle.std.proofs.Common.{◌≢◌, ◌∙◌, Err, refl, subst, sym, arith}
 use Rattle.block_disk.specs.View.{sent_now}
 use Rattle.line_runs.specs.EndLaws.{input_long}
+use Rattle.series_load.specs.Costs.{spent_by}
 use Rattle.series_load.specs.Ends.{Stopped}
 use Rattle.series_load.specs.Shown.{EndsFor}
 use Rattle.run_ends.specs.declared.ending.End.{End}
@@ -20,13 +21,13 @@ returns-in-Ok-clause-outcome g c = λ total book series told stands step scale.
     let new = c.run_lines.new.from in
     let loader = c.args.loader.now in
     let at = shown.view old in
-    let begin = start total loader.name book series at.clock (sent_now at) in
+    let begin = start total loader.name book series at.clock (sent_now at) (spent_by at) in
     let is = start_stands (shown.IsTold old) total book series loader at told stands c.requires.none c.requires.sets c.requires.ats c.requires.first c.requires.points
     step scale in
-    finished_so total loader.name book series at.clock (sent_now at) (shown.IsTold new) c.run_lines.new.work
+    finished_so total loader.name book series at.clock (sent_now at) (spent_by at) (shown.IsTold new) c.run_lines.new.work
     (g.P.Streams.left (shown.pages old))
     (g.P.Streams.sent (shown.pages old)) (g.P.Streams.sent (shown.pages new)) (g.P.Streams.pieces (shown.pages old))
-    (g.P.Streams.pieces (shown.pages new)) at (shown.view new) refl refl c.in-Ok.ensures.within
+    (g.P.Streams.pieces (shown.pages new)) at (shown.view new) refl refl refl c.in-Ok.ensures.within
     (c.in-Ok.ensures.done begin is) (c.run_lines.ensures.crash begin is tt)
 
 pub returns-in-Err-clause-outcome : goal.returns-in-Err-clause-outcome
@@ -37,16 +38,16 @@ returns-in-Err-clause-outcome g c = λ total book series told stands step scale.
     let new = c.run_lines.new.from in
     let loader = c.args.loader.now in
     let at = shown.view old in
-    let begin = start total loader.name book series at.clock (sent_now at) in
+    let begin = start total loader.name book series at.clock (sent_now at) (spent_by at) in
     let is = start_stands (shown.IsTold old) total book series loader at told stands c.requires.none c.requires.sets c.requires.ats c.requires.first c.requires.points
     step scale in
     let E : End → Type 0 = λ e. Stopped total loader.name book series (left (shown.pages old)) (left (shown.pages new)) e at
     (shown.view new) in
     subst E (sym c.stop_end.ensures)
-    (stopped_so total loader.name book series at.clock (sent_now at) (shown.IsTold new) c.run_lines.new.work
+    (stopped_so total loader.name book series at.clock (sent_now at) (spent_by at) (shown.IsTold new) c.run_lines.new.work
     (left (shown.pages old)) (left (shown.pages new)) (sent (shown.pages old)) (sent (shown.pages new)) (g.P.Streams.pieces (shown.pages old))
     (g.P.Streams.pieces (shown.pages new)) at (shown.view new)
-    c.in-Err.stop refl refl
+    c.in-Err.stop refl refl refl
     (c.in-Err.ensures.stops begin is) (c.run_lines.ensures.crash begin is tt))
 
 pub returns-in-Err-clause-long : goal.returns-in-Err-clause-long

@@ -4,7 +4,8 @@ use Rattle.series_store.proofs.sending.send_waiting.Goals as goal
 
 pub returns-in_default-clause-gives : goal.returns-in_default-clause-gives
 returns-in_default-clause-gives g c = λ text before given.
-    given_part_on text c.args.out.now.items c.as_slice.result.now before _ _ _ _ c.as_slice.ensures.value (g.met.P.PageWorld.beside_sent c.args.space.now.pages) (g.met.P.PageWorld.beside_sent c.send.new.self.pages) given c.in_default.ensures.part
+    let is = given_part_on text c.args.out.now.items c.as_slice.result.now before _ _ _ _ c.as_slice.ensures.value (g.met.P.PageWorld.beside_sent c.args.space.now.pages) (g.met.P.PageWorld.beside_sent c.send.new.self.pages) given c.in_default.ensures.part in
+    (is.0, tt, is.1)
 
 pub returns-clause-gives : goal.returns-clause-gives
 returns-clause-gives g c = λ text before given.

@@ -5,6 +5,7 @@ use Rattle.gate_pages.specs.GatePages.{IsClosed}
 use Rattle.gate_pages.specs.Journal.{pages_of}
 use Rattle.series_export.specs.Faults.{send_fault}
 use Rattle.series_store.proofs.NameLemmas.{named_record, no_record}
+use Rattle.series_store.proofs.SelectedLemmas.{kept_at}
 use Rattle.series_store.specs.Shown as shown
 use Rattle.run_ends.specs.declared.ending.End.{End}
 use Rattle.run_ends.specs.Faults.{end_fault}
@@ -28,7 +29,7 @@ returns-in_default-clause-exports g c =
     let disk = pages.disk in
     let D : g.row.W.Denot → Type 0 = λ d. ExportsStore name window pages.count (view disk) (view d) (sent disk) (sent d) (sends disk) (sends d) UnknownSeries in
     subst D (sym c.disk_of.ensures.disk)
-    (none_found name window pages.count (view disk) (sent disk) (sends disk) (rests_new pages.count (view disk) (shown.numbers c.args.store) (pages.at_rest c.requires) (c.args.store.space.spelled c.requires))
+    (none_found name window pages.count (view disk) (sent disk) (sends disk) (omega (arith, pages.few)) (rests_new pages.count (view disk) (shown.numbers c.args.store) (pages.at_rest c.requires) (c.args.store.space.spelled c.requires))
     (lacks_record pages.count (view disk) (shown.numbers c.args.store) name (rests_new pages.count (view disk) (shown.numbers c.args.store) (pages.at_rest c.requires) (c.args.store.space.spelled c.requires))
     (λ honest. record { spelled = c.args.store.space.spelled c.requires honest; rules = c.args.store.space.rules })
     (λ honest. no_record (pages_of pages.count (view disk).image) (shown.numbers c.args.store) (shown.catalog c.args.store) name c.args.store.count (c.args.store.told c.requires honest) c.in_default.ensures.named))
@@ -59,14 +60,16 @@ returns-clause-exports g c =
     (series_sent name window pages.count end_pages.count pages.sound end_pages.sound (view disk) (view new) (shown.numbers before) (shown.numbers after) e.sends (rests_new pages.count (view disk) (shown.numbers before) (pages.at_rest c.requires) (before.space.spelled c.requires)) closed c.in-Some.info.id
     (λ total book honest stands. (c.in-Some.ensures.info total book c.requires honest stands).0)
     (sent disk) (sent new) (sends disk) (sends new) answer (w.beside_send_faults disk) (w.beside_send_faults new)
-    (omega (arith, c.in-Some.ensures.there, before.count)) before.space.rules.total_high
+    (omega (arith, c.in-Some.ensures.there, before.count)) before.space.rules.total_high (omega (arith, pages.few))
     (λ honest. record { spelled = before.space.spelled c.requires honest; rules = before.space.rules })
     (λ honest. named_record (pages_of pages.count (view disk).image) (shown.catalog before) name c.in-Some.info.id c.in-Some.ensures.there (before.told c.requires honest) c.in-Some.ensures.named)
-    (λ total book series honest stands there. e.sent total book series honest stands there)
-    (λ total book series honest stands there. e.part total book series honest stands there)
-    (λ total book series honest stands there. e.no_damage total book series honest stands there)
+    (λ total book series honest stands there. kept_at before total book c.in-Some.info.id series c.requires honest stands there)
+    (λ series honest kept. e.salvaged series honest kept)
+    (λ series honest kept. e.salvaged_part series honest kept)
+    (λ series honest kept. e.cut series honest kept)
+    (λ series honest kept. e.sound series honest kept)
     e.cause
-    (λ total book series honest stands there. e.reads total book series honest stands there)))
+    (λ series honest kept. e.salvaged_reads series honest kept)))
 
 pub returns-in_default-clause-untaken : goal.returns-in_default-clause-untaken
 returns-in_default-clause-untaken g c = ap g.W.Streams.left c.disk_of.ensures.disk

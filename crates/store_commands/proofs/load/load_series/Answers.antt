@@ -1,6 +1,6 @@
 use Rattle.std.specs.Prelude.{◌≤◌}
-use Rattle.std.proofs.Common.{ℕ, None, Result, Ok, Err, subst, ap}
-use Rattle.block_disk.specs.View.{sent_now}
+use Rattle.std.proofs.Common.{◌∙◌, ℕ, None, Result, Ok, Err, ap, subst, sym}
+use Rattle.block_disk.specs.View.{Beside, sent_now}
 use Rattle.chart_world.specs.Faults.{CountsFault, fault_in}
 use Rattle.chart_world.specs.FaultLaws.{counts_no_disk, counts_then}
 use Rattle.gate_pages.specs.Journal.{page_count}
@@ -14,7 +14,7 @@ use Rattle.store_commands.specs.Loaded.{loaded_text}
 use Rattle.store_commands.specs.Traffic.{traffic}
 use Rattle.store_commands.proofs.HoldsAgain.{again_opened, again_sent, again_loaded}
 use Rattle.store_commands.proofs.Held.{opened_book}
-use Rattle.store_commands.proofs.LoadEnds.{unloaded, stopped_ends, sent_ends, stores_on}
+use Rattle.store_commands.proofs.LoadEnds.{costs_on, sent_ends, stopped_ends, stores_on, unloaded}
 use Rattle.store_commands.proofs.LoadStored.{err_same}
 use Rattle.store_commands.proofs.TurnedAway.{away_never}
 use Rattle.store_commands.proofs.WorldLemmas.{away_over, traffic_over, unopened_over}
@@ -37,7 +37,8 @@ returns-in-Ok-answer-clause-ends g c =
     let e = c.in-Ok.ensures in
     let s = stores_on name opened.count (view old) (view opened.disk) (view mid) (traffic left sent reads sends old mid) (traffic left sent reads sends opened.disk mid) c.load_store-answer.result.0 (Ok readings) e.count c.in-Ok-answer.is e.opens e.quiet (opened_book opened.count (view old) (view opened.disk) e.pages)
     (traffic_over view left sent reads sends w.beside_left w.beside_sent w.beside_read_faults w.beside_send_faults old opened.disk mid e.opens.beside_is) c.load_store-answer.ensures.stores in
-    sent_ends name (view old) (view mid) (view new) (traffic left sent reads sends old mid) (left new) (sent new) (reads new) (sends new) readings c.send_text.result.0 c.send_text.ensures.left s (c.send_text.ensures.sends (loaded_text readings) c.loaded_text.ensures)
+    let costs = costs_on name opened.count (view old) (view opened.disk) (view mid) (left old) (left opened.disk) e.count e.opens (sym (w.beside_left opened.disk) ∙ ap (λ (b : Beside). b.left) e.opens.beside_is ∙ w.beside_left old) c.load_store-answer.ensures.costs in
+    sent_ends name (view old) (view mid) (view new) (traffic left sent reads sends old mid) (left new) (sent new) (reads new) (sends new) readings c.send_text.result.0 c.send_text.ensures.left s (c.send_text.ensures.sends (loaded_text readings) c.loaded_text.ensures) costs
 
 pub returns-in-Err-answer-clause-ends : goal.returns-in-Err-answer-clause-ends
 returns-in-Err-answer-clause-ends g c =
@@ -55,7 +56,8 @@ returns-in-Err-answer-clause-ends g c =
     let e = c.in-Ok.ensures in
     let s = stores_on name opened.count (view old) (view opened.disk) (view new) (traffic left sent reads sends old new) (traffic left sent reads sends opened.disk new) c.load_store-answer.result.0 (Err end) e.count c.in-Err-answer.is e.opens e.quiet (opened_book opened.count (view old) (view opened.disk) e.pages)
     (traffic_over view left sent reads sends w.beside_left w.beside_sent w.beside_read_faults w.beside_send_faults old opened.disk new e.opens.beside_is) c.load_store-answer.ensures.stores in
-    stopped_ends name (view old) (view new) (traffic left sent reads sends old new) end s
+    let costs = costs_on name opened.count (view old) (view opened.disk) (view new) (left old) (left opened.disk) e.count e.opens (sym (w.beside_left opened.disk) ∙ ap (λ (b : Beside). b.left) e.opens.beside_is ∙ w.beside_left old) c.load_store-answer.ensures.costs in
+    stopped_ends name (view old) (view new) (traffic left sent reads sends old new) end s costs
 
 pub returns-in-Err-clause-ends : goal.returns-in-Err-clause-ends
 returns-in-Err-clause-ends g c =

@@ -9,21 +9,34 @@ use Rattle.filter_scan.specs.declared.scan_error.ScanError.{ScanError}
 use Rattle.zoom_session.specs.Sessions.{viewed, without}
 use Rattle.chart_service.specs.declared.shown_rows.ShownRows.{ShownRows}
 use Rattle.chart_service.specs.Planning.{ShowsOrStops, FitInFrame}
+use Rattle.chart_service.specs.Stepping.{ReadsRows}
 use Rattle.chart_service.specs.Viewing.{AnswersRows}
 use Rattle.chart_service.specs.Shown as shown
 use Rattle.chart_service.proofs.Filtered.{rows_fit}
 use Rattle.chart_service.proofs.Keeping.{views_after_view}
 use Rattle.chart_service.proofs.Others.{stays_same, stays_viewed, stays_closed}
-use Rattle.chart_service.proofs.PlanLemmas.{replying_scan, replying_rows, looked_viewed, opens_rows_of}
+use Rattle.chart_service.proofs.PlanLemmas.{replying_scan, replying_rows, replying_want, looked_viewed, opens_rows_of}
 use Rattle.chart_service.proofs.service.Service.answer_rows.Goals as goal
 
 pub returns-in-Err-Node-clause-replying : goal.returns-in-Err-Node-clause-replying
 returns-in-Err-Node-clause-replying g c = λ total book told stands.
     let spec = c.args.spec in
     let R : Result ShownRows ScanError → Type 0 = λ r. IsSomeAnd (slice_get book spec.series) (λ series. ShowsOrStops series spec r) in
-    replying_scan (λ frame old new. IsSomeAnd (slice_get old.book spec.series) (λ series. AnswersRows series spec c.args.number frame old new)) (λ old new. Unit {0}) book total spec c.args.self.now.sessions c.rows.new.self.sessions c.in-Err-Node.error c.in-Err-Node.field-0 c.node_error.result
+    replying_scan (λ frame old new. IsSomeAnd (slice_get old.book spec.series) (λ series. AnswersRows series spec c.args.number frame old new)) (ReadsRows spec.grid.t0 spec.grid.t1 (slice_get book spec.series)) book total spec c.args.self.now.sessions c.rows.new.self.sessions c.in-Err-Node.error c.in-Err-Node.field-0 c.node_error.result
     (g.P.Pages.view (shown.pages c.args.self.now)) (g.P.Pages.view (shown.pages c.rows.new.self)) c.in-Err-Node.field-0-is c.node_error.ensures
-    (subst R c.in-Err-Node.is (c.rows.ensures.shown total book told stands)) tt
+    (subst R c.in-Err-Node.is (c.rows.ensures.shown total book told stands)) (c.rows.ensures.reads total book told stands)
+
+pub returns-in-Err-NoMemory-clause-replying : goal.returns-in-Err-NoMemory-clause-replying
+returns-in-Err-NoMemory-clause-replying g c = λ total book told stands.
+    let spec = c.args.spec in
+    replying_want (λ frame old new. IsSomeAnd (slice_get old.book spec.series) (λ series. AnswersRows series spec c.args.number frame old new)) (ReadsRows spec.grid.t0 spec.grid.t1 (slice_get book spec.series)) book total c.args.self.now.sessions c.rows.new.self.sessions
+    (g.P.Pages.view (shown.pages c.args.self.now)) (g.P.Pages.view (shown.pages c.rows.new.self)) (c.rows.ensures.reads total book told stands)
+
+pub returns-then-is_err-clause-replying : goal.returns-then-is_err-clause-replying
+returns-then-is_err-clause-replying g c = λ total book told stands.
+    let spec = c.args.spec in
+    replying_want (λ frame old new. IsSomeAnd (slice_get old.book spec.series) (λ series. AnswersRows series spec c.args.number frame old new)) (ReadsRows spec.grid.t0 spec.grid.t1 (slice_get book spec.series)) book total c.args.self.now.sessions c.apply.new.self
+    (g.P.Pages.view (shown.pages c.args.self.now)) (g.P.Pages.view (shown.pages c.rows.new.self)) (c.rows.ensures.reads total book told stands)
 
 pub invariant_of-self : goal.invariant_of-self
 invariant_of-self g c =
@@ -35,7 +48,7 @@ returns-clause-replying g c = λ total book told stands.
     let spec = c.args.spec in
     let kept : c.apply.new.self ≡ viewed c.args.number spec None c.rows.new.self.sessions = search rules in
     replying_rows book total spec c.args.number c.in-Ok.shown c.rows.result c.rows_frame-frame.result c.args.self.now.sessions c.rows.new.self.sessions c.apply.new.self
-    (g.P.Pages.view (shown.pages c.args.self.now)) (g.P.Pages.view (shown.pages c.rows.new.self)) c.in-Ok.is (c.rows.ensures.shown total book told stands) c.rows_frame-frame.ensures c.rows.ensures.sessions kept c.requires.opened
+    (g.P.Pages.view (shown.pages c.args.self.now)) (g.P.Pages.view (shown.pages c.rows.new.self)) c.in-Ok.is (c.rows.ensures.shown total book told stands) c.rows_frame-frame.ensures c.rows.ensures.sessions kept c.requires.opened (c.rows.ensures.reads total book told stands)
 
 pub returns-clause-looked : goal.returns-clause-looked
 returns-clause-looked g c =

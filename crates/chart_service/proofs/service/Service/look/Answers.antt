@@ -5,13 +5,13 @@ use Rattle.request_lines.specs.declared.requests.Request.TheVariants.{View, Zoom
 use Rattle.series_book.specs.Edits.{id_of}
 use Rattle.zoom_session.specs.Sessions.{is_open, open_refusal}
 use Rattle.chart_service.specs.Kinds.{MayAnswer}
-use Rattle.chart_service.specs.Looking.{Replying, ReadsByText}
+use Rattle.chart_service.specs.Looking.{Replying}
 use Rattle.chart_service.specs.Replies.{Opens, Replies, RepliesToView, RepliesByText}
-use Rattle.chart_service.specs.Stepping.{state_of, series_at, IsStepCause, ReadsFew}
+use Rattle.chart_service.specs.Stepping.{state_of, series_at, IsStepCause, ReadsByText, ReadsFew}
 use Rattle.chart_service.specs.Shown as shown
 use Rattle.series_store.specs.Shown as stored
 use Rattle.chart_service.proofs.LookLemmas.{replying_so}
-use Rattle.chart_service.proofs.StepLemmas.{few_by_text, open_outside, open_cause, view_why, zoom_why, pan_why}
+use Rattle.chart_service.proofs.StepLemmas.{open_outside, open_cause, view_why, zoom_why, pan_why}
 use Rattle.chart_service.proofs.service.Service.look.Goals as goal
 
 pub returns-in-Open-clause-replying : goal.returns-in-Open-clause-replying
@@ -27,8 +27,8 @@ pub returns-in-Open-clause-cause : goal.returns-in-Open-clause-cause
 returns-in-Open-clause-cause g c =
     let store = c.args.self.now.store in
     let new = c.open.new.self.store in
-    let E : Request → Type 0 = λ r. IfErr c.open.result (λ error. IsStepCause r error (g.P.Pages.told (stored.pages store)) (stored.catalog store) (stored.numbers store) (g.P.Pages.view (stored.pages store)) (g.P.Pages.view (stored.pages new))) in
-    subst E (sym c.in-Open.is) (open_cause c.open.result c.in-Open.session c.in-Open.cache (g.P.Pages.told (stored.pages store)) (stored.catalog store) (stored.numbers store) (g.P.Pages.view (stored.pages store)) (g.P.Pages.view (stored.pages new)) c.open.ensures.error)
+    let E : Request → Type 0 = λ r. IfErr c.open.result (λ error. IsStepCause r error (g.P.Pages.told (stored.pages store)) (stored.catalog store) c.args.self.now.sessions (stored.numbers store) (g.P.Pages.view (stored.pages store)) (g.P.Pages.view (stored.pages new))) in
+    subst E (sym c.in-Open.is) (open_cause c.open.result c.in-Open.session c.in-Open.cache (g.P.Pages.told (stored.pages store)) (stored.catalog store) c.args.self.now.sessions (stored.numbers store) (g.P.Pages.view (stored.pages store)) (g.P.Pages.view (stored.pages new)) c.open.ensures.error)
 
 pub returns-in-View-clause-replying : goal.returns-in-View-clause-replying
 returns-in-View-clause-replying g c = λ total book told stands.
@@ -49,16 +49,16 @@ returns-in-View-clause-replying g c = λ total book told stands.
     let at : View number name w h t0 t1 word text ≡ c.args.request.now = ap (λ (t : ℤ). View number name w h t t1 word text) from ∙ ap (λ (t : ℤ). View number name w h c.in-View.t0 t word text) to ∙ sym c.in-View.is in
     let E : Request → Type 0 = λ r. Replying (Replies r) (ReadsFew r book ss) c.view_by_text.result total book ss ss' old new in
     subst E at (replying_so (λ frame old new. RepliesByText text (λ filter. RepliesToView (is_open number old.sessions) number name w h t0 t1 word filter frame old new) frame old new) (Replies (View number name w h t0 t1 word text))
-    (ReadsByText text w (series_at book (id_of name book))) (ReadsFew (View number name w h t0 t1 word text) book ss) c.view_by_text.result total book ss ss' old new
-    (λ frame reply. reply) (few_by_text number name w h t0 t1 word text book ss old.reads new.reads)
+    (ReadsByText text w t0 t1 (series_at book (id_of name book))) (ReadsFew (View number name w h t0 t1 word text) book ss) c.view_by_text.result total book ss ss' old new
+    (λ frame reply. reply) (λ reads. reads)
     (c.view_by_text.ensures.replying total book told stands))
 
 pub returns-in-View-clause-cause : goal.returns-in-View-clause-cause
 returns-in-View-clause-cause g c =
     let store = c.args.self.now.store in
     let new = c.view_by_text.new.self.store in
-    let E : Request → Type 0 = λ r. IfErr c.view_by_text.result (λ error. IsStepCause r error (g.P.Pages.told (stored.pages store)) (stored.catalog store) (stored.numbers store) (g.P.Pages.view (stored.pages store)) (g.P.Pages.view (stored.pages new))) in
-    subst E (sym c.in-View.is) (view_why c.view_by_text.result c.in-View.session c.in-View.name c.in-View.w c.in-View.h c.in-View.t0 c.in-View.t1 c.in-View.range c.in-View.filter (g.P.Pages.told (stored.pages store)) (stored.catalog store) (stored.numbers store) (g.P.Pages.view (stored.pages store)) (g.P.Pages.view (stored.pages new)) c.view_by_text.ensures.looked.cause)
+    let E : Request → Type 0 = λ r. IfErr c.view_by_text.result (λ error. IsStepCause r error (g.P.Pages.told (stored.pages store)) (stored.catalog store) c.args.self.now.sessions (stored.numbers store) (g.P.Pages.view (stored.pages store)) (g.P.Pages.view (stored.pages new))) in
+    subst E (sym c.in-View.is) (view_why c.view_by_text.result c.in-View.session c.in-View.name c.in-View.w c.in-View.h c.in-View.t0 c.in-View.t1 c.in-View.range c.in-View.filter (g.P.Pages.told (stored.pages store)) (stored.catalog store) c.args.self.now.sessions (stored.numbers store) (g.P.Pages.view (stored.pages store)) (g.P.Pages.view (stored.pages new)) c.view_by_text.ensures.cause)
 
 pub returns-in-Zoom-clause-replying : goal.returns-in-Zoom-clause-replying
 returns-in-Zoom-clause-replying g c = λ total book told stands.
@@ -79,8 +79,8 @@ pub returns-in-Zoom-clause-cause : goal.returns-in-Zoom-clause-cause
 returns-in-Zoom-clause-cause g c =
     let store = c.args.self.now.store in
     let new = c.zoom.new.self.store in
-    let E : Request → Type 0 = λ r. IfErr c.zoom.result (λ error. IsStepCause r error (g.P.Pages.told (stored.pages store)) (stored.catalog store) (stored.numbers store) (g.P.Pages.view (stored.pages store)) (g.P.Pages.view (stored.pages new))) in
-    subst E (sym c.in-Zoom.is) (zoom_why c.zoom.result c.in-Zoom.session c.in-Zoom.t0 c.in-Zoom.t1 (g.P.Pages.told (stored.pages store)) (stored.catalog store) (stored.numbers store) (g.P.Pages.view (stored.pages store)) (g.P.Pages.view (stored.pages new)) c.zoom.ensures.looked.cause)
+    let E : Request → Type 0 = λ r. IfErr c.zoom.result (λ error. IsStepCause r error (g.P.Pages.told (stored.pages store)) (stored.catalog store) c.args.self.now.sessions (stored.numbers store) (g.P.Pages.view (stored.pages store)) (g.P.Pages.view (stored.pages new))) in
+    subst E (sym c.in-Zoom.is) (zoom_why c.zoom.result c.in-Zoom.session c.in-Zoom.t0 c.in-Zoom.t1 (g.P.Pages.told (stored.pages store)) (stored.catalog store) c.args.self.now.sessions (stored.numbers store) (g.P.Pages.view (stored.pages store)) (g.P.Pages.view (stored.pages new)) c.zoom.ensures.cause)
 
 pub returns-in-Pan-clause-replying : goal.returns-in-Pan-clause-replying
 returns-in-Pan-clause-replying g c = λ total book told stands.
@@ -99,8 +99,8 @@ pub returns-in-Pan-clause-cause : goal.returns-in-Pan-clause-cause
 returns-in-Pan-clause-cause g c =
     let store = c.args.self.now.store in
     let new = c.pan.new.self.store in
-    let E : Request → Type 0 = λ r. IfErr c.pan.result (λ error. IsStepCause r error (g.P.Pages.told (stored.pages store)) (stored.catalog store) (stored.numbers store) (g.P.Pages.view (stored.pages store)) (g.P.Pages.view (stored.pages new))) in
-    subst E (sym c.in-Pan.is) (pan_why c.pan.result c.in-Pan.session c.in-Pan.by (g.P.Pages.told (stored.pages store)) (stored.catalog store) (stored.numbers store) (g.P.Pages.view (stored.pages store)) (g.P.Pages.view (stored.pages new)) c.pan.ensures.looked.cause)
+    let E : Request → Type 0 = λ r. IfErr c.pan.result (λ error. IsStepCause r error (g.P.Pages.told (stored.pages store)) (stored.catalog store) c.args.self.now.sessions (stored.numbers store) (g.P.Pages.view (stored.pages store)) (g.P.Pages.view (stored.pages new))) in
+    subst E (sym c.in-Pan.is) (pan_why c.pan.result c.in-Pan.session c.in-Pan.by (g.P.Pages.told (stored.pages store)) (stored.catalog store) c.args.self.now.sessions (stored.numbers store) (g.P.Pages.view (stored.pages store)) (g.P.Pages.view (stored.pages new)) c.pan.ensures.cause)
 
 pub returns-in-Open-clause-may : goal.returns-in-Open-clause-may
 returns-in-Open-clause-may g c =

@@ -1,4 +1,4 @@
-use Rattle.std.proofs.Common.{ap}
+use Rattle.std.proofs.Common.{◌≡◌, ap, refl}
 use Rattle.chart_grid.specs.declared.axis.Axis.{Axis}
 use Rattle.om3_coeff.specs.View.{NodesView}
 use Rattle.zoom_session.specs.Sessions.{session_of}
@@ -38,9 +38,9 @@ returns-clause-cause g c = rw (shown.IsTold, shown.view, shown.catalog, shown.to
     let nodes : NodesView = store.nodes before in
     let nodes' : NodesView = store.nodes after in
     let one = there catalog spec.series c.requires.view.there in
-    if_err c.plan.result (RefusesView session nodes nodes') (λ error. IsPlanCause error (g.P.Pages.told (store.pages before)) catalog (store.total before) (g.P.Pages.view (store.pages before)) (g.P.Pages.view (store.pages after)))
-    (λ error. plan_cause session nodes nodes' (g.P.Pages.told (store.pages before)) catalog (store.total before) (g.P.Pages.view (store.pages before)) (g.P.Pages.view (store.pages after)) error
-    (λ e. node_cause (g.P.Pages.told (store.pages before)) (g.P.Pages.view (store.pages before)) (g.P.Pages.view (store.pages after)) (g.P.Pages.under (store.pages before)) (g.P.Pages.told (store.pages after)) (g.P.Pages.under (store.pages after)) (store.numbers before) (store.numbers after) before.tree after.tree before.trail after.trail catalog spec.series one.0 e one.1 (c.selected-axis.ensures.tree one.0 one.1)))
+    if_err c.plan.result (RefusesView session nodes nodes') (λ error. IsPlanCause (λ id. id ≡ spec.series) error (g.P.Pages.told (store.pages before)) catalog (store.total before) (g.P.Pages.view (store.pages before)) (g.P.Pages.view (store.pages after)))
+    (λ error. plan_cause (λ id. id ≡ spec.series) session nodes nodes' (g.P.Pages.told (store.pages before)) catalog (store.total before) (g.P.Pages.view (store.pages before)) (g.P.Pages.view (store.pages after)) error
+    (λ e. node_cause (λ id. id ≡ spec.series) (g.P.Pages.told (store.pages before)) (g.P.Pages.view (store.pages before)) (g.P.Pages.view (store.pages after)) (g.P.Pages.under (store.pages before)) (g.P.Pages.told (store.pages after)) (g.P.Pages.under (store.pages after)) (store.numbers before) (store.numbers after) before.tree after.tree before.trail after.trail catalog spec.series one.0 e refl one.1 (c.selected-axis.ensures.tree one.0 one.1)))
     c.plan.ensures.refused)
 
 pub returns-clause-reads : goal.returns-clause-reads

@@ -11,7 +11,7 @@ use Rattle.zoom_session.specs.declared.view_spec.ViewSpec.{ViewSpec}
 use Rattle.zoom_session.specs.Sessions.{session_of, last_of}
 use Rattle.chart_service.specs.Called.{AnswersSo, IsCause}
 use Rattle.chart_service.specs.Replies.{own_zoom}
-use Rattle.chart_service.specs.Stepping.{RepliedTo, ReadsFew}
+use Rattle.chart_service.specs.Stepping.{IsLastShown, RepliedTo, ReadsFew}
 use Rattle.chart_service.specs.Shown as shown
 use Rattle.series_store.specs.Shown as stored
 use Rattle.chart_service.proofs.Faulting.{counts_step, view_risen}
@@ -70,11 +70,11 @@ returns g c =
       stays = c.zoom-reply.ensures.stays;
       moments = looks.time;
       idle = unchanged _ _ _ _ _ _ _ _ _ _ looks;
-      cause = subst C (sym viewed) (subst Why at (zoom_why r number t0 t1 (g.P.Pages.told (stored.pages store)) (stored.catalog store) (stored.numbers store) (g.P.Pages.view (stored.pages store)) (g.P.Pages.view (stored.pages new)) looked.cause));
-      bad = look_bad r _ _ _ _ _ _ _ _ _ _ own looks looked.cause;
+      cause = subst C (sym viewed) (subst Why at (zoom_why r number t0 t1 (g.P.Pages.told (stored.pages store)) (stored.catalog store) ss (stored.numbers store) (g.P.Pages.view (stored.pages store)) (g.P.Pages.view (stored.pages new)) c.zoom-reply.ensures.cause));
+      bad = look_bad (IsLastShown (last_of (session_of number ss))) r _ _ _ _ _ _ _ _ _ _ own looks c.zoom-reply.ensures.cause;
       faults =
           let view = g.P.Pages.view in
-          counts_step r (view (stored.pages store)) (view (stored.pages new)) looks.beside (view_risen r (g.P.Pages.told (stored.pages store)) (stored.catalog store) (stored.total store) (view (stored.pages store)) (view (stored.pages new)) looked.cause) c.zoom-reply.ensures.quiet c.zoom-reply.ensures.quiet_err;
+          counts_step r (view (stored.pages store)) (view (stored.pages new)) looks.beside (view_risen (IsLastShown (last_of (session_of number ss))) r (g.P.Pages.told (stored.pages store)) (stored.catalog store) (stored.total store) (view (stored.pages store)) (view (stored.pages new)) c.zoom-reply.ensures.cause) c.zoom-reply.ensures.quiet c.zoom-reply.ensures.quiet_err;
       steps = steps_so _ _ _ _ _ _ _ _ _ _ looks;
       goes_on = looks.goes_on;
       sound = on_ok r (g.P.Pages.view (stored.pages new)).fit fit;

@@ -13,10 +13,10 @@ use Rattle.chart_service.specs.Stepping.{StandsAfter, state_of, RepliedTo, IsBef
 use Rattle.chart_service.specs.Kinds.{MayAnswer}
 use Rattle.chart_service.specs.Shown as shown
 use Rattle.series_store.specs.Shown as stored
-use Rattle.chart_service.proofs.Faulting.{counts_step, step_risen, view_risen}
+use Rattle.chart_service.proofs.Faulting.{counts_step, step_risen}
 use Rattle.chart_service.proofs.KindLemmas.{kept_same}
 use Rattle.chart_service.proofs.LookLemmas.{unchanged, unchanged_so, steps_so, moments_so}
-use Rattle.chart_service.proofs.StepLemmas.{AreOwn, look_reply, look_bad, edit_bad, on_ok}
+use Rattle.chart_service.proofs.StepLemmas.{AreOwn, look_reply, request_bad, edit_bad, on_ok}
 use Rattle.chart_service.proofs.SyncLemmas.{asks_one}
 use Rattle.chart_service.proofs.service.Service.step.Goals as goal
 
@@ -43,7 +43,7 @@ returns-in-Edit-clause-bad g c =
       count = store.count;
       says = λ t. store.told c.requires.sound t;
     } in
-    edit_bad c.edit.result c.in-Edit.edit (g.P.Pages.told (stored.pages store)) (g.P.Pages.told (stored.pages new)) (stored.catalog store) (stored.numbers store) (g.P.Pages.view (stored.pages store)) (g.P.Pages.view (stored.pages new)) own c.edit.ensures.steps c.edit.ensures.unchanged c.edit.ensures.cause
+    edit_bad c.edit.result c.in-Edit.edit (g.P.Pages.told (stored.pages store)) (g.P.Pages.told (stored.pages new)) (stored.catalog store) c.args.self.now.sessions (stored.numbers store) (g.P.Pages.view (stored.pages store)) (g.P.Pages.view (stored.pages new)) own c.edit.ensures.steps c.edit.ensures.unchanged c.edit.ensures.cause
 
 pub returns-in_default : goal.returns-in_default
 returns-in_default g c =
@@ -80,10 +80,10 @@ returns-in_default g c =
       idle = λ none. unchanged _ _ _ _ _ _ _ _ _ _ looks;
       same_book = λ total book told stands keeps. let kept = unchanged _ _ _ _ _ _ _ _ _ _ looks in (kept.syncs, kept.writes);
       cause = c.look-reply.ensures.cause;
-      bad = look_bad r _ _ _ _ _ _ _ _ _ _ own looks looked.cause;
+      bad = request_bad r request _ _ _ _ _ _ _ _ _ _ ss own looks c.look-reply.ensures.cause;
       faults =
           let view = g.P.Pages.view in
-          counts_step r (view (stored.pages store)) (view (stored.pages new)) looks.beside (view_risen r (g.P.Pages.told (stored.pages store)) (stored.catalog store) (stored.total store) (view (stored.pages store)) (view (stored.pages new)) looked.cause) c.look-reply.ensures.quiet c.look-reply.ensures.quiet_err;
+          counts_step r (view (stored.pages store)) (view (stored.pages new)) looks.beside (step_risen r request (g.P.Pages.told (stored.pages store)) (stored.catalog store) ss (stored.numbers store) (view (stored.pages store)) (view (stored.pages new)) c.look-reply.ensures.cause) c.look-reply.ensures.quiet c.look-reply.ensures.quiet_err;
       steps = steps_so _ _ _ _ _ _ _ _ _ _ looks;
       goes_on = looks.goes_on;
       sound = on_ok r (g.P.Pages.view (stored.pages new)).fit fit;
@@ -113,4 +113,4 @@ returns-in-Edit-clause-faults g c =
     let store = c.args.self.now.store in
     let old = g.P.Pages.view (stored.pages store) in
     let new = g.P.Pages.view (stored.pages c.edit.new.self.store) in
-    counts_step c.edit.result old new c.edit.ensures.steps.beside (step_risen c.edit.result (EditRequest c.in-Edit.edit) (g.P.Pages.told (stored.pages store)) (stored.catalog store) (stored.numbers store) old new c.edit.ensures.cause) c.edit.ensures.quiet c.edit.ensures.quiet_err
+    counts_step c.edit.result old new c.edit.ensures.steps.beside (step_risen c.edit.result (EditRequest c.in-Edit.edit) (g.P.Pages.told (stored.pages store)) (stored.catalog store) c.args.self.now.sessions (stored.numbers store) old new c.edit.ensures.cause) c.edit.ensures.quiet c.edit.ensures.quiet_err

@@ -71,8 +71,8 @@ returns-in-Ok-clause-cause g c =
     let told = g.P.Pages.told (stored.pages store) in
     let old = g.P.Pages.view (stored.pages store) in
     let new = g.P.Pages.view (stored.pages c.step.new.self.store) in
-    let L : Option (List ℕ) → Type 0 = λ line. IfErr c.step.result (λ e. IsLineCause line e told (stored.catalog store) (stored.numbers store) old new) in
-    let R : Result Request ℕ → Type 0 = λ read. IfErr c.step.result (λ e. IsReadCause read e told (stored.catalog store) (stored.numbers store) old new) in
+    let L : Option (List ℕ) → Type 0 = λ line. IfErr c.step.result (λ e. IsLineCause line e told (stored.catalog store) c.args.self.now.sessions (stored.numbers store) old new) in
+    let R : Result Request ℕ → Type 0 = λ read. IfErr c.step.result (λ e. IsReadCause read e told (stored.catalog store) c.args.self.now.sessions (stored.numbers store) old new) in
     subst L (sym (text_is c.args.line.now short)) (subst R (sym is) c.step.ensures.cause)
 
 pub returns-then-line-gt-LONGEST_LINE-clause-may : goal.returns-then-line-gt-LONGEST_LINE-clause-may

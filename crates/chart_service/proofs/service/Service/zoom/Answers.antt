@@ -1,15 +1,16 @@
-use Rattle.std.proofs.Common.{to_z, of_z, ℤ, Ok, Some, FitsSigned, rules, sym, subst}
+use Rattle.std.proofs.Common.{◌≡◌, to_z, of_z, ℤ, Ok, Some, FitsSigned, rules, sym, subst}
 use Rattle.std.specs.Int.{w128}
 use Rattle.std.proofs.lemmas.Int.{to_z-of_z}
 use Rattle.zoom_session.specs.declared.view_spec.ViewSpec.{ViewSpec}
 use Rattle.zoom_session.specs.Sessions.{session_of, last_of}
 use Rattle.chart_service.specs.Planning.{IsMoved, IsLastOf}
 use Rattle.chart_service.specs.Replies.{Moves, MovesIn}
-use Rattle.chart_service.specs.Stepping.{state_of, ReadsLast}
+use Rattle.chart_service.specs.Stepping.{state_of, IsLastShown, ReadsLast}
 use Rattle.chart_service.specs.Shown as shown
+use Rattle.series_store.specs.Shown as stored
 use Rattle.chart_service.proofs.Answered.{move_answered}
-use Rattle.chart_service.proofs.LookLemmas.{replying_so}
-use Rattle.chart_service.proofs.ViewLemmas.{reads_of_last}
+use Rattle.chart_service.proofs.LookLemmas.{causes_so, replying_so}
+use Rattle.chart_service.proofs.ViewLemmas.{last_shown, reads_of_last}
 use Rattle.chart_service.proofs.service.Service.zoom.Goals as goal
 
 pub returns-clause-replying : goal.returns-clause-replying
@@ -27,8 +28,20 @@ returns-clause-replying g c = λ total book told stands.
     let B : ℤ → Type 0 = λ t1. IsMoved last.grid (to_z w128 (of_z w128 c.args.t0)) t1 c.zoomed-grid.result in
     let moved : IsMoved last.grid c.args.t0 c.args.t1 c.zoomed-grid.result = subst A (to_z-of_z w128 c.args.t0 from) (subst B (to_z-of_z w128 c.args.t1 to) c.zoomed-grid.ensures) in
     replying_so (λ frame old new. Moves last number c.args.t0 c.args.t1 frame old new) (λ frame old new. MovesIn (session_of number old.sessions) number window frame old new)
-    (ReadsLast book (Some last)) (ReadsLast book (last_of session)) c.answer_over.result total book ss c.answer_over.new.self.sessions
+    (ReadsLast book (Some last) window) (ReadsLast book (last_of session) window) c.answer_over.result total book ss c.answer_over.new.self.sessions
     (g.P.Pages.view (shown.pages c.args.self.now)) (g.P.Pages.view (shown.pages c.answer_over.new.self))
     (λ frame. move_answered session last number window frame (state_of book total ss) (state_of book total c.answer_over.new.self.sessions) is)
-    (reads_of_last book session last _ _ is)
+    (reads_of_last book session last window _ _ is)
     (c.answer_over.ensures.replying total book c.args.t0 c.args.t1 told stands moved)
+
+pub returns-clause-cause : goal.returns-clause-cause
+returns-clause-cause g c =
+    let ss = c.args.self.now.sessions in
+    let session = session_of c.args.number ss in
+    let last = c.in_ok-last-in-Ok.last in
+    let store = c.args.self.now.store in
+    let new = c.answer_over.new.self.store in
+    let L : ViewSpec → Type 0 = λ l. IsLastOf session (Ok l) in
+    let is : IsLastOf session (Ok last) = subst L (sym c.in_ok-last-in-Ok.ensures) c.in-Ok.ensures.last in
+    causes_so (λ id. id ≡ last.series) (IsLastShown (last_of session)) c.answer_over.result (g.P.Pages.told (stored.pages store)) (stored.catalog store) (stored.total store) (g.P.Pages.view (stored.pages store)) (g.P.Pages.view (stored.pages new))
+    (last_shown session last is) c.answer_over.ensures.cause

@@ -1,9 +1,8 @@
-use Rattle.std.proofs.Common.{Some}
 use Rattle.series_store.specs.Shown as shown
 use Rattle.store_commands.specs.Sides.{side_of}
 use Rattle.derive_command.specs.Doing.{IsCause}
-use Rattle.derive_command.specs.Working.{StandFor}
-use Rattle.derive_command.proofs.WorkLemmas.{cause_short, stand_still, work_done, work_stops}
+use Rattle.derive_command.specs.Working.{StandsSo}
+use Rattle.derive_command.proofs.WorkLemmas.{cause_short, line_done, line_known, line_stops, stands_still}
 use Rattle.derive_command.proofs.request_work.RequestWorkLineWorkStoreEnd.line.Goals as goal
 
 pub returns-clause-does : goal.returns-clause-does
@@ -13,15 +12,22 @@ returns-clause-does g c = λ book stands.
     let old = c.args.from.now in
     let new = c.answer_line.new.store in
     let e = c.answer_line.ensures in
-    work_done (λ b. StandFor (shown.IsTold new) (shown.image new) b) book (Some c.args.line.now) c.args.at (sent (shown.pages old)) (sent (shown.pages new)) c.answer_line.result
-    (stand_still (side old) (side new) book e.goes stands) (e.does stands.1.0 book stands.0 stands.1.1)
+    let before = sent (shown.pages old) in
+    let now = sent (shown.pages new) in
+    line_done (λ b. StandsSo (shown.IsTold new) (shown.image new) b) book c.args.line.now c.args.at before now c.answer_line.result
+    (stands_still (side old) (side new) book e.goes stands)
+    (line_known {Told = shown.IsTold old} (shown.image old) book c.args.line.now c.args.at before now c.answer_line.result stands e.does) e.says
 
 pub returns-clause-stops : goal.returns-clause-stops
 returns-clause-stops g c = λ book stands.
     let sent = g.P.Streams.sent in
     let old = c.args.from.now in
     let new = c.answer_line.new.store in
-    work_stops book (Some c.args.line.now) c.args.at (sent (shown.pages old)) (sent (shown.pages new)) c.answer_line.result (c.answer_line.ensures.does stands.1.0 book stands.0 stands.1.1)
+    let e = c.answer_line.ensures in
+    let before = sent (shown.pages old) in
+    let now = sent (shown.pages new) in
+    line_stops book c.args.line.now c.args.at (shown.catalog new) before now c.answer_line.result
+    (line_known {Told = shown.IsTold old} (shown.image old) book c.args.line.now c.args.at before now c.answer_line.result stands e.does) e.faulty
 
 pub returns-clause-cause : goal.returns-clause-cause
 returns-clause-cause g c =

@@ -11,7 +11,8 @@ returns-clause-does g c = λ held stands.
     let new = c.answer_line.new.store in
     let e = c.answer_line.ensures in
     work_done held c.args.line.now c.args.at (shown.view old) (shown.view new) (sent (shown.pages old)) (sent (shown.pages new))
-    (shown.IsTold new) c.answer_line.result (e.goes.is_told stands.0) (e.does held.total held.book stands.0 stands.1)
+    (shown.IsTold old) (shown.IsTold new) c.answer_line.result e.goes.is_told stands
+    (λ known. e.does held.total held.book (stands known).0 (stands known).1) e.says
 
 pub returns-clause-stops : goal.returns-clause-stops
 returns-clause-stops g c = λ held stands.
@@ -20,10 +21,11 @@ returns-clause-stops g c = λ held stands.
     let new = c.answer_line.new.store in
     let e = c.answer_line.ensures in
     work_stops held c.args.line.now c.args.at (shown.view old) (shown.view new) (sent (shown.pages old)) (sent (shown.pages new))
-    c.answer_line.result (e.does held.total held.book stands.0 stands.1)
+    (shown.IsTold old) c.answer_line.result (shown.catalog new) stands
+    (λ known. e.does held.total held.book (stands known).0 (stands known).1) e.faulty
 
 pub returns-clause-leaves : goal.returns-clause-leaves
-returns-clause-leaves g c = λ held stands lasting. (c.answer_line.ensures.does held.total held.book stands.0 stands.1).moments
+returns-clause-leaves g c = λ held stands known. (c.answer_line.ensures.does held.total held.book (stands known).0 (stands known).1).moments
 
 pub returns-clause-cause : goal.returns-clause-cause
 returns-clause-cause g c =

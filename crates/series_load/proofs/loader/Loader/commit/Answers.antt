@@ -7,7 +7,7 @@ pub returns-in_err-commit_sets-clause-does : goal.returns-in_err-commit_sets-cla
 returns-in_err-commit_sets-clause-does g c = λ total book waiting old told stands keeps.
     let name = c.args.self.now.name in
     let did = c.in_err-commit_sets.ensures.does total name book waiting told stands (record { sets_are = c.as_slice.ensures.value ∙ keeps.sets.sets_are; ats_are = c.as_slice-2.ensures.value ∙ keeps.sets.ats_are }) in
-    err_passes total name book waiting c.in_err-commit_sets.field-0.0 c.from_residual.result (shown.view c.args.store.now) (shown.view c.commit_sets.new.store) c.from_residual.ensures.1 did.stops did.moments
+    err_passes total name book waiting c.in_err-commit_sets.field-0.0 c.from_residual.result (shown.view c.args.store.now) (shown.view c.commit_sets.new.store) c.from_residual.ensures.1 did.costs did.stops did.moments
 
 pub returns-clause-does : goal.returns-clause-does
 returns-clause-does g c = λ total book waiting old told stands keeps.

@@ -2,8 +2,9 @@ use Rattle.std.proofs.Common.{◌≡◌, ◌<◌, ◌^◌, ◌++◌, sym, ap, su
 use Rattle.page_space.specs.declared.superblock.Superblock.{Superblock}
 use Rattle.series_catalog.specs.Catalogs.{AreFit}
 use Rattle.series_store.specs.Sending.{texts_of}
-use Rattle.series_store.proofs.AskLemmas.{own_store, tree_fits}
-use Rattle.series_store.proofs.BookCountLemmas.{tree_stands}
+use Rattle.series_store.proofs.AskLemmas.{kept_tree, tree_fits}
+use Rattle.series_store.proofs.CutLemmas.{cut_told_by}
+use Rattle.series_store.proofs.FitLemmas.{fit_tree}
 use Rattle.series_store.proofs.SeriesSendLemmas.{series_cause_by, sent_told, part_told}
 use Rattle.series_store.proofs.StayLemmas.{Stay, told_on, whole_on, trail_on}
 use Rattle.series_store.proofs.store.Store.send_values.Goals as goal
@@ -49,27 +50,29 @@ invariant_of-self g c =
     }
 
 pub returns-clause-sent : goal.returns-clause-sent
-returns-clause-sent g c = λ total book series told stands there.
-    let store = own_store (g.P.Pages.view c.args.self.now.space.pages).size total (g.P.Pages.view c.args.self.now.space.pages).image book c.args.self.now.space.superblock c.args.self.now.space.rules c.args.self.now.small (c.args.self.now.space.spelled c.requires.sound told) stands in
-    let tree = tree_stands (g.P.Pages.view c.args.self.now.space.pages).image c.args.self.now.space.superblock book c.args.self.now.catalog.series.items c.args.id c.series.result.now series store.0 (c.args.self.now.told c.requires.sound told) c.series.ensures there in
+returns-clause-sent g c = λ series told kept.
+    let tree = fit_tree (g.P.Pages.view c.args.self.now.space.pages).image c.args.self.now.space.superblock.total c.args.self.now.catalog.series.items c.args.id c.series.result.now series (c.args.self.now.told c.requires.sound told) c.series.ensures kept in
     sent_told c.send_tree.result (c.args.out.now.items ++ texts_of (g.T.Texts.text c.args.texts.now) series.slots) (g.P.Pages.view c.args.self.now.space.pages).beside.sent _ (g.P.Pages.view c.send_tree.new.space.pages).beside.sent _ (g.met.P.PageWorld.beside_sent c.args.self.now.space.pages) (g.met.P.PageWorld.beside_sent c.send_tree.new.space.pages) (c.send_tree.ensures.sent series.slots told tree)
 
 pub returns-clause-part : goal.returns-clause-part
-returns-clause-part g c = λ total book series told stands there.
-    let store = own_store (g.P.Pages.view c.args.self.now.space.pages).size total (g.P.Pages.view c.args.self.now.space.pages).image book c.args.self.now.space.superblock c.args.self.now.space.rules c.args.self.now.small (c.args.self.now.space.spelled c.requires.sound told) stands in
-    let tree = tree_stands (g.P.Pages.view c.args.self.now.space.pages).image c.args.self.now.space.superblock book c.args.self.now.catalog.series.items c.args.id c.series.result.now series store.0 (c.args.self.now.told c.requires.sound told) c.series.ensures there in
+returns-clause-part g c = λ series told kept.
+    let tree = fit_tree (g.P.Pages.view c.args.self.now.space.pages).image c.args.self.now.space.superblock.total c.args.self.now.catalog.series.items c.args.id c.series.result.now series (c.args.self.now.told c.requires.sound told) c.series.ensures kept in
     part_told c.send_tree.result (c.args.out.now.items ++ texts_of (g.T.Texts.text c.args.texts.now) series.slots) (g.P.Pages.view c.args.self.now.space.pages).beside.sent _ (g.P.Pages.view c.send_tree.new.space.pages).beside.sent _ (g.met.P.PageWorld.beside_sent c.args.self.now.space.pages) (g.met.P.PageWorld.beside_sent c.send_tree.new.space.pages) (c.send_tree.ensures.part series.slots told tree)
 
+pub returns-clause-cut : goal.returns-clause-cut
+returns-clause-cut g c = λ series told kept.
+    let tree = fit_tree (g.P.Pages.view c.args.self.now.space.pages).image c.args.self.now.space.superblock.total c.args.self.now.catalog.series.items c.args.id c.series.result.now series (c.args.self.now.told c.requires.sound told) c.series.ensures kept in
+    cut_told_by c.send_tree.result (g.P.Pages.view c.args.self.now.space.pages).image c.args.self.now.space.superblock.total c.args.id c.series.result.now (g.T.Texts.text c.args.texts.now) series.slots c.args.out.now.items (g.P.Pages.view c.args.self.now.space.pages).beside.sent _ (g.P.Pages.view c.send_tree.new.space.pages).beside.sent _
+    (c.args.self.now.told c.requires.sound told c.args.id c.series.result.now c.series.ensures) (g.met.P.PageWorld.beside_sent c.args.self.now.space.pages) (g.met.P.PageWorld.beside_sent c.send_tree.new.space.pages) (c.send_tree.ensures.cut series.slots told tree)
+
 pub returns-clause-no_damage : goal.returns-clause-no_damage
-returns-clause-no_damage g c = λ total book series told stands there.
-    let store = own_store (g.P.Pages.view c.args.self.now.space.pages).size total (g.P.Pages.view c.args.self.now.space.pages).image book c.args.self.now.space.superblock c.args.self.now.space.rules c.args.self.now.small (c.args.self.now.space.spelled c.requires.sound told) stands in
-    let tree = tree_stands (g.P.Pages.view c.args.self.now.space.pages).image c.args.self.now.space.superblock book c.args.self.now.catalog.series.items c.args.id c.series.result.now series store.0 (c.args.self.now.told c.requires.sound told) c.series.ensures there in
+returns-clause-no_damage g c = λ series told kept.
+    let tree = kept_tree (g.P.Pages.view c.args.self.now.space.pages).image c.args.self.now.space.superblock.total c.args.self.now.catalog.series.items c.args.id c.series.result.now series (c.args.self.now.told c.requires.sound told) c.series.ensures kept in
     c.send_tree.ensures.no_damage series.slots told tree
 
 pub returns-clause-reads : goal.returns-clause-reads
-returns-clause-reads g c = λ total book series told stands there.
-    let store = own_store (g.P.Pages.view c.args.self.now.space.pages).size total (g.P.Pages.view c.args.self.now.space.pages).image book c.args.self.now.space.superblock c.args.self.now.space.rules c.args.self.now.small (c.args.self.now.space.spelled c.requires.sound told) stands in
-    let tree = tree_stands (g.P.Pages.view c.args.self.now.space.pages).image c.args.self.now.space.superblock book c.args.self.now.catalog.series.items c.args.id c.series.result.now series store.0 (c.args.self.now.told c.requires.sound told) c.series.ensures there in
+returns-clause-reads g c = λ series told kept.
+    let tree = fit_tree (g.P.Pages.view c.args.self.now.space.pages).image c.args.self.now.space.superblock.total c.args.self.now.catalog.series.items c.args.id c.series.result.now series (c.args.self.now.told c.requires.sound told) c.series.ensures kept in
     c.send_tree.ensures.reads series.slots told tree
 
 pub returns-clause-cause : goal.returns-clause-cause

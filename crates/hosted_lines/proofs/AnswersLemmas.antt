@@ -1,0 +1,271 @@
+-- What is sent for lines, one after the other, whatever the pages are.
+use Rattle.std.proofs.Common.{◌≡◌, ◌∙◌, ℕ, Bool, List, [], ◌∷◌, ◌++◌, length, Option, None, Some, IfSome, Result, refl, ap, sym, subst, inl, inr, arith}
+use Rattle.std.specs.Prelude.{All, OnOk}
+use Rattle.std.proofs.lemmas.List.{append-nil}
+use Rattle.std.proofs.lemmas.List.Elements.{All-append, All-cons, All-nil, All-tail}
+use Rattle.block_disk.specs.SentLaws.{sent_more, sent_none}
+use Rattle.block_disk.specs.Streams.{sent_after}
+use Rattle.block_disk.specs.View.{View}
+use Rattle.chart_frames.specs.declared.frame.Frame.{Frame}
+use Rattle.chart_frames.specs.declared.frame.Frame.TheVariants.{Done as DoneOf, Refused, Report}
+use Rattle.chart_frames.specs.declared.reports.Report.TheVariants.{Swept}
+use Rattle.chart_frames.specs.Frames.{Fits, spelling}
+use Rattle.chart_frames.specs.Opened.{opens}
+use Rattle.chart_service.specs.EditGroups.{IsEditReply, SpellEdits, SpellsEdit}
+use Rattle.chart_service.specs.Kinds.{MayAnswerRead}
+use Rattle.chart_service.specs.Naming.{NameOpen, opens_all}
+use Rattle.chart_service.specs.Opening.{OpensBy}
+use Rattle.chart_service.specs.Serving.{told}
+use Rattle.chart_service.proofs.Naming.{edit_known, name_alike, name_joined, named_opened, names_open}
+use Rattle.chart_service.proofs.Sending.{ok_so}
+use Rattle.host_lines.specs.Grammar.{host_line}
+use Rattle.host_lines.specs.declared.asked.HostLine.{HostLine}
+use Rattle.host_lines.specs.declared.asked.HostLine.TheVariants.{List as ListLine, Values, Sum, Sweep, Bad, Other}
+use Rattle.host_replies.specs.Replies.{MayReport}
+use Rattle.host_sweeps.specs.Sweeping.{TellsStep}
+use Rattle.live_service.specs.Kinds.{AnswerWithPushes, MayAnswerAsked, MayAnswerBy, MayAnswerLive, MayPush}
+use Rattle.live_view.proofs.SpellingLemmas.{request-asks-nothing}
+use Rattle.live_view.specs.declared.live_lines.LiveLine.{LiveLine}
+use Rattle.retention.specs.declared.rule.Rule.{Rule}
+use Rattle.request_lines.specs.declared.requests.Request.{Request}
+use Rattle.request_lines.specs.declared.requests.Request.TheVariants.{Edit as EditRequest}
+use Rattle.run_ends.specs.declared.ending.End.{End}
+use Rattle.series_book.specs.declared.edits.Edit.{Edit}
+use Rattle.zoom_session.specs.declared.session.Session.{Session}
+use Rattle.zoom_session.specs.Sessions.{is_open}
+use Rattle.hosted_lines.specs.Answers.{Answers, MayAnswerAlone, MayAnswerHost, MayTellStep, Sends, SendsAnswers}
+use Rattle.hosted_lines.specs.Hosts.{IsPassed}
+use Rattle.hosted_lines.specs.Lives.{spelled}
+use Rattle.hosted_lines.proofs.AskLemmas.{asks_nothing}
+use Rattle.hosted_lines.proofs.EventLemmas.{spelled_more}
+use Rattle.hosted_lines.proofs.RowLemmas.{ArePassed}
+
+opens_more : (frames more : List Frame) (n : ℕ) (was : Bool) → opens_all (frames ++ more) n was ≡ opens_all more n (opens_all frames n was)
+opens_more [] more n was = refl
+opens_more (f ∷ fs) more n was = opens_more fs more n (opens f n was)
+
+-- ---- frames that tell what edits gave
+
+edit_keeps : (frame : Frame) (n : ℕ) (was : Bool) → IsEditReply frame → opens frame n was ≡ was
+edit_keeps (DoneOf slots) n was is = refl
+edit_keeps (Refused number a b) n was is = refl
+edit_keeps frame n was is = absurd is
+
+edits_keep : (frames : List Frame) (n : ℕ) (was : Bool) → All IsEditReply frames → opens_all frames n was ≡ was
+edits_keep [] n was all = refl
+edits_keep (f ∷ fs) n was all =
+    edits_keep fs n (opens f n was) (All-tail IsEditReply f fs all) ∙ edit_keeps f n was (all 0 f (omega arith))
+
+edits_name : (frames : List Frame) (was : ℕ → Bool) → All IsEditReply frames → NameOpen was frames
+edits_name [] was all = tt
+edits_name (f ∷ fs) was all =
+    (edit_known f was (all 0 f (omega arith)), edits_name fs (λ n. opens f n (was n)) (All-tail IsEditReply f fs all))
+
+module _ (May : MayAnswerBy) where
+  -- ---- frames, and others behind them
+
+  pub with_more : (lines others : List (Option (List ℕ))) (frames more : List Frame) → AnswerWithPushes May lines frames → AnswerWithPushes May others more
+      → AnswerWithPushes May (lines ++ others) (frames ++ more)
+  with_more [] others [] more one two = two
+  with_more (line ∷ lines) others [] more one two = absurd one
+  with_more [] [] (f ∷ fs) more one two = (one.0, with_more [] [] fs more one.1 two)
+  with_more [] (o ∷ os) (f ∷ fs) more one two = inr (one.0, with_more [] (o ∷ os) fs more one.1 two)
+  with_more (line ∷ lines) others (f ∷ fs) more (inl it) two = inl (it.0, with_more lines others fs more it.1 two)
+  with_more (line ∷ lines) others (f ∷ fs) more (inr it) two = inr (it.0, with_more (line ∷ lines) others fs more it.1 two)
+
+  pub push_first : (lines : List (Option (List ℕ))) (frame : Frame) (frames : List Frame) → MayPush frame → AnswerWithPushes May lines frames → AnswerWithPushes May lines (frame ∷ frames)
+  push_first [] frame frames may later = (may, later)
+  push_first (line ∷ lines) frame frames may later = inr (may, later)
+
+  pub answers_none : (sessions : List Session) → Answers May [] sessions sessions []
+  answers_none sessions = record { frames = []; fits = All-nil Fits; answers = tt; named = tt; open_now = λ n. refl; text_is = refl }
+
+  pub answers_then : (lines others : List (Option (List ℕ))) (old mid new : List Session) (text later : List ℕ) → Answers May lines old mid text → Answers May others mid new later
+      → Answers May (lines ++ others) old new (text ++ later)
+  answers_then lines others old mid new text later one two = record {
+    frames = one.frames ++ two.frames;
+    fits = All-append Fits one.frames two.frames one.fits two.fits;
+    answers = with_more lines others one.frames two.frames one.answers two.answers;
+    named = name_joined one.frames two.frames (λ n. is_open n old) one.named
+        (name_alike two.frames (λ n. is_open n mid) (λ n. opens_all one.frames n (is_open n old)) one.open_now two.named);
+    open_now = λ n. two.open_now n ∙ ap (λ b. opens_all two.frames n b) (one.open_now n) ∙ sym (opens_more one.frames two.frames n (is_open n old));
+    text_is = ap (λ t. t ++ later) one.text_is ∙ ap (λ t. spelled one.frames ++ t) two.text_is ∙ sym (spelled_more one.frames two.frames);
+  }
+
+  -- ---- what is sent
+
+  pub sends_none : (sessions : List Session) (before : Option (List ℕ)) → Sends May [] sessions sessions before before
+  sends_none sessions before = record { text = []; answers = answers_none sessions; sent = sent_none before }
+
+  pub sends_both : (lines others : List (Option (List ℕ))) (old mid new : List Session) (before between now : Option (List ℕ)) → Sends May lines old mid before between
+      → Sends May others mid new between now → Sends May (lines ++ others) old new before now
+  sends_both lines others old mid new before between now one two = record {
+    text = one.text ++ two.text;
+    answers = answers_then lines others old mid new one.text two.text one.answers two.answers;
+    sent = sent_more one.text two.text before between now one.sent two.sent;
+  }
+
+  pub sends_then : {T : Type 0} (r : Result T End) (lines others : List (Option (List ℕ))) (old mid new : List Session) (before between now : Option (List ℕ))
+      → Sends May lines old mid before between → OnOk r (Sends May others mid new between now) → OnOk r (Sends May (lines ++ others) old new before now)
+  sends_then {T} r lines others old mid new before between now one two =
+      ok_so r (Sends May others mid new between now) (Sends May (lines ++ others) old new before now)
+      (λ it. sends_both lines others old mid new before between now one it) two
+
+  pub sends_so : {T : Type 0} (r : Result T End) (lines others : List (Option (List ℕ))) (old new : List Session) (before now : Option (List ℕ)) → lines ≡ others
+      → OnOk r (Sends May lines old new before now) → OnOk r (Sends May others old new before now)
+  sends_so {T} r lines others old new before now same sends =
+      let P : List (Option (List ℕ)) → Type 0 = λ l. OnOk r (Sends May l old new before now) in subst P same sends
+
+  -- frames that were sent behind a call that sent nothing
+  made_sends : {T : Type 0} (r : Result T End) (lines : List (Option (List ℕ))) (frames : List Frame) (old mid new : List Session) (before between now : Option (List ℕ))
+      → All Fits frames → AnswerWithPushes May lines frames → NameOpen (λ n. is_open n old) frames → ((n : ℕ) → is_open n mid ≡ opens_all frames n (is_open n old))
+      → new ≡ mid → between ≡ before → OnOk r (now ≡ sent_after (spelled frames) between) → OnOk r (Sends May lines old new before now)
+  made_sends {T} r lines frames old mid new before between now fits answers named open_now same unsent made =
+      let B : Option (List ℕ) → Type 0 = λ b. OnOk r (now ≡ sent_after (spelled frames) b) in
+      ok_so r (now ≡ sent_after (spelled frames) before) (Sends May lines old new before now)
+      (λ sent. record {
+        text = spelled frames;
+        answers = record {
+          frames = frames;
+          fits = fits;
+          answers = answers;
+          named = named;
+          open_now = λ n. ap (λ s. is_open n s) same ∙ open_now n;
+          text_is = refl;
+        };
+        sent = sent;
+      })
+      (subst B unsent made)
+
+  module _ {T : Type 0} (r : Result T End) (frame : Frame) (old mid new : List Session) (before between now : Option (List ℕ)) (fits : Fits frame) (opened : OpensBy frame old mid)
+      (same : new ≡ mid) (unsent : between ≡ before) (made : OnOk r (now ≡ sent_after (spelling frame) between)) where
+    one_sends : (lines : List (Option (List ℕ))) → AnswerWithPushes May lines (frame ∷ []) → OnOk r (Sends May lines old new before now)
+    one_sends lines answers =
+        let S : List ℕ → Type 0 = λ t. OnOk r (now ≡ sent_after t between) in
+        made_sends r lines (frame ∷ []) old mid new before between now (All-cons Fits frame [] fits (All-nil Fits)) answers (names_open frame old opened.named, tt) opened.after
+        same unsent (subst S (sym (append-nil (spelling frame))) made)
+
+    -- the frame answers a line
+    pub sends_answer : (line : Option (List ℕ)) → May line frame → OnOk r (Sends May (line ∷ []) old new before now)
+    sends_answer line may = one_sends (line ∷ []) (inl (may, tt))
+
+    -- it is pushed
+    pub sends_push : MayPush frame → OnOk r (Sends May [] old new before now)
+    sends_push may = one_sends [] (may, tt)
+
+  -- ---- all lines of an input, where no session was open before them
+
+  input_answers : (input : List ℕ) (old new : List Session) (before now : Option (List ℕ)) → old ≡ [] → Sends May (told input) old new before now → SendsAnswers May input before now
+  input_answers input old new before now none s =
+      let N : List Session → Type 0 = λ ss. NameOpen (λ n. is_open n ss) s.answers.frames in
+      record {
+        frames = s.answers.frames;
+        fits = s.answers.fits;
+        answers = s.answers.answers;
+        named = named_opened s.answers.frames (subst N none s.answers.named);
+        sent = s.sent ∙ ap (λ t. sent_after t before) s.answers.text_is;
+      }
+
+  pub sends_answers : (o : Option (List ℕ)) (old new : List Session) (before now : Option (List ℕ)) → old ≡ [] → IfSome o (λ input. Sends May (told input) old new before now)
+      → IfSome o (λ input. SendsAnswers May input before now)
+  sends_answers None old new before now none sends = tt
+  sends_answers (Some input) old new before now none sends = input_answers input old new before now none sends
+
+  -- behind an opening, which leaves the streams
+  pub answers_over : (o o' before before' now : Option (List ℕ)) → o ≡ o' → before ≡ before' → IfSome o (λ input. SendsAnswers May input before now) → IfSome o' (λ input. SendsAnswers May input before' now)
+  answers_over o o' before before' now same unsent answers =
+      let O : Option (List ℕ) → Type 0 = λ x. IfSome x (λ input. SendsAnswers May input before' now) in
+      let B : Option (List ℕ) → Type 0 = λ b. IfSome o (λ input. SendsAnswers May input b now) in
+      subst O same (subst B unsent answers)
+
+-- ---- a host
+
+pub edit_may : (line : Option (List ℕ)) (edit : Edit) (frame : Frame) → SpellsEdit line edit → IsEditReply frame → MayAnswerHost line frame
+edit_may None edit frame spells is = absurd spells
+edit_may (Some []) edit frame spells is = absurd spells
+edit_may (Some (byte ∷ bytes)) edit frame spells is =
+    let text : List ℕ = byte ∷ bytes in
+    let R : Result Request ℕ → Type 0 = λ r. MayAnswerRead r frame in
+    let A : LiveLine → Type 0 = λ a. MayAnswerAsked a text frame in
+    let H : HostLine → Type 0 = λ a. MayAnswerAlone a text frame in
+    subst H (sym (asks_nothing text (EditRequest edit) spells))
+    (subst A (sym (request-asks-nothing text (EditRequest edit) spells)) (subst R (sym spells) is))
+
+edits_answer : (lines : List (Option (List ℕ))) (edits : List Edit) (frames : List Frame) → SpellEdits lines edits → length frames ≡ length edits → All IsEditReply frames
+    → AnswerWithPushes MayAnswerHost lines frames
+edits_answer [] [] [] spell long all = tt
+edits_answer [] [] (f ∷ fs) spell long all = absurd (omega (arith, long))
+edits_answer [] (e ∷ es) frames spell long all = absurd spell
+edits_answer (l ∷ ls) [] frames spell long all = absurd spell
+edits_answer (l ∷ ls) (e ∷ es) [] spell long all = absurd (omega (arith, long))
+edits_answer (l ∷ ls) (e ∷ es) (f ∷ fs) spell long all =
+    inl (edit_may l e f spell.0 (all 0 f (omega arith)), edits_answer ls es fs spell.1 (omega (arith, long)) (All-tail IsEditReply f fs all))
+
+-- edits are answered that lines spell; the sessions stay
+pub sends_group : {T : Type 0} (r : Result T End) (lines : List (Option (List ℕ))) (edits : List Edit) (frames : List Frame) (old mid new : List Session)
+    (before between now : Option (List ℕ)) → SpellEdits lines edits → length frames ≡ length edits → All IsEditReply frames → All Fits frames → mid ≡ old → new ≡ mid
+    → between ≡ before → OnOk r (now ≡ sent_after (spelled frames) between) → OnOk r (Sends MayAnswerHost lines old new before now)
+sends_group {T} r lines edits frames old mid new before between now spell long all fits kept same unsent made =
+    made_sends MayAnswerHost r lines frames old mid new before between now fits (edits_answer lines edits frames spell long all) (edits_name frames (λ n. is_open n old) all)
+    (λ n. ap (λ s. is_open n s) kept ∙ sym (edits_keep frames n (is_open n old) all)) same unsent made
+
+-- lines that ask nothing of the host alone are answered as by a live service
+pub may_passed : (line : Option (List ℕ)) (frame : Frame) → IsPassed line → MayAnswerLive line frame → MayAnswerHost line frame
+may_passed None frame passed may = may
+may_passed (Some text) frame passed may = let H : HostLine → Type 0 = λ a. MayAnswerAlone a text frame in subst H (sym passed) may
+
+all_passed : (lines : List (Option (List ℕ))) (frames : List Frame) → ArePassed lines → AnswerWithPushes MayAnswerLive lines frames → AnswerWithPushes MayAnswerHost lines frames
+all_passed [] [] passed may = tt
+all_passed (line ∷ lines) [] passed may = absurd may
+all_passed [] (f ∷ fs) passed may = (may.0, all_passed [] fs tt may.1)
+all_passed (line ∷ lines) (f ∷ fs) passed (inl it) = inl (may_passed line f passed.0 it.0, all_passed lines fs passed.1 it.1)
+all_passed (line ∷ lines) (f ∷ fs) passed (inr it) = inr (it.0, all_passed (line ∷ lines) fs passed it.1)
+
+pub sends_host : {T : Type 0} (r : Result T End) (lines : List (Option (List ℕ))) (old new : List Session) (before now : Option (List ℕ)) → ArePassed lines
+    → OnOk r (Sends MayAnswerLive lines old new before now) → OnOk r (Sends MayAnswerHost lines old new before now)
+sends_host {T} r lines old new before now passed sends =
+    ok_so r (Sends MayAnswerLive lines old new before now) (Sends MayAnswerHost lines old new before now)
+    (λ s. let a = s.answers in record {
+      text = s.text;
+      answers = record {
+        frames = a.frames;
+        fits = a.fits;
+        answers = all_passed lines a.frames passed a.answers;
+        named = a.named;
+        open_now = a.open_now;
+        text_is = a.text_is;
+      };
+      sent = s.sent;
+    }) sends
+
+-- the frame of a report, and of a step
+reported : (asked : HostLine) (text : List ℕ) (frame : Frame) → MayReport asked frame → MayAnswerAlone asked text frame
+reported ListLine text frame may = may
+reported (Values name t0 t1) text frame may = may
+reported (Sum session request) text frame may = may
+reported (Sweep rule) text frame may = absurd may
+reported (Bad at) text frame may = may
+reported Other text frame may = absurd may
+
+pub may_report : (text : List ℕ) (asked : HostLine) (frame : Frame) → host_line text ≡ asked → MayReport asked frame → MayAnswerHost (Some text) frame
+may_report text asked frame asks may =
+    let H : HostLine → Type 0 = λ a. MayAnswerAlone a text frame in subst H (sym asks) (reported asked text frame may)
+
+tells_step : (frame : Frame) (told : Type 0) (old new : View) → TellsStep frame told old new → MayTellStep frame
+tells_step (Report (Swept clears used more)) told old new tells = tt
+tells_step (Refused number a b) told old new tells = tells.0
+tells_step frame told old new tells = absurd tells
+
+pub step_may : (text : List ℕ) (rule : Rule) (frame : Frame) → host_line text ≡ Sweep rule → MayTellStep frame → MayAnswerHost (Some text) frame
+step_may text rule frame asks may =
+    let H : HostLine → Type 0 = λ a. MayAnswerAlone a text frame in subst H (sym asks) may
+
+pub may_step : (text : List ℕ) (rule : Rule) (frame : Frame) (told : Type 0) (old new : View) → host_line text ≡ Sweep rule → TellsStep frame told old new
+    → MayAnswerHost (Some text) frame
+may_step text rule frame told old new asks tells = step_may text rule frame asks (tells_step frame told old new tells)
+
+-- a step opens and closes no session
+pub step_stays : (frame : Frame) (told : Type 0) (old new : View) (sessions sessions' : List Session) → sessions' ≡ sessions → TellsStep frame told old new → OpensBy frame sessions sessions'
+step_stays (Report (Swept clears used more)) told old new sessions sessions' same tells = record { named = tt; after = λ n. ap (λ s. is_open n s) same }
+step_stays (Refused number a b) told old new sessions sessions' same tells = record { named = tt; after = λ n. ap (λ s. is_open n s) same }
+step_stays frame told old new sessions sessions' same tells = absurd tells
