@@ -69,5 +69,6 @@ module _ (name : List ℕ) (old new : View) (t : Traffic) where
     lacks = e.lacks;
     crash = both_told t.left t.sent _ _ e.crash e.kept;
     costs = e.costs;
+    line = e.line;
     good = good_of t.left refl end e.is;
   }

@@ -235,8 +235,9 @@ goes_through knows total name book series begun is has named =
     let alike : IsBegunAs series begun = subst A (named_once book name has.new.begun begun has.new.named named) has.new.alike in
     record {
       good = λ at image bad.
-          let P : ℕ → Type 0 = λ n. BadFirst n (told bad.front) bad.rest in
-          none_bad knows series bad.front bad.rest is bad.reads.begins (subst P alike.scale bad.bad);
+          let line = bad.line in
+          let P : ℕ → Type 0 = λ n. BadFirst n (told line.front) line.rest in
+          none_bad knows series line.front line.rest is line.reads.begins (subst P alike.scale line.bad);
       accepted = λ at refusal image refused.
           let all = refused.runs ++ refused.run ∷ [] in
           let P : ℕ → Type 0 = λ n. AreFirst n begun.step (export_text series None) all in

@@ -1,5 +1,5 @@
 -- What sets cost, one after the other.
-use Rattle.std.proofs.Common.{◌≡◌, ℕ, ◌+◌, ◌*◌, ◌<◌, ◌≤◌, arith}
+use Rattle.std.proofs.Common.{ℕ, ◌+◌, ◌*◌, ◌<◌, ◌≤◌, arith}
 use Rattle.block_disk.specs.View.{Rises, View}
 use Rattle.series_load.specs.Costs.{Costs, Spent, spent_by}
 

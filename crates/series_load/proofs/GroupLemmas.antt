@@ -25,7 +25,7 @@ use Rattle.run_ends.specs.Faults.{end_fault}
 use Rattle.series_load.specs.Costs.{Costs, spent_by}
 use Rattle.series_load.specs.Runs.{Run}
 use Rattle.series_load.specs.Sets.{AreSets, IsAfter, IsPartDone, IsRefusedIn, Loads, set_of}
-use Rattle.series_load.specs.Steps.{Counts, DoesFirst, IsSetCause, IsSoundFor, NoBad, StopsSo, end_at}
+use Rattle.series_load.specs.Steps.{BlamesNone, Counts, DoesFirst, IsSetCause, IsSoundFor, NoBad, StopsSo, end_at}
 use Rattle.run_ends.specs.declared.ending.End.{End}
 use Rattle.series_load.proofs.CostLemmas.{costs_most}
 use Rattle.series_load.proofs.SetLemmas.{as_many, part_none, part_then, refused_then}
@@ -304,3 +304,17 @@ counted_most ats answers (Err end) most counts few = tt
 pub counted_some : (ats : List ℕ) (answers : List (Result Outcome Refusal)) (result : Result ℕ End) → Counts ats answers result → 0 < length answers → IfOk result (λ count. 0 < count)
 counted_some ats answers (Ok count) counts some = omega (arith, some, counts.0)
 counted_some ats answers (Err end) counts some = tt
+
+-- no set is a bad line
+pub counted_blames : (ats : List ℕ) (answers : List (Result Outcome Refusal)) (result : Result ℕ End) → Counts ats answers result → IfErr result (λ e. BlamesNone e)
+counted_blames ats answers (Ok count) counts = tt
+counted_blames ats answers (Err end) counts =
+    let P : End → Type 0 = λ e. BlamesNone e in
+    subst P (sym counts.end_is) tt
+
+pub set_blames : (at : ℕ) (e : StoreError) → BlamesNone (end_at at e)
+set_blames at (store.Refused refusal) = tt
+set_blames at store.NotAStore = tt
+set_blames at store.DiskFault = tt
+set_blames at (store.Damaged page) = tt
+set_blames at store.NoMemory = tt

@@ -1,22 +1,24 @@
 -- The series of a name.
-use Rattle.std.proofs.Common.{◌≡◌, ◌≢◌, ℕ, List, [], Option, None, Some, Result, Ok, Err, OnOk, IfErr, IfSome, refl, subst, inl, sym, ◌∙◌, arith}
+use Rattle.std.proofs.Common.{◌≡◌, ◌≢◌, ℕ, ◌<◌, List, [], length, Option, None, Some, Result, Ok, Err, OnOk, IfErr, IfSome, refl, subst, inl, sym, ◌∙◌, arith}
 use Rattle.std.specs.Prelude.{◌↔◌, IsErrAnd, MatchOption, slice_get}
 use Rattle.block_disk.specs.View.{Image, View}
 use Rattle.series_book.specs.declared.one_series.Series.{Series}
 use Rattle.series_book.specs.Edits.{id_of}
 use Rattle.stored_book.specs.Standing.{StandsForBook}
-use Rattle.series_store.specs.Asking.{IsInfo}
+use Rattle.series_catalog.specs.declared.stored_series.StoredSeries.{StoredSeries}
+use Rattle.series_store.proofs.AskLemmas.{there}
+use Rattle.series_store.specs.Asking.{IsInfo, IsNamedAt, IsStoredInfo}
 use Rattle.series_store.specs.declared.series_info.SeriesInfo.{SeriesInfo}
 use Rattle.block_disk.proofs.Passing.{passes_none}
 use Rattle.gate_pages.specs.Pages.{Quiet}
-use Rattle.series_load.specs.Ends.{EndsLoad, IsLoadCause, Outcome, Stopped}
+use Rattle.series_load.specs.Ends.{EndsAtBad, EndsAtBadOf, EndsLoad, IsLoadCause, Outcome, Stopped}
 use Rattle.series_load.specs.Fronts.{PlacedLine}
 use Rattle.series_load.specs.Rows.{AreTable}
 use Rattle.series_load.specs.Runs.{nothing}
 use Rattle.series_load.specs.Sets.{AreFirstOf, IsAfterSome, IsNamed}
 use Rattle.series_load.specs.Steps.{IsSoundFor}
 use Rattle.run_ends.specs.declared.ending.End.{End}
-use Rattle.run_ends.specs.declared.ending.End.TheVariants.{InputTooLong, UnknownSeries, NoMemory}
+use Rattle.run_ends.specs.declared.ending.End.TheVariants.{BadInput, InputTooLong, UnknownSeries, NoMemory}
 use Rattle.series_load.proofs.CostLemmas.{costs_none}
 use Rattle.series_load.proofs.Joined.{told_nothing}
 use Rattle.series_load.proofs.SetLemmas.{after_none}
@@ -26,12 +28,13 @@ abbrev pub Tells : List ℕ → List Series → SeriesInfo → Type 0
 Tells name book info = (id_of name book ≡ Some info.id) ×
     ((series : Series) → slice_get book info.id ≡ Some series → IsInfo series info.id info)
 
-pub info_of : (name : List ℕ) (book : List Series) (series : Series) (info : SeriesInfo) → Tells name book info
-    → IsNamed book name series → IsInfo series info.id info
-info_of name book series info tells named =
+-- the series that was found is that of the book
+pub named_at : (name : List ℕ) (book : List Series) (series : Series) (info : SeriesInfo) → Tells name book info
+    → IsNamed book name series → slice_get book info.id ≡ Some series
+named_at name book series info tells named =
     let same : named.id ≡ info.id = id_same name book named.id info.id named.id_is tells.0 in
     let P : ℕ → Type 0 = λ i. slice_get book i ≡ Some series in
-    tells.1 series (subst P same named.there)
+    subst P same named.there
   where
     id_same : (name : List ℕ) (book : List Series) (i j : ℕ) → id_of name book ≡ Some i → id_of name book ≡ Some j → i ≡ j
     id_same name book i j first second = let both : Some i ≡ Some j = sym first ∙ second in cc
@@ -113,3 +116,43 @@ no_memory_sound (Ok v) e new is none fit = tt
 no_memory_sound (Err x) e new is none fit =
     let P : End → Type 0 = λ y. IsSoundFor y new in
     subst P (sym (is ∙ none)) fit
+
+-- ---- the line that is told, by the catalog
+
+-- the series of this id says the scale
+stored_line : (catalog : List StoredSeries) (name : List ℕ) (id : ℕ) (info : SeriesInfo) (scale : ℕ) → id < length catalog
+    → IsNamedAt catalog name id → ((one : StoredSeries) → slice_get catalog id ≡ Some one → IsStoredInfo one info) → scale ≡ info.scale
+    → (input : List ℕ) (end : End) → EndsAtBad scale input end → EndsAtBadOf catalog name input end
+stored_line catalog name id info scale low named stored same input (BadInput at) is =
+    let one = there catalog id low in
+    let P : ℕ → Type 0 = λ n. EndsAtBad n input (BadInput at) in
+    record {
+      id = id;
+      one = one.0;
+      there = one.1;
+      named = named one.0 one.1;
+      so = subst P (same ∙ (stored one.0 one.1).scale) is;
+    }
+stored_line catalog name id info scale low named stored same input end is = tt
+
+pub at_bad_of : (catalog : List StoredSeries) (name : List ℕ) (o : Option (List ℕ)) (id : ℕ) (info : SeriesInfo) (scale : ℕ)
+    (result : Result ℕ End) → id < length catalog → IsNamedAt catalog name id
+    → ((one : StoredSeries) → slice_get catalog id ≡ Some one → IsStoredInfo one info) → scale ≡ info.scale
+    → IfErr result (λ e. IfSome o (λ input. EndsAtBad scale input e)) → IfErr result (λ e. IfSome o (λ input. EndsAtBadOf catalog name input e))
+at_bad_of catalog name o id info scale (Ok count) low named stored same line = tt
+at_bad_of catalog name None id info scale (Err e) low named stored same line = tt
+at_bad_of catalog name (Some input) id info scale (Err e) low named stored same line =
+    stored_line catalog name id info scale low named stored same input e line
+
+-- no line was read
+pub no_line : (catalog : List StoredSeries) (name : List ℕ) (o : Option (List ℕ)) → IfSome o (λ input. EndsAtBadOf catalog name input UnknownSeries)
+no_line catalog name None = tt
+no_line catalog name (Some input) = tt
+
+pub no_memory_line : {T : Type 0} (catalog : List StoredSeries) (name : List ℕ) (o : Option (List ℕ)) (result : Result T End) (e : End)
+    → IsErrAnd result (λ x. x ≡ e) → e ≡ NoMemory → IfErr result (λ x. IfSome o (λ input. EndsAtBadOf catalog name input x))
+no_memory_line {T} catalog name o (Ok v) e is none = tt
+no_memory_line {T} catalog name None (Err x) e is none = tt
+no_memory_line {T} catalog name (Some input) (Err x) e is none =
+    let P : End → Type 0 = λ y. EndsAtBadOf catalog name input y in
+    subst P (sym (is ∙ none)) tt

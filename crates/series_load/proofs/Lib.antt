@@ -13,3 +13,6 @@ pub mod WorkLemmas
 pub mod Reached
 pub mod FirstLemmas
 pub mod GroupLemmas
+pub mod BlameLemmas
+pub mod BookedLemmas
+pub mod ScanLemmas

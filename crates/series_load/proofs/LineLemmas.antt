@@ -39,19 +39,19 @@ counted_more rows row = sum_by-append (λ r. cond (is_some r) 1 0) rows (row ∷
 abbrev pub placed : ℕ → List ℕ → PlacedLine
 placed at text = record { at = at; text = Some text }
 
-told_one : (at : ℕ) (text : List ℕ) → 0 < length text → if_told at (Some text) ≡ placed at text ∷ []
+pub told_one : (at : ℕ) (text : List ℕ) → 0 < length text → if_told at (Some text) ≡ placed at text ∷ []
 told_one at [] some = absurd (omega (arith, some))
 told_one at (byte ∷ bytes) some = refl
 
-told_none : (at : ℕ) (text : List ℕ) → text ≡ [] → if_told at (Some text) ≡ []
+pub told_none : (at : ℕ) (text : List ℕ) → text ≡ [] → if_told at (Some text) ≡ []
 told_none at [] none = refl
 told_none at (byte ∷ bytes) none = cc
 
-some_behind : (lines : List PlacedLine) (line : PlacedLine) → 0 < length (lines ++ line ∷ [])
+pub some_behind : (lines : List PlacedLine) (line : PlacedLine) → 0 < length (lines ++ line ∷ [])
 some_behind [] line = omega arith
 some_behind (l ∷ ls) line = omega (arith, some_behind ls line)
 
-none_behind : (lines : List PlacedLine) (line : PlacedLine) → false ≡ true → lines ++ line ∷ [] ≡ []
+pub none_behind : (lines : List PlacedLine) (line : PlacedLine) → false ≡ true → lines ++ line ∷ [] ≡ []
 none_behind lines line is = cc
 
 read_row : (scale step at : ℕ) (text : List ℕ) (first : Bool) (old : Option Run) (points : ℕ) (row : Option Reading) (ends : List Run) (new : Option Run) (lines : List PlacedLine) (runs : List Run) → IsRow scale (placed at text) row → Adds step old row ends new → Read scale step lines runs first old points → Read scale step (lines ++ placed at text ∷ []) (runs ++ ends) false new (points + one_if row)

@@ -1,5 +1,5 @@
 -- What a load has done, by what a run of lines says.
-use Rattle.std.proofs.Common.{◌≡◌, ◌≢◌, ◌∙◌, ℕ, ◌+◌, ◌^◌, ◌<◌, ◌≤◌, Bool, true, IsTrue, List, [], ◌∷◌, ◌++◌, length, Option, None, Some, IfSome, refl, ap, sym, subst, inl, inr, arith, append_assoc, length-append}
+use Rattle.std.proofs.Common.{◌≡◌, ◌≢◌, ◌∙◌, ℕ, ◌+◌, ◌^◌, ◌<◌, ◌≤◌, Bool, true, false, IsTrue, List, [], ◌∷◌, ◌++◌, length, Option, None, Some, IfSome, refl, ap, sym, subst, inl, inr, arith, append_assoc, length-append}
 use Rattle.std.specs.List.{filter, after_first}
 use Rattle.std.proofs.lemmas.List.{append-nil}
 use Rattle.std.proofs.lemmas.List.Elements.{filter-append}
@@ -44,13 +44,13 @@ use Rattle.series_load.proofs.SetLemmas.{after_then, loads_then}
 -- ---- the lines that were given
 
 -- those that say something, at their places
-abbrev told_of : List Given → List PlacedLine
+abbrev pub told_of : List Given → List PlacedLine
 told_of [] = []
 told_of (Line at line ∷ later) = if_told at line ++ told_of later
 told_of (Pause ∷ later) = told_of later
 told_of (lines_given.End ∷ later) = told_of later
 
-abbrev AreLines : List Given → Type 0
+abbrev pub AreLines : List Given → Type 0
 AreLines [] = Unit {0}
 AreLines (Line at line ∷ later) = AreLines later
 AreLines (Pause ∷ later) = AreLines later
@@ -69,22 +69,22 @@ lines_from : (at : ℕ) (parts : List (List ℕ)) → AreLines (given_from at pa
 lines_from at [] = tt
 lines_from at (part ∷ parts) = lines_from (at + length part + 1) parts
 
-told_given : (front : List ℕ) → told_of (given_lines front) ≡ told front
+pub told_given : (front : List ℕ) → told_of (given_lines front) ≡ told front
 unfolding told given_lines
 told_given front = told_from 0 (split_lines front)
 
-only_lines : (front : List ℕ) → AreLines (given_lines front)
+pub only_lines : (front : List ℕ) → AreLines (given_lines front)
 unfolding given_lines
 only_lines front = lines_from 0 (split_lines front)
 
 -- pauses say nothing
-told_unpaused : (given : List Given) → told_of given ≡ told_of (unpaused given)
+pub told_unpaused : (given : List Given) → told_of given ≡ told_of (unpaused given)
 told_unpaused [] = refl
 told_unpaused (Line at line ∷ later) = ap (λ l. if_told at line ++ l) (told_unpaused later)
 told_unpaused (Pause ∷ later) = told_unpaused later
 told_unpaused (lines_given.End ∷ later) = told_unpaused later
 
-lines_unpaused : (given : List Given) → AreLines (unpaused given) → AreLines given
+pub lines_unpaused : (given : List Given) → AreLines (unpaused given) → AreLines given
 lines_unpaused [] only = tt
 lines_unpaused (Line at line ∷ later) only = lines_unpaused later only
 lines_unpaused (Pause ∷ later) only = lines_unpaused later only
@@ -221,13 +221,13 @@ pub record Heard (scale step : ℕ) (input : List ℕ) (ended : List Run) (first
   pub read : Read scale step (told front) ended first open_run points
 
 -- the next line of it
-record NextOf (front rest : List ℕ) (line : Option (List ℕ)) : Type 0 where
+pub record NextOf (front rest : List ℕ) (line : Option (List ℕ)) : Type 0 where
   pub whole : IsWhole front
   pub some : rest ≢ []
   pub lines_are : lines rest ≡ line ∷ lines (after_first is_line_feed rest)
   pub early : length (front ++ first_piece rest) ≤ 2 ^ 32
 
-next_of : (input front rest : List ℕ) (line : Option (List ℕ)) → BeginsWith input front rest
+pub next_of : (input front rest : List ℕ) (line : Option (List ℕ)) → BeginsWith input front rest
     → lines_given.NextLine (length front) rest line → NextOf front rest line
 next_of input front rest line begins next =
     let some = some_left rest line next.later next.lines_are in
@@ -241,6 +241,26 @@ next_of input front rest line begins next =
       lines_are = all ∙ ap (λ l. l ∷ lines (after_first is_line_feed rest)) same;
       early = omega (arith, next.early, length-append front (first_piece rest));
     }
+
+-- it is bad
+pub long_early : (scale : ℕ) (front rest : List ℕ) → NextOf front rest None → BadEarly scale front rest
+long_early scale front rest next = record {
+  bad = record { line = None; later = lines (after_first is_line_feed rest); lines_are = next.lines_are; some = refl; bad = tt };
+  early = next.early;
+}
+
+pub text_early : (scale : ℕ) (front rest text : List ℕ) (first : Bool) → (first ≡ false → 0 < length (told front))
+    → NextOf front rest (Some text) → 0 < length text → SaysSo scale first text Bad → BadEarly scale front rest
+text_early scale front rest text first some_yet next some says = record {
+  bad = record {
+    line = Some text;
+    later = lines (after_first is_line_feed rest);
+    lines_are = next.lines_are;
+    some = some_text text some;
+    bad = is_bad scale text first (told front) some_yet says;
+  };
+  early = next.early;
+}
 
 module _ (scale step : ℕ) (input : List ℕ) (ended : List Run) (first : Bool) (open_run : Option Run) (points : ℕ)
     (h : Heard scale step input ended first open_run points) where
@@ -270,23 +290,11 @@ module _ (scale step : ℕ) (input : List ℕ) (ended : List Run) (first : Bool)
   }
 
   bad_long : NextOf h.front h.rest None → BadEarly scale h.front h.rest
-  bad_long next = record {
-    bad = record { line = None; later = lines (after_first is_line_feed h.rest); lines_are = next.lines_are; some = refl; bad = tt };
-    early = next.early;
-  }
+  bad_long next = long_early scale h.front h.rest next
 
   bad_text : (text : List ℕ) → NextOf h.front h.rest (Some text) → 0 < length text → SaysSo scale first text Bad
       → BadEarly scale h.front h.rest
-  bad_text text next some says = record {
-    bad = record {
-      line = Some text;
-      later = lines (after_first is_line_feed h.rest);
-      lines_are = next.lines_are;
-      some = some_text text some;
-      bad = is_bad scale text first (told h.front) h.read.some_yet says;
-    };
-    early = next.early;
-  }
+  bad_text text next some says = text_early scale h.front h.rest text first h.read.some_yet next some says
 
   -- those that end with the next line
   line_first : (at : ℕ) (text : List ℕ) (ends : List Run) (first' : Bool) (new : Option Run) (points' : ℕ) → at ≡ length h.front → NextOf h.front h.rest (Some text)
@@ -458,13 +466,15 @@ module _ (total : ℕ) (name : List ℕ) (book : List Series) (series : Series) 
     bad_at input place image h at_is bad after =
         let P : List Run → Type 0 = λ l. IsAfter total name book l image in
         record {
-          front = h.front;
-          rest = h.rest;
-          rows = h.read.rows;
-          reads = record { begins = h.begins; table = h.read.table };
-          bad = bad.bad;
-          early = bad.early;
-          at_is = at_is;
+          line = record {
+            front = h.front;
+            rest = h.rest;
+            rows = h.read.rows;
+            reads = record { begins = h.begins; table = h.read.table };
+            bad = bad.bad;
+            early = bad.early;
+            at_is = at_is;
+          };
           runs = r.runs ++ closed r.open_run;
           all = all_runs series.scale series.step input r.runs r.first r.open_run r.points h;
           after = subst P (sym (ended_is (closed r.open_run))) (after_then total name book r.book r.done (r.waiting ++ closed r.open_run) image r.loads after);

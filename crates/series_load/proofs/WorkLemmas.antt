@@ -9,11 +9,11 @@ use Rattle.line_runs.specs.Given as given
 use Rattle.line_runs.specs.Given.{Given, Line, Pause}
 use Rattle.line_runs.specs.MomentLaws.{through_by}
 use Rattle.line_runs.specs.Moments.{Through}
-use Rattle.series_load.specs.Loading.{BadBy, Held, LoadDoes, LoadLeaves, LoadStops, RunsBy, StandsSo, moved, seen}
+use Rattle.series_load.specs.Loading.{BadBy, Booked, Held, Lasts, LoadDoes, LoadLeaves, LoadStops, Loading, LoadingDoes, LoadingLeaves, LoadingStops, RunsBy, Scan, ScanDoes, ScanStops, Scanned, StandsFor, StandsSo, further, moved, scan_of, seen}
 use Rattle.series_load.specs.LoadingLaws.{none_sent}
 use Rattle.series_load.specs.Runs.{Run}
 use Rattle.series_load.specs.Sets.{IsPartDone}
-use Rattle.series_load.specs.Steps.{Does, DoesLine, KeepsRuns, LineLeaves, closed}
+use Rattle.series_load.specs.Steps.{BlamesText, Does, DoesLine, KeepsRuns, LineLeaves, LineReads, closed}
 use Rattle.series_load.specs.declared.kept_sets.KeptSets.{KeptSets}
 use Rattle.series_load.proofs.CostLemmas.{costs_then}
 use Rattle.run_ends.specs.declared.ending.End.{End}
@@ -223,3 +223,122 @@ module _ (told told' : Type 0) (held : Held) (loader loader' : Loader) (old new 
         let P : Held → Type 0 = λ h. Through old new (LoadLeaves h it (sent_now old)) in
         subst P (sym s.seen_is) (through_by old new (IsPartDone held.total loader.name held.book runs) (Quiet old)
         (LoadLeaves here it (sent_now old)) does.moments (λ image count part quiet. record { runs = runs; are = are; part = part }))
+
+-- ---- whether or not it is known what the load holds
+
+module _ (told told' : Type 0) (loader loader' : Loader) (old new : View) (more : told → told') where
+  abbrev Next : Loading → Type 0
+  Next loading = StandsFor told' new loader' loading
+
+  as_booked : {T : Type 0} (held : Held) (it : Given) (before now : Option (List ℕ)) (result : Result T End)
+      → OnOk result (DoesOne LoadDoes (StandsSo told' new loader') held it before now) → OnOk result (DoesOne LoadingDoes Next (Booked held) it before now)
+  as_booked {T} held it before now (Ok v) did = record { text = did.text; behind = Booked did.behind; done = did.done; stands = did.stands; sent = did.sent }
+  as_booked {T} held it before now (Err e) did = tt
+
+  -- no line was read
+  scan_idle : {T : Type 0} (scan : Scan) (it : Given) (before now : Option (List ℕ)) (result : Result T End) → loader'.scale ≡ loader.scale
+      → loader'.first ≡ loader.first → now ≡ before → ScanDoes scan it scan → scan ≡ scan_of loader
+      → OnOk result (DoesOne LoadingDoes Next (Scanned scan) it before now)
+  scan_idle {T} scan it before now (Ok v) scale first unsent idle is =
+      let F : Scan → Type 0 = λ s. s ≡ scan_of loader' in
+      record {
+        text = [];
+        behind = Scanned scan;
+        done = (refl, idle);
+        stands = subst F (sym is) (λ i. record { scale = sym scale i; first = sym first i });
+        sent = unsent ∙ sent_none before;
+      }
+  scan_idle {T} scan it before now (Err e) scale first unsent idle is = tt
+
+  -- ---- a line
+
+  abbrev LineOf : {T : Type 0} → ℕ → List ℕ → Result T End → Held → Type 0
+  LineOf {T} at text result held = DoesLine loader.scale loader.step at text loader.first loader.points held.total loader.name held.book held.waiting held.open_run result loader'.first loader'.points loader'.kept loader'.run old new
+
+  scan_line : {T : Type 0} (scan : Scan) (at : ℕ) (text : List ℕ) (before now : Option (List ℕ)) (result : Result T End) → loader'.scale ≡ loader.scale
+      → now ≡ before → OnOk result (LineReads loader.scale loader.first text loader'.first) → scan ≡ scan_of loader
+      → OnOk result (DoesOne LoadingDoes Next (Scanned scan) (Line at (Some text)) before now)
+  scan_line {T} scan at text before now (Ok v) scale unsent reads is =
+      let R : Scan → Type 0 = λ s. LineReads s.scale s.first text loader'.first in
+      let F : Scan → Type 0 = λ s. further s loader'.first ≡ scan_of loader' in
+      record {
+        text = [];
+        behind = Scanned (further scan loader'.first);
+        done = (refl, record { first = loader'.first; reads = subst R (sym is) reads; behind_is = refl });
+        stands = subst F (sym is) (λ i. record { scale = sym scale i; first = loader'.first });
+        sent = unsent ∙ sent_none before;
+      }
+  scan_line {T} scan at text before now (Err e) scale unsent reads is = tt
+
+  pub any_line_done : {T : Type 0} (loading : Loading) (at : ℕ) (text : List ℕ) (before now : Option (List ℕ)) (result : Result T End)
+      → SameLoader loader loader' → now ≡ before → ((held : Held) → StandsSo told old loader held → LineOf at text result held)
+      → OnOk result (LineReads loader.scale loader.first text loader'.first) → StandsFor told old loader loading
+      → OnOk result (DoesOne LoadingDoes Next loading (Line at (Some text)) before now)
+  any_line_done {T} (Booked held) at text before now result same unsent did reads s =
+      as_booked held (Line at (Some text)) before now result
+      (line_done told told' held loader loader' old new s (more s.is_told) at text before now result same unsent (did held s))
+  any_line_done {T} (Scanned scan) at text before now result same unsent did reads is =
+      scan_line scan at text before now result same.scale_is unsent reads is
+
+  pub any_line_stops : {T : Type 0} (loading : Loading) (at : ℕ) (text : List ℕ) (result : Result T End)
+      → ((held : Held) → StandsSo told old loader held → LineOf at text result held)
+      → IfErr result (λ end. BlamesText loader.scale at loader.first text end) → StandsFor told old loader loading
+      → IfErr result (λ end. LoadingStops loading (Line at (Some text)) new end)
+  any_line_stops {T} (Booked held) at text result did blames s =
+      line_stops told told' held loader loader' old new s (more s.is_told) at text result (did held s)
+  any_line_stops {T} (Scanned scan) at text result did blames is =
+      let B : Scan → Type 0 = λ s. IfErr result (λ end. BlamesText s.scale at s.first text end) in
+      subst B (sym is) blames
+
+  pub any_line_leaves : {T : Type 0} (loading : Loading) (at : ℕ) (text : List ℕ) (result : Result T End)
+      → ((held : Held) → StandsSo told old loader held → LineOf at text result held) → StandsFor told old loader loading → Lasts loading
+      → Through old new (LoadingLeaves loading (Line at (Some text)) (sent_now old))
+  any_line_leaves {T} (Booked held) at text result did s lasts =
+      line_leaves told told' held loader loader' old new s (more s.is_told) at text result (did held s)
+  any_line_leaves {T} (Scanned scan) at text result did is lasts = absurd lasts
+
+  -- ---- a pause, the end, and a line that is too long
+
+  abbrev RanOf : {T : Type 0} → (ℕ → Type 0) → (Held → List Run) → Result T End → Held → Type 0
+  RanOf {T} B runs result held = Does B held.total loader.name held.book (runs held) result old new
+
+  pub any_pause_done : {T : Type 0} (loading : Loading) (B : ℕ → Type 0) (before now : Option (List ℕ)) (result : Result T End) → SameLoader loader loader'
+      → loader'.first ≡ loader.first → loader'.points ≡ loader.points → now ≡ before
+      → ((held : Held) → StandsSo told old loader held → RanOf B (λ h. h.waiting) result held)
+      → ((held : Held) → StandsSo told old loader held → OnOk result (KeepsRuns loader.name [] held.open_run loader'.kept loader'.run))
+      → StandsFor told old loader loading → OnOk result (DoesOne LoadingDoes Next loading Pause before now)
+  any_pause_done {T} (Booked held) B before now result same first points unsent did keeps s =
+      as_booked held Pause before now result
+      (pause_done told told' held loader loader' old new s (more s.is_told) B before now result same first points unsent (did held s) (keeps held s))
+  any_pause_done {T} (Scanned scan) B before now result same first points unsent did keeps is =
+      scan_idle scan Pause before now result same.scale_is first unsent refl is
+
+  pub any_end_done : {T : Type 0} (loading : Loading) (B : ℕ → Type 0) (before now : Option (List ℕ)) (result : Result T End) → SameLoader loader loader'
+      → loader'.first ≡ loader.first → loader'.points ≡ loader.points → now ≡ before
+      → ((held : Held) → StandsSo told old loader held → RanOf B (λ h. h.waiting ++ closed h.open_run) result held)
+      → ((held : Held) → StandsSo told old loader held → OnOk result (KeepsRuns loader.name [] None loader'.kept loader'.run))
+      → StandsFor told old loader loading → OnOk result (DoesOne LoadingDoes Next loading given.End before now)
+  any_end_done {T} (Booked held) B before now result same first points unsent did keeps s =
+      as_booked held given.End before now result
+      (end_done told told' held loader loader' old new s (more s.is_told) B before now result same first points unsent (did held s) (keeps held s))
+  any_end_done {T} (Scanned scan) B before now result same first points unsent did keeps is =
+      scan_idle scan given.End before now result same.scale_is first unsent refl is
+
+  pub any_runs_stop : {T : Type 0} (loading : Loading) (it : Given) (runs : Held → List Run) (result : Result T End)
+      → ((held : Held) → RunsBy (seen held loader) it (runs held))
+      → ((held : Held) → StandsSo told old loader held → RanOf (BadBy (seen held loader) it new.image) runs result held)
+      → IfErr result (λ end. ScanStops (scan_of loader) it end) → StandsFor told old loader loading
+      → IfErr result (λ end. LoadingStops loading it new end)
+  any_runs_stop {T} (Booked held) it runs result are did stops s =
+      runs_stops told told' held loader loader' old new s (more s.is_told) it (runs held) result (are held) (did held s)
+  any_runs_stop {T} (Scanned scan) it runs result are did stops is =
+      let B : Scan → Type 0 = λ s. IfErr result (λ end. ScanStops s it end) in
+      subst B (sym is) stops
+
+  pub any_runs_leave : {T : Type 0} (loading : Loading) (it : Given) (B : Held → ℕ → Type 0) (runs : Held → List Run) (result : Result T End)
+      → ((held : Held) → RunsBy (seen held loader) it (runs held))
+      → ((held : Held) → StandsSo told old loader held → RanOf (B held) runs result held) → StandsFor told old loader loading → Lasts loading
+      → Through old new (LoadingLeaves loading it (sent_now old))
+  any_runs_leave {T} (Booked held) it B runs result are did s lasts =
+      runs_leave told told' held loader loader' old new s (more s.is_told) it (B held) (runs held) result (are held) (did held s)
+  any_runs_leave {T} (Scanned scan) it B runs result are did is lasts = absurd lasts

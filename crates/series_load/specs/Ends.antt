@@ -1,5 +1,5 @@
 -- How a load ends, and what it has done then.
-use Rattle.std.specs.Prelude.{◌≡◌, ℕ, ◌-◌, ◌^◌, ◌<◌, ◌≤◌, List, [], ◌∷◌, ◌++◌, length, take, Option, Result, Ok, Err, count_by, is_some, IfSome, ⊤}
+use Rattle.std.specs.Prelude.{◌≡◌, ℕ, ◌-◌, ◌^◌, ◌<◌, ◌≤◌, List, [], ◌∷◌, ◌++◌, length, take, slice_get, Option, Some, Result, Ok, Err, count_by, is_some, IfSome, ⊤}
 use Rattle.block_disk.specs.Counts.{HasRisen}
 use Rattle.block_disk.specs.View.{Image, View, Passes}
 use Rattle.gate_pages.specs.Pages.{Quiet}
@@ -7,6 +7,7 @@ use Rattle.chart_world.specs.Lines.{NoLineFeed}
 use Rattle.series_book.specs.declared.one_series.Series.{Series}
 use Rattle.series_book.specs.declared.refusals.Refusal.{Refusal}
 use Rattle.series_book.specs.Edits.{apply}
+use Rattle.series_catalog.specs.declared.stored_series.StoredSeries.{StoredSeries}
 use Rattle.stored_book.specs.Damage.{IsBadForEdit}
 use Rattle.stored_book.specs.Standing.{StandsForBook}
 use Rattle.series_load.specs.Costs.{Costs, spent_by}
@@ -27,17 +28,21 @@ pub record IsLoaded (total : ℕ) (name : List ℕ) (book : List Series) (series
   pub after : IsAfter total name book runs image
   pub counted : count ≡ count_by is_some rows
 
--- The first bad line is the one at this offset, and ends among the first 2^32 bytes. The sets of all runs before it were done.
-pub record IsAtBad (total : ℕ) (name : List ℕ) (book : List Series) (series : Series) (input : List ℕ) (at : ℕ) (image : Image) : Type 0 where
+-- The first bad line is the one at this offset, and ends among the first 2^32 bytes: those before it are rows, or empty.
+pub record IsBadLine (scale : ℕ) (input : List ℕ) (at : ℕ) : Type 0 where
   pub front : List ℕ
   pub rest : List ℕ
   pub rows : List (Option Reading)
-  pub reads : ReadsRows series.scale input front rest rows
-  pub bad : BadFirst series.scale (told front) rest
+  pub reads : ReadsRows scale input front rest rows
+  pub bad : BadFirst scale (told front) rest
   pub early : length (front ++ first_piece rest) ≤ 2 ^ 32
   pub at_is : at ≡ length front
+
+-- the first bad line is the one at this offset, and the sets of all runs before it were done
+pub record IsAtBad (total : ℕ) (name : List ℕ) (book : List Series) (series : Series) (input : List ℕ) (at : ℕ) (image : Image) : Type 0 where
+  pub line : IsBadLine series.scale input at
   pub runs : List Run
-  pub all : AllRuns series.step rows runs
+  pub all : AllRuns series.step line.rows runs
   pub after : IsAfter total name book runs image
 
 -- The sets of some first runs were done. The run behind them begins at this offset, and its set is refused so.
@@ -109,6 +114,24 @@ IsLoadCause InputTooLong told total old new reads reads' = ⊤
 IsLoadCause UnknownSeries told total old new reads reads' = ⊤
 IsLoadCause (Refused at number) told total old new reads reads' = ⊤
 IsLoadCause end told total old new reads reads' = ⊥
+
+-- a line that an end tells is the first bad one, whatever the pages are
+abbrev pub EndsAtBad : ℕ → List ℕ → End → Type 0
+EndsAtBad scale input (BadInput at) = IsBadLine scale input at
+EndsAtBad scale input end = ⊤
+
+-- a series of a catalog has this name, and this is so of its scale
+pub record OfScale (catalog : List StoredSeries) (name : List ℕ) (IsSo : ℕ → Type 0) : Type 0 where
+  pub id : ℕ
+  pub one : StoredSeries
+  pub there : slice_get catalog id ≡ Some one
+  pub named : one.name ≡ name
+  pub so : IsSo one.scale
+
+-- the same by the scale of the series that has this name in a catalog
+abbrev pub EndsAtBadOf : List StoredSeries → List ℕ → List ℕ → End → Type 0
+EndsAtBadOf catalog name input (BadInput at) = OfScale catalog name (λ scale. IsBadLine scale input at)
+EndsAtBadOf catalog name input end = ⊤
 
 -- Some first runs of the input were stored, or tried, and their sets cost no more than they may.
 pub record CostsFirst (series : Series) (input : Option (List ℕ)) (old new : View) : Type 0 where

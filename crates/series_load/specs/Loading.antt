@@ -1,5 +1,5 @@
 -- What a load holds on its way, and what is done of a line.
-use Rattle.std.specs.Prelude.{◌≡◌, ℕ, ◌+◌, ◌≤◌, Bool, List, [], ◌++◌, length, Option, None, Some}
+use Rattle.std.specs.Prelude.{◌≡◌, ℕ, ◌+◌, ◌≤◌, Bool, List, [], ◌++◌, length, Option, None, Some, ⊤}
 use Rattle.block_disk.specs.View.{Image, View}
 use Rattle.line_runs.specs.Given as given
 use Rattle.line_runs.specs.Given.{Given, Line, Pause}
@@ -8,7 +8,7 @@ use Rattle.stored_book.specs.Standing.{StandsForBook}
 use Rattle.series_load.specs.Costs.{Costs, Spent}
 use Rattle.series_load.specs.Runs.{Run}
 use Rattle.series_load.specs.Sets.{IsPartDone, Loads}
-use Rattle.series_load.specs.Steps.{IsAtLine, IsAtText, KeepsRuns, LineAdds, LineRuns, StopsSo, closed}
+use Rattle.series_load.specs.Steps.{BlamesLine, BlamesNone, BlamesText, IsAtLine, IsAtText, KeepsRuns, LineAdds, LineReads, LineRuns, StopsSo, closed}
 use Rattle.run_ends.specs.declared.ending.End.{End}
 use Rattle.run_ends.specs.declared.ending.End.TheVariants.{DiskFault}
 use Rattle.series_load.specs.declared.loader.Loader.{Loader}
@@ -141,6 +141,83 @@ pub record LoadLeaves (held : Held) (it : Given) (from : ℕ) (image : Image) (s
   pub runs : List Run
   pub are : RunsBy held it runs
   pub part : IsPartDone held.total held.name held.book runs image
+
+-- ---- whatever the pages are
+
+-- how far the lines were read: by this scale, and whether none was yet that isn't empty
+pub record Scan : Type 0 where
+  pub scale : ℕ
+  pub first : Bool
+
+-- by a loader
+abbrev pub scan_of : Loader → Scan
+scan_of loader = record { scale = loader.scale; first = loader.first }
+
+-- further lines
+abbrev pub further : Scan → Bool → Scan
+further scan first = record { scale = scan.scale; first = first }
+
+-- a line was read
+pub record LineScanned (scan : Scan) (text : List ℕ) (behind : Scan) : Type 0 where
+  pub first : Bool
+  pub reads : LineReads scan.scale scan.first text first
+  pub behind_is : behind ≡ further scan first
+
+-- at a pause and at the end none was
+abbrev pub ScanDoes : Scan → Given → Scan → Type 0
+ScanDoes scan (Line at None) behind = ⊥
+ScanDoes scan (Line at (Some text)) behind = LineScanned scan text behind
+ScanDoes scan Pause behind = behind ≡ scan
+ScanDoes scan given.End behind = behind ≡ scan
+
+-- what an end says of the line that was given
+abbrev pub ScanStops : Scan → Given → End → Type 0
+ScanStops scan (Line at None) end = BlamesLine at end
+ScanStops scan (Line at (Some text)) end = BlamesText scan.scale at scan.first text end
+ScanStops scan Pause end = BlamesNone end
+ScanStops scan given.End end = BlamesNone end
+
+-- ---- the one or the other
+
+-- a load on its way, of which it is known what it holds, or only how far the lines were read
+pub data Loading : Type 0 where
+  Booked : Held → Loading
+  Scanned : Scan → Loading
+
+abbrev pub IsBooked : (Held → Type 0) → Loading → Type 0
+IsBooked IsSo (Booked held) = IsSo held
+IsBooked IsSo (Scanned scan) = ⊥
+
+abbrev pub IsScanned : (Scan → Type 0) → Loading → Type 0
+IsScanned IsSo (Booked held) = ⊥
+IsScanned IsSo (Scanned scan) = IsSo scan
+
+-- the loader is that of such a load, and so are the pages where it is known what it holds
+abbrev pub StandsFor : Type 0 → View → Loader → Loading → Type 0
+StandsFor told at loader (Booked held) = StandsSo told at loader held
+StandsFor told at loader (Scanned scan) = scan ≡ scan_of loader
+
+-- then it is told what a crash leaves, between lines too
+abbrev pub Lasts : Loading → Type 0
+Lasts (Booked held) = ⊤
+Lasts (Scanned scan) = ⊥
+
+abbrev pub RestsSo : Loading → Image → Type 0
+RestsSo (Booked held) image = StandsForBook image held.total held.book
+RestsSo (Scanned scan) image = ⊤
+
+-- what is done, why it stopped the load, and what a crash leaves meanwhile
+abbrev pub LoadingDoes : Loading → Given → List ℕ → Loading → Type 0
+LoadingDoes (Booked held) it text behind = IsBooked (λ next. LoadDoes held it text next) behind
+LoadingDoes (Scanned scan) it text behind = (text ≡ []) × IsScanned (λ next. ScanDoes scan it next) behind
+
+abbrev pub LoadingStops : Loading → Given → View → End → Type 0
+LoadingStops (Booked held) it new end = LoadStops held it new end
+LoadingStops (Scanned scan) it new end = ScanStops scan it end
+
+abbrev pub LoadingLeaves : Loading → Given → ℕ → Image → ℕ → Type 0
+LoadingLeaves (Booked held) it from image sent = LoadLeaves held it from image sent
+LoadingLeaves (Scanned scan) it from image sent = ⊤
 
 -- after it no line may be given
 abbrev pub Harms : End → Type 0

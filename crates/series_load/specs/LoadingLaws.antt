@@ -1,14 +1,15 @@
 -- What takes leave of a load, and what calls move.
-use Rattle.std.proofs.Common.{◌≡◌, ◌∙◌, ℕ, ◌≤◌, None, inl, inr, sym, subst, arith}
+use Rattle.std.proofs.Common.{◌≡◌, ◌∙◌, ℕ, ◌≤◌, List, None, inl, inr, sym, subst, arith}
 use Rattle.std.proofs.lemmas.Bool.{cases_lt}
 use Rattle.block_disk.specs.Counts.{HasRisen}
 use Rattle.block_disk.specs.View.{Image, View, DiskKept, Now, Only, Passes, sent_now}
 use Rattle.chart_world.specs.FaultLaws.{disk_stays, takes_stay}
 use Rattle.chart_world.specs.Faults.{CountsFault}
+use Rattle.line_runs.specs.Given.{Given}
 use Rattle.stored_book.specs.Standing.{StandsForBook}
 use Rattle.series_load.specs.Costs.{Costs, Spent}
 use Rattle.series_load.specs.Ends.{IsLoadCause}
-use Rattle.series_load.specs.Loading.{Held, NoneSent, StandsSo}
+use Rattle.series_load.specs.Loading.{Booked, Held, Lasts, Loading, LoadingDoes, NoneSent, RestsSo, Scanned, StandsFor, StandsSo}
 use Rattle.run_ends.specs.declared.ending.End.{End}
 use Rattle.run_ends.specs.declared.ending.End.TheVariants.{ReadFault, DiskFault, DamagedPage}
 use Rattle.series_load.specs.declared.loader.Loader.{Loader}
@@ -32,9 +33,9 @@ costs_kept sets before old new kept costs = record {
   writes = omega (arith, kept.writes, costs.writes);
 }
 
-pub stands_taken : (told told' : Type 0) (old new : View) (loader : Loader) (held : Held) → (told → told') → DiskKept old new
+held_taken : (told told' : Type 0) (old new : View) (loader : Loader) (held : Held) → (told → told') → DiskKept old new
     → Passes old new (Now old) (λ n. n ≡ sent_now old) → StandsSo told old loader held → StandsSo told' new loader held
-stands_taken told told' old new loader held more kept time s =
+held_taken told told' old new loader held more kept time s =
     let P : Image → Type 0 = λ i. StandsForBook i held.total held.book in
     record {
       is_told = more s.is_told;
@@ -45,11 +46,28 @@ stands_taken told told' old new loader held more kept time s =
       seen_is = s.seen_is;
     }
 
-pub now_stands : (held : Held) (at : View) → Only at.image (Now at) → StandsForBook at.image held.total held.book → (image : Image)
+pub stands_taken : (told told' : Type 0) (old new : View) (loader : Loader) (loading : Loading) → (told → told') → DiskKept old new
+    → Passes old new (Now old) (λ n. n ≡ sent_now old) → StandsFor told old loader loading → StandsFor told' new loader loading
+stands_taken told told' old new loader (Booked held) more kept time s = held_taken told told' old new loader held more kept time s
+stands_taken told told' old new loader (Scanned scan) more kept time is = is
+
+held_rests : (held : Held) (at : View) → Only at.image (Now at) → StandsForBook at.image held.total held.book → (image : Image)
     → Now at image → StandsForBook image held.total held.book
-now_stands held at only stands image left =
+held_rests held at only stands image left =
     let P : Image → Type 0 = λ i. StandsForBook i held.total held.book in
     subst P (sym (only image left)) stands
+
+pub now_rests : (told : Type 0) (at : View) (loader : Loader) (loading : Loading) → Only at.image (Now at)
+    → StandsFor told at loader loading → (image : Image) → Now at image → RestsSo loading image
+now_rests told at loader (Booked held) only s image left = held_rests held at only s.stands image left
+now_rests told at loader (Scanned scan) only is image left = tt
+
+-- it stays known what a load holds
+pub lasts_on : (loading : Loading) (it : Given) (text : List ℕ) (behind : Loading) → LoadingDoes loading it text behind → Lasts loading
+    → Lasts behind
+lasts_on (Booked held) it text (Booked next) did lasts = tt
+lasts_on (Booked held) it text (Scanned scan) did lasts = absurd did
+lasts_on (Scanned scan) it text behind did lasts = absurd lasts
 
 pub fewer : (points first later : ℕ) → first ≤ later → points ≤ first → points ≤ later
 fewer points first later less few = omega (arith, less, few)

@@ -1,5 +1,5 @@
 -- What a line more does to the run that stands open, and to the store.
-use Rattle.std.specs.Prelude.{◌≡◌, ◌⊎◌, ℕ, ℤ, ◌-◌, ◌<◌, ◌≤◌, Bool, true, false, List, [], ◌∷◌, ◌++◌, length, map, take, slice_get, Option, None, Some, Result, Ok, Err, IfOk, OnOk, IfErr, count_by, is_some, ⊤}
+use Rattle.std.specs.Prelude.{◌≡◌, ◌≢◌, ◌⊎◌, ℕ, ℤ, ◌-◌, ◌<◌, ◌≤◌, Bool, true, false, List, [], ◌∷◌, ◌++◌, length, map, take, slice_get, Option, None, Some, Result, Ok, Err, IfOk, OnOk, IfErr, count_by, is_some, ⊤}
 use Rattle.std.specs.List.{filter}
 use Rattle.block_disk.specs.Counts.{HasRisen}
 use Rattle.block_disk.specs.View.{Image, View, Passes}
@@ -85,6 +85,32 @@ SaysSo scale first text Header = (first ≡ true) × Says scale text row.Header
 SaysSo scale first text (Point reading) = Says scale text (row.Point reading.time reading.value)
 SaysSo scale first text Gap = (time : ℤ) × Says scale text (row.Skip time)
 SaysSo scale first text Bad = ((cause : RowCause) × Fails scale text cause) ⊎ ((first ≡ false) × Says scale text row.Header)
+
+-- a line that isn't empty says what may stand there
+pub record SaysGood (scale : ℕ) (first : Bool) (text : List ℕ) : Type 0 where
+  pub some : 0 < length text
+  pub said : Said
+  pub good : said ≢ Bad
+  pub says_it : SaysSo scale first text said
+
+-- the line is empty, or it says so, and no line behind it is the first
+abbrev pub LineReads : ℕ → Bool → List ℕ → Bool → Type 0
+LineReads scale first text first' = ((text ≡ []) × (first' ≡ first)) ⊎ (SaysGood scale first text × (first' ≡ false))
+
+-- a line that an end calls bad is the one at this offset
+abbrev pub BlamesLine : ℕ → End → Type 0
+BlamesLine at (BadInput place) = place ≡ at
+BlamesLine at end = ⊤
+
+-- and it is bad, with this text
+abbrev pub BlamesText : ℕ → ℕ → Bool → List ℕ → End → Type 0
+BlamesText scale at first text (BadInput place) = (place ≡ at) × (0 < length text) × SaysSo scale first text Bad
+BlamesText scale at first text end = ⊤
+
+-- the end calls no line bad
+abbrev pub BlamesNone : End → Type 0
+BlamesNone (BadInput place) = ⊥
+BlamesNone end = ⊤
 
 -- what is kept: the sets of the runs that have ended and aren't done, and the run that stands open
 pub record KeepsRuns (name : List ℕ) (waiting : List Run) (open_run : Option Run) (kept : KeptSets) (run : OpenRun) : Type 0 where

@@ -3,7 +3,7 @@ ghost use Rattle.std.specs.Prelude.{◌≡◌, ◌<◌, ◌≤◌, length, IfOk,
 ghost use Rattle.chart_world.specs.Faults.{CountsFault, fault_in};
 ghost use Rattle.run_ends.specs.Faults.{end_fault};
 ghost use Rattle.series_load.specs.Sets.{AreEdits};
-ghost use Rattle.series_load.specs.Steps.{Counts, IsSoundFor, end_at};
+ghost use Rattle.series_load.specs.Steps.{BlamesNone, Counts, IsSoundFor, end_at};
 ghost use Rattle.series_load.specs.Shown as loads;
 ghost use Rattle.series_store.specs.Shown as shown;
 
@@ -53,6 +53,7 @@ fn commit_some<P: Pages>(store: &mut Store<P>, sets: &[Edit], ats: &[u32]) -> Re
     ensures does { loads.ForSets store.old sets.now ats.now (λ total name book runs. loads.DoesSome total name book runs result store.old store.new) }
     ensures carries { loads.CarriesOn store.old store.new }
     ensures cause { IfErr result (λ e. loads.FailsFor e store.old store.new) }
+    ensures blames { IfErr result (λ e. BlamesNone e) }
     ensures faults { CountsFault (fault_in end_fault result) (shown.view store.old) (shown.view store.new) }
     ensures sound { OnOk result (shown.IsSound store.new) }
     ensures sound_for { IfErr result (λ e. IsSoundFor e (shown.view store.new)) }
@@ -74,6 +75,7 @@ pub(crate) fn commit_sets<P: Pages>(
     ensures does { loads.ForSets store.old sets.now ats.now (λ total name book runs. loads.DoesRuns total name book runs result store.old store.new) }
     ensures carries { loads.CarriesOn store.old store.new }
     ensures cause { IfErr result (λ e. loads.FailsFor e store.old store.new) }
+    ensures blames { IfErr result (λ e. BlamesNone e) }
     ensures faults { CountsFault (fault_in end_fault result) (shown.view store.old) (shown.view store.new) }
     ensures sound { OnOk result (shown.IsSound store.new) }
     ensures sound_for { IfErr result (λ e. IsSoundFor e (shown.view store.new)) }

@@ -1,14 +1,13 @@
 //! The lines of a load, as a work.
-ghost use Rattle.std.specs.Prelude.{◌≤◌, ◌≢◌, ◌^◌, ⊤};
+ghost use Rattle.std.specs.Prelude.{◌≤◌, ◌≢◌, ◌^◌};
 ghost use Rattle.run_ends.specs.Faults.{end_fault};
-ghost use Rattle.series_load.specs.Loading.{Harms, Held, LoadDoes, LoadLeaves, LoadStops, StandsSo};
-ghost use Rattle.series_load.specs.LoadingLaws.{cause_later, fewer, now_stands, stands_taken};
+ghost use Rattle.series_load.specs.Loading.{Harms, Lasts, Loading, LoadingDoes, LoadingLeaves, LoadingStops, RestsSo, StandsFor};
+ghost use Rattle.series_load.specs.LoadingLaws.{cause_later, fewer, lasts_on, now_rests, stands_taken};
 ghost use Rattle.series_load.specs.Shown as loads;
 ghost use Rattle.run_ends.specs.declared.ending.End.TheVariants.{InputTooLong, UnknownSeries};
 ghost use Rattle.series_load.specs.SideLaws.{goes_further, goes_nowhere, goes_take, same_count, same_total};
 ghost use Rattle.series_load.specs.Sides.{Goes};
 ghost use Rattle.series_store.specs.Shown as shown;
-ghost use Rattle.stored_book.specs.Standing.{StandsForBook};
 
 use crate::loader::Loader;
 use gate_pages::PageWorld;
@@ -17,7 +16,7 @@ use run_ends::End;
 use series_store::Store;
 
 impl<P: PageWorld> LineWork<Store<P>, End> for Loader {
-    ghost State = { Held };
+    ghost State = { Loading };
 
     ghost view = { λ store. shown.view store };
 
@@ -25,17 +24,17 @@ impl<P: PageWorld> LineWork<Store<P>, End> for Loader {
 
     ghost fit = { λ loader store at. shown.IsSound store × (loader.points ≤ at) × loads.KeepsEdits loader };
 
-    ghost stands = { λ held loader store. StandsSo (shown.IsTold store) (shown.view store) loader held };
+    ghost stands = { λ loading loader store. StandsFor (shown.IsTold store) (shown.view store) loader loading };
 
-    ghost lasting = { λ held. ⊤ };
+    ghost lasting = { Lasts };
 
-    ghost rests = { λ held image. StandsForBook image held.total held.book };
+    ghost rests = { RestsSo };
 
-    ghost does = { LoadDoes };
+    ghost does = { LoadingDoes };
 
-    ghost stops = { λ held it end loader store before. LoadStops held it (shown.view store) end };
+    ghost stops = { λ loading it end loader store before. LoadingStops loading it (shown.view store) end };
 
-    ghost leaves = { LoadLeaves };
+    ghost leaves = { LoadingLeaves };
 
     ghost goes = { λ old new. Goes (loads.side_of P.Streams old) (loads.side_of P.Streams new) };
 
@@ -65,9 +64,9 @@ impl<P: PageWorld> LineWork<Store<P>, End> for Loader {
 
     ghost fit_taken = { λ loader old new at takes fit. ((P.take_keeps (shown.pages old) (shown.pages new) takes.pages_are).fit fit.0, fit.1, fit.2) };
 
-    ghost stands_taken = { λ held loader old new takes sent. stands_taken (shown.IsTold old) (shown.IsTold new) (shown.view old) (shown.view new) loader held (P.take_told (shown.pages old) (shown.pages new) takes.pages_are) (P.take_keeps (shown.pages old) (shown.pages new) takes.pages_are) (P.take_passes (shown.pages old) (shown.pages new) takes.pages_are) };
+    ghost stands_taken = { λ loading loader old new takes sent. stands_taken (shown.IsTold old) (shown.IsTold new) (shown.view old) (shown.view new) loader loading (P.take_told (shown.pages old) (shown.pages new) takes.pages_are) (P.take_keeps (shown.pages old) (shown.pages new) takes.pages_are) (P.take_passes (shown.pages old) (shown.pages new) takes.pages_are) };
 
-    ghost lasting_on = { λ held it text behind did lasting. lasting };
+    ghost lasting_on = { λ loading it text behind did lasts. lasts_on loading it text behind did lasts };
 
     ghost take_keeps = { λ old new takes. P.take_keeps (shown.pages old) (shown.pages new) takes.pages_are };
 
@@ -75,7 +74,7 @@ impl<P: PageWorld> LineWork<Store<P>, End> for Loader {
 
     ghost take_goes = { λ old new takes sent reads sends pieces. goes_take _ _ (P.take_keeps (shown.pages old) (shown.pages new) takes.pages_are) (P.take_told (shown.pages old) (shown.pages new) takes.pages_are) (P.take_was_told (shown.pages old) (shown.pages new) takes.pages_are) (P.take_goes_on (shown.pages old) (shown.pages new) takes.pages_are) (same_total takes.superblock) (same_count takes.catalog) sent reads sends pieces };
 
-    ghost now_rests = { λ held loader from at fit stands lasting. now_stands held (shown.view from) (P.rests (shown.pages from) fit.0) stands.stands };
+    ghost now_rests = { λ loading loader from at fit stands lasts. now_rests (shown.IsTold from) (shown.view from) loader loading (P.rests (shown.pages from) fit.0) stands };
 
     ghost goes_none = { λ at. goes_nowhere _ };
 

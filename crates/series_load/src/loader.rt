@@ -3,7 +3,7 @@ ghost use Rattle.std.specs.Prelude.{◌≡◌, ◌≢◌, ◌<◌, ◌≤◌, �
 ghost use Rattle.chart_world.specs.Faults.{CountsFault, fault_in};
 ghost use Rattle.run_ends.specs.Faults.{end_fault};
 ghost use Rattle.series_load.specs.Runs.{Run};
-ghost use Rattle.series_load.specs.Steps.{AddsReading, IsSoundFor, SaysSo, Took, closed};
+ghost use Rattle.series_load.specs.Steps.{AddsReading, BlamesLine, BlamesNone, BlamesText, IsSoundFor, LineReads, SaysSo, Took, closed};
 ghost use Rattle.series_load.specs.Shown as loads;
 ghost use Rattle.series_store.specs.Shown as shown;
 ghost use Rattle.run_ends.specs.declared.ending.End.TheVariants.{NoMemory};
@@ -92,6 +92,7 @@ impl Loader {
         ensures keeps { (waiting : List Run) (open_run : Option Run) → loads.KeepsSo self.old waiting open_run → OnOk result (loads.KeepsSo self.new [] open_run) }
         ensures carries { loads.CarriesOn store.old store.new }
         ensures cause { IfErr result (λ e. loads.FailsFor e store.old store.new) }
+        ensures blames { IfErr result (λ e. BlamesNone e) }
         ensures faults { CountsFault (fault_in end_fault result) (shown.view store.old) (shown.view store.new) }
         ensures sound { OnOk result (shown.IsSound store.new) }
         ensures sound_for { IfErr result (λ e. IsSoundFor e (shown.view store.new)) }
@@ -116,6 +117,7 @@ impl Loader {
         ensures keeps { (waiting : List Run) (open_run : Option Run) → loads.KeepsSo self.old waiting open_run → OnOk result (loads.KeepsSo self.new [] None) }
         ensures carries { loads.CarriesOn store.old store.new }
         ensures cause { IfErr result (λ e. loads.FailsFor e store.old store.new) }
+        ensures blames { IfErr result (λ e. BlamesNone e) }
         ensures faults { CountsFault (fault_in end_fault result) (shown.view store.old) (shown.view store.new) }
         ensures sound { OnOk result (shown.IsSound store.new) }
         ensures sound_for { IfErr result (λ e. IsSoundFor e (shown.view store.new)) }
@@ -137,6 +139,7 @@ impl Loader {
         ensures does { loads.ForRuns store.old self.old (λ total book waiting open_run. loads.StopsAt at total self.old.name book (waiting ++ closed open_run) result store.old store.new) }
         ensures carries { loads.CarriesOn store.old store.new }
         ensures cause { loads.FailsFor result store.old store.new }
+        ensures blames { BlamesLine at result }
         ensures faults { CountsFault (end_fault result) (shown.view store.old) (shown.view store.new) }
         ensures sound_for { IsSoundFor result (shown.view store.new) }
         ensures edits { loads.KeepsEdits self.new }
@@ -185,6 +188,7 @@ impl Loader {
         ensures name { self.new.name ≡ self.old.name }
         ensures step { self.new.step ≡ self.old.step }
         ensures scale { self.new.scale ≡ self.old.scale }
+        ensures first { self.new.first ≡ false }
         ensures more { self.new.points ≤ self.old.points + 1 }
     {
         match said {
@@ -216,6 +220,9 @@ impl Loader {
         requires edits { loads.KeepsEdits self.old }
         requires few { self.old.points < 2 ^ 63 }
         ensures does { loads.ForRuns store.old self.old (λ total book waiting open_run. loads.TakesLine at line.now total book waiting open_run result self.old self.new store.old store.new) }
+        // whatever the pages are
+        ensures reads { OnOk result (LineReads self.old.scale self.old.first line.now self.new.first) }
+        ensures blames { IfErr result (λ e. BlamesText self.old.scale at self.old.first line.now e) }
         ensures carries { loads.CarriesOn store.old store.new }
         ensures cause { IfErr result (λ e. loads.FailsFor e store.old store.new) }
         ensures faults { CountsFault (fault_in end_fault result) (shown.view store.old) (shown.view store.new) }

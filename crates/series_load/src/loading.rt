@@ -4,6 +4,7 @@ ghost use Rattle.chart_world.specs.Faults.{CountsFault, fault_in};
 ghost use Rattle.chart_world.specs.Reading.{IsReadUp, unread_input};
 ghost use Rattle.series_book.specs.Edits.{id_of};
 ghost use Rattle.run_ends.specs.Faults.{end_fault};
+ghost use Rattle.series_load.specs.Ends.{EndsAtBad, EndsAtBadOf};
 ghost use Rattle.series_load.specs.Sides.{Goes};
 ghost use Rattle.series_load.specs.Shown as loads;
 ghost use Rattle.series_store.specs.Asking.{LacksName};
@@ -48,6 +49,8 @@ pub fn load<P: PageWorld>(alloc: Global, store: &mut Store<P>, name: &Name) -> R
     ensures lacks { result ≡ Err UnknownSeries → LacksName (shown.catalog store.old) name.now }
     // what was read and stored, at the end and at each moment
     ensures outcome { loads.ForNamed store.old name.now (λ total book series. loads.LoadsSo P.Streams name.now total book series result store.old store.new) }
+    // whatever the pages are: a line that is told is the first bad one, by the scale that the catalog says
+    ensures line { IfErr result (λ e. IfSome (P.left (shown.pages store.old)) (λ input. EndsAtBadOf (shown.catalog store.old) name.now input e)) }
     ensures within { OnOk result (IfSome (P.left (shown.pages store.old)) (λ input. length input ≤ 2 ^ 32)) }
     ensures whole { OnOk result (IsReadUp (P.left (shown.pages store.old)) (P.left (shown.pages store.new))) }
     ensures long { result ≡ Err InputTooLong → IfSome (P.left (shown.pages store.old)) (λ input. 2 ^ 32 < length input) }
@@ -58,9 +61,10 @@ pub fn load<P: PageWorld>(alloc: Global, store: &mut Store<P>, name: &Name) -> R
     ensures sound { OnOk result (shown.IsSound store.new) }
     ensures sound_for { IfErr result (λ e. IsSoundFor e (shown.view store.new)) }
 {
-    let Some(info) = store.series(name) else {
+    let Some(found) = store.series(name) else {
         return Err(End::UnknownSeries);
     };
+    let info = store.info(found.id);
     let mut loader = Loader::new(alloc, name, info.step, info.scale)?;
     let mut lines = new_lines(alloc)?;
     load_lines(store, &mut loader, &mut lines)
@@ -81,6 +85,7 @@ fn load_lines<P: PageWorld>(
     requires points { loader.old.points ≡ 0 }
     ensures known { result ≢ Err UnknownSeries }
     ensures outcome { loads.ForLoaded store.old loader.old (λ total book series. loads.LoadsSo P.Streams loader.old.name total book series result store.old store.new) }
+    ensures line { IfErr result (λ e. IfSome (P.left (shown.pages store.old)) (λ input. EndsAtBad loader.old.scale input e)) }
     ensures within { OnOk result (IfSome (P.left (shown.pages store.old)) (λ input. length input ≤ 2 ^ 32)) }
     ensures whole { OnOk result (IsReadUp (P.left (shown.pages store.old)) (P.left (shown.pages store.new))) }
     ensures long { result ≡ Err InputTooLong → IfSome (P.left (shown.pages store.old)) (λ input. 2 ^ 32 < length input) }

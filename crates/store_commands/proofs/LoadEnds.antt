@@ -12,6 +12,7 @@ use Rattle.disk_store.specs.Openings.{Opens}
 use Rattle.disk_store.specs.declared.causes.OpeningCause.{OpeningCause}
 use Rattle.disk_store.specs.declared.causes.OpeningCause.TheVariants as opening
 use Rattle.disk_store.proofs.Opened.{is_large}
+use Rattle.stored_book.specs.Damage.{SaysNumbers}
 use Rattle.stored_book.specs.Standing.{StandsForBook, book_pages, RecoversTo}
 use Rattle.stored_book.proofs.CurrentLemmas.{book_current, book_keeps, recovers_new}
 use Rattle.chart_service.specs.MomentLaws.{since_both, since_so}
@@ -33,13 +34,14 @@ use Rattle.store_commands.specs.Sending.{IsSent, SendsText}
 use Rattle.store_commands.specs.Traffic.{Traffic, WasRead}
 use Rattle.store_commands.specs.Unopened.{IsUnopenedEnd}
 use Rattle.store_commands.proofs.Held.{held}
+use Rattle.store_commands.proofs.InputLemmas.{any_told}
 use Rattle.store_commands.proofs.LoadStored.{answered, err_same, failed}
 use Rattle.store_commands.proofs.Moments.{since_opened, since_sent, opened_since, opened_goes, opened_quiet}
 use Rattle.store_commands.proofs.SpendLemmas.{spends_behind, spends_opening, spends_sent}
 use Rattle.store_commands.proofs.Unopened.{opening_known, outside_ends, unopened_end}
 use Rattle.store_commands.proofs.WorldLemmas.{IsUnopened}
-use Rattle.store_commands.specs.Lacking.{HasNoRecord, LacksRecord}
-use Rattle.store_commands.specs.Loaded.{OfSeries, LoadEnds, IsAheadLoad, IsLoadEnd, LeavesLoads, HoldsSome, LoadsFew, LoadsSome, loaded_text}
+use Rattle.store_commands.specs.Lacking.{HasNoRecord, HasScale, LacksRecord, TellsScale}
+use Rattle.store_commands.specs.Loaded.{OfSeries, LoadEnds, IsAheadLoad, IsAtLine, IsLoadEnd, LeavesLoads, HoldsSome, LoadsFew, LoadsSome, loaded_text}
 use Rattle.store_commands.specs.Storing.{StopsAt, IsEndCause, Stores}
 
 -- ---- the store is opened first
@@ -50,6 +52,16 @@ module _ (name : List ℕ) (old mid new : View) (opens : Opens (page_count old.s
   lacks_on lacks = λ honest.
       let P : Image → Type 0 = λ image. HasNoRecord (page_count old.size) image name in
       subst P (pages honest) (lacks (opens.honest honest))
+
+  -- the scale that it tells of a name, and the line by it
+  scale_on : (scale : ℕ) → TellsScale (page_count old.size) mid name scale → TellsScale (page_count old.size) old name scale
+  scale_on scale tells = λ honest.
+      let P : Image → Type 0 = λ image. SaysNumbers (page_count old.size) image (λ s. HasScale image s name scale) in
+      subst P (pages honest) (tells (opens.honest honest))
+
+  line_on : (input : List ℕ) (end : End) → IsAtLine name (page_count old.size) mid input end → IsAtLine name (page_count old.size) old input end
+  line_on input (BadInput at) is = record { scale = is.scale; tells = scale_on is.scale is.tells; line = is.line }
+  line_on input end is = tt
 
   of_series : (IsSo : ℕ → List Series → Series → Type 0) → OfSeries (page_count old.size) mid name IsSo → OfSeries (page_count old.size) old name IsSo
   of_series IsSo all = λ total book holds series named. all total book (held old mid opens total book holds) series named
@@ -97,6 +109,7 @@ module _ (name : List ℕ) (old mid new : View) (opens : Opens (page_count old.s
     long = s.long;
     some = λ other. of_series (λ total book series. HoldsPages (page_count old.size) total (IsAfterSome total name book series t.left) new) (s.some other);
     stops = tt;
+    line = tt;
     cause = tt;
     named = of_series (λ total book series. Ok readings ≢ Err UnknownSeries) s.named;
     unnamed = λ total book holds none. s.unnamed total book (held old mid opens total book holds) none;
@@ -116,6 +129,7 @@ module _ (name : List ℕ) (old mid new : View) (opens : Opens (page_count old.s
     long = s.long;
     some = λ other. of_series (λ total book series. HoldsPages (page_count old.size) total (IsAfterSome total name book series t.left) new) (s.some other);
     stops = told_so _ _ t.left (λ input is. stops_on input t.left_now end is) s.stops;
+    line = told_so (λ input. IsAtLine name (page_count old.size) mid input end) (λ input. IsAtLine name (page_count old.size) old input end) t.left (λ input is. line_on input end is) s.line;
     cause = cause_on end t.reads t.reads_now s.cause;
     named = of_series (λ total book series. Err end ≢ Err UnknownSeries) s.named;
     unnamed = λ total book holds none. s.unnamed total book (held old mid opens total book holds) none;
@@ -206,6 +220,7 @@ unloaded name old new t cause end u same =
       crash = opened_ahead name old new t.left u.opens;
       kept = λ total book holds none. opened_since old new u.opens total book holds;
       costs = opened_costs name old new t.left u.opens;
+      line = any_told t.left (λ input. IsAtLine name (page_count old.size) old input (opening_end cause)) (λ input. unopened_line input cause);
       honest = u.opens.honest;
       goes_on = opened_goes old new u.opens;
     })
@@ -214,6 +229,12 @@ unloaded name old new t cause end u same =
     by opening.NoMemory is = (opened_some name old new t.left u.opens, u.sent_is)
     by opening.DiskFault is = (is, u.sent_is)
     by cause is = (is, u.left_is, u.sent_is)
+
+    unopened_line : (input : List ℕ) (cause : OpeningCause) → IsAtLine name (page_count old.size) old input (opening_end cause)
+    unopened_line input (opening.TooSmall size) = tt
+    unopened_line input (opening.Damaged block) = tt
+    unopened_line input opening.DiskFault = tt
+    unopened_line input opening.NoMemory = tt
 
 -- ---- not all of the input was loaded
 
@@ -239,6 +260,7 @@ pub stopped_ends : (name : List ℕ) (old new : View) (t : Traffic) (end : End) 
     → LoadEnds name old new t end
 stopped_ends name old new t end s costs = record {
   costs = costs;
+  line = s.line;
   is = stopped name old new t end s;
   unnamed = λ total book holds none. (2, omega arith, sym (err_same end UnknownSeries (s.unnamed total book holds none)));
   lacks = λ is. s.lacks (ap Err is);
@@ -325,6 +347,12 @@ module _ (name : List ℕ) (old mid new : View) (t : Traffic) (readings : ℕ) (
   text_sent left' now reads_now sends_now SendFault same is = (is.0, still_loaded (λ n. SendsPartOf (loaded_text n) t.sent now) is.1)
   text_sent left' now reads_now sends_now end same is = absurd is
 
+-- where a text was sent no line is bad
+sent_line : (name : List ℕ) (count : ℕ) (disk : View) (text : List ℕ) (before now : Option (List ℕ)) (sends sends_now : ℕ) (input : List ℕ) (end : End)
+    → IsSent end text before now sends sends_now → IsAtLine name count disk input end
+sent_line name count disk text before now sends sends_now input (BadInput at) is = absurd is
+sent_line name count disk text before now sends sends_now input end is = tt
+
 never_unknown : (readings : ℕ) → answered readings ≡ failed UnknownSeries → ⊥
 never_unknown readings same = cc
 
@@ -343,6 +371,8 @@ sent_ends name old mid new t left' now reads_now sends_now readings end same s t
       crash = sent_ahead name (page_count old.size) old mid new t.left readings x.time s.quiet s.moments (s.some (λ same. cc)) s.done;
       kept = λ total book holds none. absurd (never_unknown readings (s.unnamed total book holds none));
       costs = sent_costs name (page_count old.size) old mid new t.left x.kept costs;
+      line = any_told t.left (λ input. IsAtLine name (page_count old.size) old input end)
+          (λ input. sent_line name (page_count old.size) old (loaded_text readings) t.sent now t.sends sends_now input end x.is);
       honest = λ h. kept_told mid new x.kept (s.honest h);
       goes_on = goes_then old mid new s.goes_on (goes_by mid new (Now mid) (λ sent. (sent_now mid ≤ sent) × (sent ≤ sent_now new)) x.time);
     }

@@ -1,5 +1,5 @@
 -- How a load of the input into a series of the disk's store ends.
-use Rattle.std.specs.Prelude.{◌≡◌, ℕ, ◌*◌, ◌<◌, ◌≤◌, List, [], ◌∷◌, ◌++◌, length, Contains, Option, Some, None, IfSome, codes}
+use Rattle.std.specs.Prelude.{◌≡◌, ℕ, ◌*◌, ◌<◌, ◌≤◌, List, [], ◌∷◌, ◌++◌, length, Contains, Option, Some, None, IfSome, codes, ⊤}
 use Rattle.std.specs.Fmt.{decimal}
 use Rattle.block_disk.specs.Counts.{HasRisen}
 use Rattle.block_disk.specs.Streams.{sent_after}
@@ -17,14 +17,14 @@ use Rattle.stored_book.specs.Standing.{KeepsOldStore, book_pages, RecoversTo}
 use Rattle.chart_service.specs.Moments.{Since}
 use Rattle.series_load.specs.Runs.{Run, AreFirst}
 use Rattle.series_load.specs.Sets.{IsNamed, IsAfterSome, Loads, OfRefusal}
-use Rattle.series_load.specs.Ends.{IsLoaded, IsAtBad, IsAtRefusal, IsTaken, IsPast}
+use Rattle.series_load.specs.Ends.{IsLoaded, IsAtBad, IsAtRefusal, IsBadLine, IsTaken, IsPast}
 use Rattle.run_ends.specs.Statuses.{block_of, refused_at}
 use Rattle.run_ends.specs.declared.ending.End.{End}
 use Rattle.run_ends.specs.declared.ending.End.TheVariants.{Done, NoMemory, ReadFault, SendFault, DiskFault, DamagedPage}
 use Rattle.run_ends.specs.declared.ending.End.TheVariants.{BadInput, InputTooLong, UnknownSeries, Refused}
 use Rattle.store_commands.specs.Traffic.{IsLong, Traffic, WasRead}
 use Rattle.store_commands.specs.Damaged.{IsDamagedLater}
-use Rattle.store_commands.specs.Lacking.{LacksRecord}
+use Rattle.store_commands.specs.Lacking.{LacksRecord, TellsScale}
 use Rattle.store_commands.specs.Spending.{Spends}
 use Rattle.store_commands.specs.Unopened.{IsUnopenedEnd}
 use Rattle.store_commands.specs.Books.{OfBook, Never, LeavesSame, SendsPartOf, HoldsPages}
@@ -120,6 +120,18 @@ LeavesLoads name count input old new = OfSeries count old name (λ total book se
 abbrev pub LeavesUnnamed : List ℕ → ℕ → View → View → Type 0
 LeavesUnnamed name count old new = Unnamed count old name (λ total book. Since old new (λ image sent. RecoversTo count image total book))
 
+-- Whatever the disk holds: the first bad line of the input is the one at this offset, by the scale that the record of the name
+-- says.
+pub record IsBadByRecord (count : ℕ) (disk : View) (name : List ℕ) (input : List ℕ) (at : ℕ) : Type 0 where
+  pub scale : ℕ
+  pub tells : TellsScale count disk name scale
+  pub line : IsBadLine scale input at
+
+-- so it is of a line that an end tells
+abbrev pub IsAtLine : List ℕ → ℕ → View → List ℕ → End → Type 0
+IsAtLine name count disk input (BadInput at) = IsBadByRecord count disk name input at
+IsAtLine name count disk input end = ⊤
+
 -- why a load ended, and what was done and sent
 abbrev pub IsLoadEnd : End → List ℕ → View → View → Traffic → Type 0
 IsLoadEnd Done name old new t =
@@ -150,6 +162,7 @@ pub record LoadEnds (name : List ℕ) (old new : View) (t : Traffic) (end : End)
   pub crash : IfSome t.left (λ input. LeavesLoads name (page_count old.size) input old new)
   pub kept : LeavesUnnamed name (page_count old.size) old new
   pub costs : IfSome t.left (LoadsFew name (page_count old.size) old new)
+  pub line : IfSome t.left (λ input. IsAtLine name (page_count old.size) old input end)
   -- reads give what a crash may leave, where they did
   pub honest : Honest old → Honest new
   pub goes_on : GoesOn old new

@@ -1,11 +1,11 @@
 use Rattle.std.proofs.Common.{Err, length, subst, sym}
 use Rattle.run_ends.specs.Faults.{end_fault}
-use Rattle.series_load.specs.Steps.{IsSetCause}
+use Rattle.series_load.specs.Steps.{BlamesNone, IsSetCause}
 use Rattle.run_ends.specs.declared.ending.End.{End}
 use Rattle.chart_world.specs.Faults.{CountsFault}
 use Rattle.series_load.proofs.CostLemmas.{costs_commit}
 use Rattle.series_load.proofs.Counting.{set_counts}
-use Rattle.series_load.proofs.GroupLemmas.{counted, counted_cause, counted_faults, counted_most, counted_some, counted_sound, counts_as, edit_cause, err_as, group_failed}
+use Rattle.series_load.proofs.GroupLemmas.{counted, counted_blames, counted_cause, counted_faults, counted_most, counted_some, counted_sound, counts_as, edit_cause, err_as, group_failed, set_blames}
 use Rattle.series_load.proofs.SetLemmas.{cause_of}
 use Rattle.series_store.specs.Shown as shown
 use Rattle.series_load.proofs.committing.commit_some.Goals as goal
@@ -53,3 +53,11 @@ returns-in-Err-clause-faults g c =
     let P : End → Type 0 = λ e. CountsFault (end_fault e) (shown.view store) (shown.view new) in
     subst P (sym c.end_at.ensures) (set_counts _ c.in-Err.error (shown.IsTold store) (shown.numbers store) (shown.view store) (shown.view new) c.edit_until_refused.ensures.moves.beside c.in-Err.ensures.quiet_err
     (edit_cause c.in-Err.error (shown.IsTold store) (shown.numbers store) (shown.view store) (shown.view new) c.in-Err.ensures.cause))
+
+pub returns-in-Ok-clause-blames : goal.returns-in-Ok-clause-blames
+returns-in-Ok-clause-blames g c = counted_blames c.args.ats.now c.in-Ok.answers.items c.to_count.result (counts_as c.args.ats.now c.in-Ok.answers.items c.as_slice.result.now c.to_count.result c.as_slice.ensures.value c.to_count.ensures)
+
+pub returns-in-Err-clause-blames : goal.returns-in-Err-clause-blames
+returns-in-Err-clause-blames g c =
+    let P : End → Type 0 = λ e. BlamesNone e in
+    subst P (sym c.end_at.ensures) (set_blames _ c.in-Err.error)

@@ -2,7 +2,7 @@ use Rattle.std.proofs.Common.{◌∙◌, ℕ, List, refl, subst}
 use Rattle.series_load.specs.Ends.{Outcome}
 use Rattle.series_load.proofs.Counting.{no_memory_on}
 use Rattle.series_load.specs.SideLaws.{goes_nowhere}
-use Rattle.series_load.proofs.Knowing.{info_of, none_so, not_named, found_so, no_memory_cause, no_memory_known, no_memory_short, no_memory_sound, no_value, some_at_first, unstarted}
+use Rattle.series_load.proofs.Knowing.{at_bad_of, named_at, no_line, none_so, no_memory_line, not_named, found_so, no_memory_cause, no_memory_known, no_memory_short, no_memory_sound, no_value, some_at_first, unstarted}
 use Rattle.series_load.specs.Shown.{side_of}
 use Rattle.series_store.specs.Shown as shown
 use Rattle.series_load.proofs.loading.load.Goals as goal
@@ -24,7 +24,7 @@ pub returns-in_default-clause-sound_for : goal.returns-in_default-clause-sound_f
 returns-in_default-clause-sound_for g c = c.requires.sound
 
 pub returns-in_err-loader-clause-unknown : goal.returns-in_err-loader-clause-unknown
-returns-in_err-loader-clause-unknown g c = λ total book told stands. found_so c.args.name.now book c.in-Some.info c.from_residual.result (c.in-Some.ensures.info total book c.requires.sound told stands) (no_memory_known c.from_residual.result c.in_err-loader.field-0.0 c.from_residual.ensures.1 c.in_err-loader.ensures.err)
+returns-in_err-loader-clause-unknown g c = λ total book told stands. found_so c.args.name.now book c.in-Some.found c.from_residual.result (c.in-Some.ensures.info total book c.requires.sound told stands) (no_memory_known c.from_residual.result c.in_err-loader.field-0.0 c.from_residual.ensures.1 c.in_err-loader.ensures.err)
 
 pub returns-in_err-loader-clause-untouched : goal.returns-in_err-loader-clause-untouched
 returns-in_err-loader-clause-untouched g c = λ is. absurd (no_memory_known c.from_residual.result c.in_err-loader.field-0.0 c.from_residual.ensures.1 c.in_err-loader.ensures.err is)
@@ -58,7 +58,7 @@ pub returns-in_err-loader-clause-sound_for : goal.returns-in_err-loader-clause-s
 returns-in_err-loader-clause-sound_for g c = no_memory_sound c.from_residual.result c.in_err-loader.field-0.0 (shown.view c.args.store.now) c.from_residual.ensures.1 c.in_err-loader.ensures.err c.requires.sound
 
 pub returns-in_err-lines-clause-unknown : goal.returns-in_err-lines-clause-unknown
-returns-in_err-lines-clause-unknown g c = λ total book told stands. found_so c.args.name.now book c.in-Some.info c.from_residual-in_err-lines.result (c.in-Some.ensures.info total book c.requires.sound told stands) (no_memory_known c.from_residual-in_err-lines.result c.in_err-lines.field-0.0 c.from_residual-in_err-lines.ensures.1 c.in_err-lines.ensures.err)
+returns-in_err-lines-clause-unknown g c = λ total book told stands. found_so c.args.name.now book c.in-Some.found c.from_residual-in_err-lines.result (c.in-Some.ensures.info total book c.requires.sound told stands) (no_memory_known c.from_residual-in_err-lines.result c.in_err-lines.field-0.0 c.from_residual-in_err-lines.ensures.1 c.in_err-lines.ensures.err)
 
 pub returns-in_err-lines-clause-untouched : goal.returns-in_err-lines-clause-untouched
 returns-in_err-lines-clause-untouched g c = λ is. absurd (no_memory_known c.from_residual-in_err-lines.result c.in_err-lines.field-0.0 c.from_residual-in_err-lines.ensures.1 c.in_err-lines.ensures.err is)
@@ -113,14 +113,15 @@ pub load_lines-requires-clause-points : goal.load_lines-requires-clause-points
 load_lines-requires-clause-points g c = c.in_ok-loader.ensures.points
 
 pub returns-clause-unknown : goal.returns-clause-unknown
-returns-clause-unknown g c = λ total book told stands. found_so c.args.name.now book c.in-Some.info c.load_lines.result (c.in-Some.ensures.info total book c.requires.sound told stands) c.load_lines.ensures.known
+returns-clause-unknown g c = λ total book told stands. found_so c.args.name.now book c.in-Some.found c.load_lines.result (c.in-Some.ensures.info total book c.requires.sound told stands) c.load_lines.ensures.known
 
 pub returns-clause-untouched : goal.returns-clause-untouched
 returns-clause-untouched g c = λ is. absurd (c.load_lines.ensures.known is)
 
 pub returns-clause-outcome : goal.returns-clause-outcome
 returns-clause-outcome g c = λ total book series told stands named.
-    let info = info_of c.args.name.now book series c.in-Some.info (c.in-Some.ensures.info total book c.requires.sound told stands) named in
+    let there = named_at c.args.name.now book series c.in-Some.found (c.in-Some.ensures.info total book c.requires.sound told stands) named in
+    let info = c.info-info.ensures.info total book series c.requires.sound told stands there in
     let P : List ℕ → Type 0 = λ n. Outcome total n book series (g.P.Streams.left (shown.pages c.args.store.now)) (g.P.Streams.left (shown.pages c.load_lines.new.store)) c.load_lines.result (shown.view c.args.store.now) (shown.view c.load_lines.new.store) in
     subst P c.in_ok-loader.ensures.name (c.load_lines.ensures.outcome total book series told stands (c.in_ok-loader.ensures.step ∙ info.step) (c.in_ok-loader.ensures.scale ∙ info.scale))
 
@@ -159,3 +160,20 @@ returns-in_err-lines-clause-lacks g c = λ is. absurd (no_memory_known c.from_re
 
 pub returns-clause-lacks : goal.returns-clause-lacks
 returns-clause-lacks g c = λ is. absurd (c.load_lines.ensures.known is)
+
+pub returns-in_err-loader-clause-line : goal.returns-in_err-loader-clause-line
+returns-in_err-loader-clause-line g c = no_memory_line (shown.catalog c.args.store.now) c.args.name.now (g.P.Streams.left (shown.pages c.args.store.now)) c.from_residual.result c.in_err-loader.field-0.0 c.from_residual.ensures.1 c.in_err-loader.ensures.err
+
+pub returns-in_err-lines-clause-line : goal.returns-in_err-lines-clause-line
+returns-in_err-lines-clause-line g c = no_memory_line (shown.catalog c.args.store.now) c.args.name.now (g.P.Streams.left (shown.pages c.args.store.now)) c.from_residual-in_err-lines.result c.in_err-lines.field-0.0 c.from_residual-in_err-lines.ensures.1 c.in_err-lines.ensures.err
+
+pub returns-in_default-clause-line : goal.returns-in_default-clause-line
+returns-in_default-clause-line g c = no_line (shown.catalog c.args.store.now) c.args.name.now (g.P.Streams.left (shown.pages c.args.store.now))
+
+pub returns-clause-line : goal.returns-clause-line
+returns-clause-line g c =
+    at_bad_of (shown.catalog c.args.store.now) c.args.name.now (g.P.Streams.left (shown.pages c.args.store.now)) c.in-Some.found.id c.info-info.result c.in_ok-loader.loader.scale c.load_lines.result
+    c.in-Some.ensures.there c.in-Some.ensures.named c.info-info.ensures.stored c.in_ok-loader.ensures.scale c.load_lines.ensures.line
+
+pub info-info-requires : goal.info-info-requires
+info-info-requires g c = c.in-Some.ensures.there

@@ -1,5 +1,6 @@
 use Rattle.std.proofs.Common.{◌++◌}
 use Rattle.series_load.specs.Steps.{IsAtLine, closed}
+use Rattle.series_load.proofs.BlameLemmas.{none_line}
 use Rattle.series_load.proofs.SetLemmas.{not_stopped, stopped}
 use Rattle.series_store.specs.Shown as shown
 use Rattle.series_load.proofs.loader.Loader.stop.Goals as goal
@@ -19,3 +20,6 @@ returns-in-Ok-clause-faults g c = c.in-Ok.ensures.faults
 
 pub returns-in-Err-clause-faults : goal.returns-in-Err-clause-faults
 returns-in-Err-clause-faults g c = c.in-Err.ensures.faults
+
+pub returns-in-Err-clause-blames : goal.returns-in-Err-clause-blames
+returns-in-Err-clause-blames g c = none_line c.args.at c.in-Err.end c.in-Err.ensures.blames

@@ -1,4 +1,5 @@
-use Rattle.std.proofs.Common.{ℕ, Bool, ◌++◌, ◌∙◌, [], subst, sym}
+use Rattle.std.proofs.Common.{ℕ, Bool, ◌++◌, ◌∙◌, [], inl, inr, refl, subst, sym}
+use Rattle.series_load.proofs.BlameLemmas.{line_text, no_memory_text, none_texts, not_bad, so_on_ok}
 use Rattle.series_load.proofs.SetLemmas.{does_as, keeps_as, ok_keeps_as}
 use Rattle.series_load.specs.declared.said.Said.{Said}
 use Rattle.series_load.specs.Steps.{DoesLine, NoBad, SaysSo}
@@ -56,3 +57,52 @@ returns-clause-does g c = λ total book waiting old told stands keeps.
     let new = c.take_said.new.self in
     line_kept at.scale at.step c.args.at c.args.line.now at.first at.points total at.name book waiting old _ new.first new.points new.kept new.run (shown.view c.args.store.now) stands
     (c.in_ok-take_said.ensures.does waiting old c.args.line.now keeps (some_text_of c.is_empty.result c.args.line.now c.is_empty.ensures c.if-is_empty.false) c.in_ok-said.ensures.said)
+
+-- ---- whatever the pages are
+
+pub returns-then-is_empty-clause-reads : goal.returns-then-is_empty-clause-reads
+returns-then-is_empty-clause-reads g c = inl (empty_text c.is_empty.result c.args.line.now c.is_empty.ensures c.if-is_empty.true, refl)
+
+pub returns-in_err-said-clause-blames : goal.returns-in_err-said-clause-blames
+returns-in_err-said-clause-blames g c =
+    let at = c.args.self.now in
+    no_memory_text at.scale c.args.at at.first c.args.line.now c.from_residual.result c.in_err-said.field-0.0 c.from_residual.ensures.1 c.in_err-said.ensures.err
+
+pub returns-then-is_bad-clause-blames : goal.returns-then-is_bad-clause-blames
+returns-then-is_bad-clause-blames g c =
+    let at = c.args.self.now in
+    let P : Said → Type 0 = λ s. SaysSo at.scale at.first c.args.line.now s in
+    line_text at.scale c.args.at at.first c.args.line.now c.stop.result (some_text_of c.is_empty.result c.args.line.now c.is_empty.ensures c.if-is_empty.false)
+    (subst P (c.is_bad.ensures.0 c.if-is_bad.true) c.in_ok-said.ensures.said) c.stop.ensures.blames
+
+pub returns-in_err-take_said-clause-blames : goal.returns-in_err-take_said-clause-blames
+returns-in_err-take_said-clause-blames g c =
+    let at = c.args.self.now in
+    no_memory_text at.scale c.args.at at.first c.args.line.now c.from_residual-in_err-take_said.result c.in_err-take_said.field-0.0 c.from_residual-in_err-take_said.ensures.1 c.in_err-take_said.ensures.err
+
+pub returns-then-is_full-clause-reads : goal.returns-then-is_full-clause-reads
+returns-then-is_full-clause-reads g c = so_on_ok c.commit.result (inr (
+  record {
+    some = some_text_of c.is_empty.result c.args.line.now c.is_empty.ensures c.if-is_empty.false;
+    said = c.in_ok-said.said;
+    good = not_bad c.is_bad.result c.in_ok-said.said c.is_bad.ensures c.if-is_bad.false;
+    says_it = c.in_ok-said.ensures.said;
+  },
+  c.commit.ensures.first ∙ c.take_said.ensures.first,
+))
+
+pub returns-then-is_full-clause-blames : goal.returns-then-is_full-clause-blames
+returns-then-is_full-clause-blames g c =
+    let at = c.args.self.now in
+    none_texts at.scale c.args.at at.first c.args.line.now c.commit.result c.commit.ensures.blames
+
+pub returns-clause-reads : goal.returns-clause-reads
+returns-clause-reads g c = inr (
+  record {
+    some = some_text_of c.is_empty.result c.args.line.now c.is_empty.ensures c.if-is_empty.false;
+    said = c.in_ok-said.said;
+    good = not_bad c.is_bad.result c.in_ok-said.said c.is_bad.ensures c.if-is_bad.false;
+    says_it = c.in_ok-said.ensures.said;
+  },
+  c.take_said.ensures.first,
+)
