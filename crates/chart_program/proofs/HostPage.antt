@@ -4,7 +4,7 @@ use Rattle.block_disk.specs.View.{View}
 use Rattle.chart_world.specs.LineLaws.{told_so}
 use Rattle.gate_pages.specs.Journal.{page_count}
 use Rattle.host_command.specs.Ended.{CostsHosting, HostEnds, IsHostCause}
-use Rattle.hosted_lines.specs.Answers.{MayAnswerHost, SendsAnswers}
+use Rattle.hosted_lines.specs.Answers.{MayAnswerHost, SendsAnswers, followed_behind}
 use Rattle.hosted_lines.specs.Running.{EndsSo}
 use Rattle.hosted_lines.specs.Begun.{begun_live}
 use Rattle.run_ends.specs.Faults.{end_fault}
@@ -67,9 +67,9 @@ module _ (old new : View) (t : Traffic) where
       told_so (Answers end) (λ input. AreLines old new input → IsDoneOrCut (hosting_end end)) t.left (host_good end e.cause) e.does
 
   abbrev AreAnswered : Type 0
-  AreAnswered = IfSome t.left (λ input. SendsAnswers MayAnswerHost input t.sent t.sent_now)
+  AreAnswered = IfSome t.left (λ input. SendsAnswers MayAnswerHost followed_behind input t.sent t.sent_now)
 
-  host_passed : (end : End) → (end ≡ Done → AreAnswered) → NoneIsPassedBy MayAnswerHost at (hosting_end end)
+  host_passed : (end : End) → (end ≡ Done → AreAnswered) → NoneIsPassedBy MayAnswerHost followed_behind at (hosting_end end)
   host_passed Done answered = answered refl
   host_passed end answered = tt
 

@@ -7,6 +7,7 @@ use Rattle.live_command.specs.Ended.{IsLiveCause, LiveEnds, ReadsLiving, SyncsLi
 use Rattle.hosted_lines.specs.Answers.{SendsAnswers}
 use Rattle.hosted_lines.specs.Begun.{begun_live}
 use Rattle.live_service.specs.Kinds.{MayAnswerLive}
+use Rattle.live_service.specs.Pushing.{followed_after}
 use Rattle.live_command.specs.Running.{EndsSo}
 use Rattle.run_ends.specs.Statuses.{status_of}
 use Rattle.run_ends.specs.declared.ending.End.{End}
@@ -54,9 +55,9 @@ module _ (old new : View) (t : Traffic) where
   good_live end e = told_so (Answers end) (λ input. AreLines old new input → IsDoneOrCut end) t.left (live_good end e.cause) e.does
 
   abbrev AreAnswered : Type 0
-  AreAnswered = IfSome t.left (λ input. SendsAnswers MayAnswerLive input t.sent t.sent_now)
+  AreAnswered = IfSome t.left (λ input. SendsAnswers MayAnswerLive followed_after input t.sent t.sent_now)
 
-  live_passed : (end : End) → (end ≡ Done → AreAnswered) → NoneIsPassedBy MayAnswerLive at end
+  live_passed : (end : End) → (end ≡ Done → AreAnswered) → NoneIsPassedBy MayAnswerLive followed_after at end
   live_passed Done answered = answered refl
   live_passed end answered = tt
 

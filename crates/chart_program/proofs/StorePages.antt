@@ -127,6 +127,7 @@ module _ (c : Course) (sends sends_now : ℕ) where
       untaken = took;
       crash = e.crash;
       costs = e.costs;
+      reads = e.reads;
       good = λ r. demo_good r end e.is;
     }
 

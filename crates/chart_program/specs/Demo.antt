@@ -2,12 +2,13 @@
 use Rattle.std.specs.Prelude.{ℕ}
 use Rattle.chart_client.specs.declared.errors.ClientError.TheVariants as client
 use Rattle.demo_workload.specs.Ending.{MeetsKey}
+use Rattle.demo_workload.specs.Reading.{ReadsDemo}
 use Rattle.demo_workload.specs.Workload.{workload}
 use Rattle.run_ends.specs.declared.ending.End.{End}
 use Rattle.run_ends.specs.declared.ending.End.TheVariants.{Done, NoMemory, SendFault, DiskFault, DamagedBlock, DamagedPage, Missing}
 use Rattle.run_ends.specs.declared.ending.End.TheVariants.{BadCoefficient, TooSmall}
 use Rattle.stored_book.specs.Damage.{IsBadForRequest}
-use Rattle.store_commands.specs.Books.{FromBook}
+use Rattle.store_commands.specs.Books.{FromBook, OfBook}
 use Rattle.demo_workload.specs.Demonstrated.{AnswersFirst, CostsDemo, LeavesDemo, SendsSummary, SendsSummaryPart}
 use Rattle.chart_program.specs.Course.{Course, FoundDamaged, FoundPage, HasFewBlocks, HeldNoBook, IsDoneOrCut, OverStore, SentNothing}
 use Rattle.chart_program.specs.Course.{StandsOn, TookNothing, count}
@@ -27,11 +28,13 @@ DemoDoes seed rounds c (BadCoefficient number) = HeldNoBook c × MeetsKey client
 DemoDoes seed rounds c (TooSmall blocks) = HasFewBlocks c blocks
 DemoDoes seed rounds c end = ⊥
 
--- The same, and what is so however it ended. Behind an opening each request is one commit at most.
+-- The same, and what is so however it ended. Behind an opening each request is one commit at most, and where the disk holds a
+-- book each reads no more blocks than it may.
 pub record OfDemo (seed rounds : ℕ) (c : Course) (end : End) : Type 0 where
   pub does : DemoDoes seed rounds c end
   pub store : OverStore c end
   pub untaken : TookNothing c
   pub crash : LeavesDemo (workload seed rounds) (count c) c.old c.new
   pub costs : CostsDemo rounds c.old c.new
+  pub reads : OfBook (count c) c.old (λ total book. ReadsDemo rounds c.old c.new)
   pub good : StandsOn c.old c.new → IsDoneOrCut end

@@ -3,7 +3,7 @@
 use Rattle.std.specs.Prelude.{◌≡◌, ℕ, List, Option}
 use Rattle.block_disk.specs.View.{View}
 use Rattle.host_command.specs.Ended.{CostsHosting, LeavesHosted}
-use Rattle.hosted_lines.specs.Answers.{MayAnswerHost}
+use Rattle.hosted_lines.specs.Answers.{MayAnswerHost, followed_behind}
 use Rattle.hosted_lines.specs.HostCauses.{IsBadForHost}
 use Rattle.hosted_lines.specs.Input.{most_bytes}
 use Rattle.hosted_lines.specs.Running.{SendsAll, SendsLines, SendsPart, SendsSome, SendsTaken, SendsWithin}
@@ -73,5 +73,5 @@ pub record OfHost (c : Course) (end : End) : Type 0 where
   pub crash : AtEachMoment c LeavesHosted
   pub costs : OfInput c (CostsHosting c.old c.new)
   pub good : OfInput c (λ input. AreLines c.old c.new input → IsDoneOrCut end)
-  -- whatever the disk holds, no line was passed over where it was done
-  pub passed : NoneIsPassedBy MayAnswerHost c end
+  -- whatever the disk holds, where it was done no line was passed over, and each push showed a view of a followed session
+  pub passed : NoneIsPassedBy MayAnswerHost followed_behind c end

@@ -11,6 +11,7 @@ use Rattle.drawn_replies.specs.Pictures.{AcceptsAll}
 use Rattle.hosted_lines.specs.Answers.{SendsAnswers}
 use Rattle.line_raster.specs.Canvas.{Canvas}
 use Rattle.live_service.specs.Kinds.{MayAnswerBy}
+use Rattle.live_service.specs.Pushing.{FollowedBy}
 use Rattle.run_ends.specs.declared.ending.End.{End}
 use Rattle.run_ends.specs.declared.ending.End.TheVariants.{Done}
 use Rattle.served_fronts.specs.Texts.{texts_of}
@@ -57,11 +58,11 @@ abbrev pub NoneIsPassed : IsSentOf → Course → End → Type 0
 NoneIsPassed IsSent c Done = OfInput c (λ input. AnswersEach IsSent input c.sent c.sent_now)
 NoneIsPassed IsSent c end = ⊤
 
--- The same of frames that are sent with pushes, by which frames may answer a line: one answers each line, and all others are
--- pushes.
-abbrev pub NoneIsPassedBy : MayAnswerBy → Course → End → Type 0
-NoneIsPassedBy May c Done = OfInput c (λ input. SendsAnswers May input c.sent c.sent_now)
-NoneIsPassedBy May c end = ⊤
+-- The same of frames that are sent with pushes, by which frames may answer a line, and which sessions are followed behind it:
+-- one answers each line, and all others are pushes of views to sessions that are followed then.
+abbrev pub NoneIsPassedBy : MayAnswerBy → FollowedBy → Course → End → Type 0
+NoneIsPassedBy May after c Done = OfInput c (λ input. SendsAnswers May after input c.sent c.sent_now)
+NoneIsPassedBy May after c end = ⊤
 
 -- As many frames as there are lines were given to `show` one behind the other, and the texts of what they showed were
 -- sent: each frame may answer its line, and names sessions that are open by those before it.

@@ -2,6 +2,7 @@
 use Rattle.live_command.specs.Ended.{LeavesLived, LivesAll, LivesLines, LivesPart, LivesSome, LivesTaken, LivesWithin, ReadsLiving}
 use Rattle.live_command.specs.Ended.{SyncsLiving}
 use Rattle.live_service.specs.Kinds.{MayAnswerLive}
+use Rattle.live_service.specs.Pushing.{followed_after}
 use Rattle.run_ends.specs.declared.ending.End.{End}
 use Rattle.run_ends.specs.declared.ending.End.TheVariants.{Done, NoMemory, ReadFault, SendFault, DiskFault, DamagedBlock, DamagedPage}
 use Rattle.run_ends.specs.declared.ending.End.TheVariants.{InputTooLong, TooSmall}
@@ -33,5 +34,5 @@ pub record OfLive (c : Course) (end : End) : Type 0 where
   pub reads : OfInput c (ReadsLiving c.old c.new)
   pub syncs : OfInput c (SyncsLiving c.old c.new)
   pub good : OfInput c (λ input. AreLines c.old c.new input → IsDoneOrCut end)
-  -- whatever the disk holds, no line was passed over where it was done
-  pub passed : NoneIsPassedBy MayAnswerLive c end
+  -- whatever the disk holds, where it was done no line was passed over, and each push showed a view of a followed session
+  pub passed : NoneIsPassedBy MayAnswerLive followed_after c end

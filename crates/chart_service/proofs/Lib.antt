@@ -35,6 +35,7 @@ pub mod Lasts
 pub mod Showing
 pub mod Openings
 pub mod Others
+pub mod RoomLemmas
 pub mod PagesKept
 pub mod Standing
 pub mod OneReply

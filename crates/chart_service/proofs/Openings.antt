@@ -63,7 +63,7 @@ closed_at number n s ss distinct later false is true same =
 closed_at number n s ss distinct later false is false same =
     ap (λ b. s.number == n || b) (later ∙ ap (λ b. not b && is_open n ss) same)
 
-closed_less : (number n : ℕ) (ss : List Session) → AllPairs (λ a b. a.number ≢ b.number) ss → is_open n (without number ss) ≡ (not (number == n) && is_open n ss)
+pub closed_less : (number n : ℕ) (ss : List Session) → AllPairs (λ a b. a.number ≢ b.number) ss → is_open n (without number ss) ≡ (not (number == n) && is_open n ss)
 closed_less number n [] distinct = elim (number == n) as (λ b. false ≡ (not b && false)) [ true ↦ refl | false ↦ refl ]
 closed_less number n (s ∷ ss) distinct =
     closed_at number n s ss distinct (closed_less number n ss (others s ss distinct)) (s.number == number) refl (number == n) refl

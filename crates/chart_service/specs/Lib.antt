@@ -4,6 +4,7 @@ pub mod ViewingLaws
 pub mod Replies
 pub mod Opening
 pub mod Kinds
+pub mod Rooms
 pub mod Planning
 pub mod Alone
 pub mod Stepping

@@ -9,6 +9,7 @@ ghost use Rattle.chart_service.specs.Opening.{StaysIn};
 ghost use Rattle.chart_service.specs.Planning.{PlansOrStops, ShowsOrStops, FitInFrame};
 ghost use Rattle.chart_service.specs.Stepping.{ReadsFor, ReadsRows};
 ghost use Rattle.chart_service.specs.Called.{HasCoefs, HasRows, IsCauseOfView, LooksIn, LooksOnly, ReadsForSpec, ReadsRowsFor, RepliesOver};
+ghost use Rattle.chart_service.specs.Rooms.{FitsIn, HasRoom, IsShortFor, TellsIn};
 ghost use Rattle.chart_service.specs.Shown as shown;
 
 use crate::failure::ServiceError;
@@ -50,6 +51,8 @@ impl<P: Pages> Service<P> {
         ensures quiet { OnOk result ((shown.view self.new).faults ≡ (shown.view self.old).faults) }
         ensures quiet_err { IfErr result (λ e. e ≢ ServiceError.DiskFault → (shown.view self.new).faults ≡ (shown.view self.old).faults) }
         ensures stays { StaysIn number result self.old.sessions self.new.sessions }
+        ensures tells { FitsIn number spec self.old.sessions → IfOk result (TellsIn number) }
+        ensures rooms { FitsIn number spec self.old.sessions → HasRoom self.old.sessions number → OnOk result (HasRoom self.new.sessions number) }
     {
         let shown = match self.rows(&spec) {
             Ok(shown) => shown,
@@ -98,6 +101,8 @@ impl<P: Pages> Service<P> {
         ensures quiet { OnOk result ((shown.view self.new).faults ≡ (shown.view self.old).faults) }
         ensures quiet_err { IfErr result (λ e. e ≢ ServiceError.DiskFault → (shown.view self.new).faults ≡ (shown.view self.old).faults) }
         ensures stays { StaysIn number result self.old.sessions self.new.sessions }
+        ensures tells { FitsIn number spec self.old.sessions → IfOk result (TellsIn number) }
+        ensures rooms { FitsIn number spec self.old.sessions → HasRoom self.old.sessions number → OnOk result (HasRoom self.new.sessions number) }
     {
         let planned = match self.plan(number, &spec) {
             Ok(planned) => planned,
@@ -133,6 +138,7 @@ impl<P: Pages> Service<P> {
         ensures reads { shown.ForBook self.old (λ total book. ReadsFor spec.now.grid.w (slice_get book spec.now.series) (shown.view self.old).reads (shown.view self.new).reads) }
         ensures sessions { self.new.sessions ≡ self.old.sessions }
         ensures few { spec.now.series < 512 }
+        ensures large { IfErr result (IsShortFor (session_of number self.old.sessions) spec.now.grid.w) }
     {
         let axis = selected(&mut self.store, spec.series);
         plan(&self.sessions, number, spec, axis, &mut self.store)

@@ -12,6 +12,7 @@ ghost use Rattle.chart_service.specs.Opening.{OpensBy};
 ghost use Rattle.chart_service.specs.Replies.{Closes, Replies, cache_of};
 ghost use Rattle.chart_service.specs.Stepping.{ReadsFew};
 ghost use Rattle.chart_service.specs.Called.{IsCause, LooksIn, OpensIn, RepliesOver};
+ghost use Rattle.chart_service.specs.Rooms.{LeavesOpen, OthersStay};
 ghost use Rattle.chart_service.specs.Shown as shown;
 
 use crate::failure::ServiceError;
@@ -33,6 +34,7 @@ impl<P: Pages> Service<P> {
         ensures cause { IfErr result (IsCause request.now self.old self.new) }
         ensures looked { LooksIn (session_in request.now) result self.old self.new }
         ensures may { IfOk result (λ frame. MayAnswer request.now frame) }
+        ensures leaves { OnOk result (LeavesOpen request.now self.old.sessions self.new.sessions) }
         ensures quiet { OnOk result ((shown.view self.new).faults ≡ (shown.view self.old).faults) }
         ensures quiet_err { IfErr result (λ e. e ≢ ServiceError.DiskFault → (shown.view self.new).faults ≡ (shown.view self.old).faults) }
     {
@@ -64,6 +66,7 @@ impl<P: Pages> Service<P> {
     }
 
     /// Opens a session.
+    #[tactic(auto, using(crate::proofs::RoomLemmas::others_opened, crate::proofs::RoomLemmas::others_same))]
     fn open(&mut self, number: u32, cache: u64) -> Result<Frame, ServiceError>
         requires { 1 ≤ number }
         ensures reply { (total : ℕ) (book : List Series) → IfOk result (OpensIn number cache (shown.state self.old total book) (shown.state self.new total book)) }
@@ -72,6 +75,7 @@ impl<P: Pages> Service<P> {
         ensures kept { OnErr result (self.new.sessions ≡ self.old.sessions) }
         ensures stays { KeepsSessions result self.old.sessions self.new.sessions }
         ensures may { IfOk result (λ frame. MayOpen number frame) }
+        ensures leaves { OnOk result (OthersStay number self.old.sessions self.new.sessions) }
         ensures error { IfErr result (λ error. error ≡ ServiceError.NoMemory) }
         ensures store { self.new.store ≡ self.old.store }
     {
@@ -86,7 +90,7 @@ impl<P: Pages> Service<P> {
     }
 
     /// Closes a session.
-    #[tactic(auto, using(crate::proofs::Keeping::views_closed, crate::proofs::Openings::opens_closed))]
+    #[tactic(auto, using(crate::proofs::Keeping::views_closed, crate::proofs::Openings::opens_closed, crate::proofs::RoomLemmas::others_closed, crate::proofs::RoomLemmas::others_same))]
     fn close(&mut self, number: u32) -> Frame
         requires { 1 ≤ number }
         ensures reply { (total : ℕ) (book : List Series) → Closes (is_open number self.old.sessions) number result (shown.state self.old total book) (shown.state self.new total book) }
@@ -94,6 +98,7 @@ impl<P: Pages> Service<P> {
         ensures opens { OpensBy result self.old.sessions self.new.sessions }
         ensures stays { IsRefusal result → self.new.sessions ≡ self.old.sessions }
         ensures may { MayClose number result }
+        ensures leaves { OthersStay number self.old.sessions self.new.sessions }
         ensures store { self.new.store ≡ self.old.store }
     {
         // It brings in what holds of the open sessions.

@@ -2,9 +2,9 @@ ghost use Rattle.std.specs.Prelude.{◌≡◌, ◌≢◌, ◌+◌, ◌*◌, ◌�
 ghost use Rattle.om3_coeff.specs.Keys.{height};
 ghost use Rattle.om3_coeff.specs.Spans.{IsProperIfAny};
 ghost use Rattle.om3_coeff.specs.View.{Agrees, HasCause};
-ghost use Rattle.needed_nodes.specs.Answers.{IsSpanOfValues};
+ghost use Rattle.needed_nodes.specs.Answers.{IsSpanOfValues, most_needed};
 ghost use Rattle.zoom_session.specs.Planned.{IsInBounds};
-ghost use Rattle.zoom_session.specs.Plans.{AreNeeded, PlansIn, HasEntries};
+ghost use Rattle.zoom_session.specs.Plans.{AreNeeded, NeedsAtMost, PlansIn, HasEntries};
 ghost use Rattle.zoom_session.specs.Sessions.{is_open, session_of};
 ghost use Rattle.zoom_session.specs.Views.{IsRangeSpec};
 ghost use Rattle.plain_chart.specs.Samples.{kept, values_of, IsRange as AreKeptIn};
@@ -67,6 +67,7 @@ pub(crate) fn plan<N: Nodes>(
     ensures refused { IfErr result (RefusesView (session_of number sessions.now) (N.view nodes.old) (N.view nodes.new)) }
     ensures counted { (list : List (Option ℤ)) → Agrees (N.view nodes.old) list →
         IfErr result (CountsOver list axis spec.now) }
+    ensures large { IfErr result (NeedsAtMost (most_needed spec.now.grid.w axis.slots)) }
 
     // the nodes
     ensures fit { (N.view nodes.new).fit }

@@ -16,6 +16,7 @@ ghost use Rattle.zoom_session.specs.Sessions.{session_of, last_of};
 ghost use Rattle.chart_service.specs.Replies.{Replied, line_text, own_zoom};
 ghost use Rattle.chart_service.specs.Stepping.{RepliedTo, NamesBad, IsOutside, Steps, ReadsFew};
 ghost use Rattle.chart_service.specs.Called.{AnswersSo, CommitsOnly, ForLast, IsCause, IsCauseOfLine, ReadsFewAgain, ReadsFewFor};
+ghost use Rattle.chart_service.specs.Rooms.{HasRoom, KeepRooms, LeavesLine, LeavesOpen, TellsIn};
 ghost use Rattle.chart_service.specs.Shown as shown;
 ghost use Rattle.chart_service.specs.Syncing.{edit_asked, edit_of};
 
@@ -52,6 +53,8 @@ impl<P: Pages> Service<P> {
         ensures kept { KeepsSessions result self.old.sessions self.new.sessions }
         // a reply is of the kind, and in the session, that its request asks for
         ensures may { IfOk result (λ frame. MayAnswer request.now frame) }
+        // a client with room for its session's last view keeps it, unless the session is opened, closed or viewed anew
+        ensures leaves { OnOk result (LeavesOpen request.now self.old.sessions self.new.sessions) }
         ensures unchanged { CommitsOnly result self.old self.new }
         // a request that is no edit commits nothing
         ensures idle { edit_asked request.now ≡ [] → IsUnchanged (shown.IsTold self.old) (shown.view self.old) (shown.view self.new) }
@@ -90,6 +93,7 @@ impl<P: Pages> Service<P> {
         ensures sessions { OnErr result (LosesAtMost (session_named (line_text line.now)) self.old.sessions self.new.sessions) }
         ensures kept { KeepsSessions result self.old.sessions self.new.sessions }
         ensures may { IfOk result (λ frame. MayAnswerLine (line_text line.now) frame) }
+        ensures leaves { OnOk result (LeavesLine (line_text line.now) self.old.sessions self.new.sessions) }
         ensures unchanged { CommitsOnly result self.old self.new }
         ensures idle { edit_of (line_text line.now) ≡ [] → IsUnchanged (shown.IsTold self.old) (shown.view self.old) (shown.view self.new) }
         ensures cause { IfErr result (IsCauseOfLine (line_text line.now) self.old self.new) }
@@ -127,6 +131,9 @@ impl<P: Pages> Service<P> {
         ensures sessions { OnErr result (LosesAtMost (Some session) self.old.sessions self.new.sessions) }
         ensures kept { KeepsSessions result self.old.sessions self.new.sessions }
         ensures may { IfOk result (λ frame. MayShow session frame) }
+        // a view for which there is room is told, and not refused
+        ensures tells { HasRoom self.old.sessions session → IfOk result (TellsIn session) }
+        ensures rooms { OnOk result (KeepRooms self.old.sessions self.new.sessions) }
         ensures stays { StaysIn session result self.old.sessions self.new.sessions }
         // a crash leaves what it might have left before
         ensures moments { shown.PassesTo (Now (shown.view self.old)) self.old self.new }

@@ -13,6 +13,8 @@ ghost use Rattle.chart_service.specs.Planning.{IsSpecFor, IsLastOf, IsMoved, IsG
 ghost use Rattle.chart_service.specs.Replies.{Moves};
 ghost use Rattle.chart_service.specs.Called.{IsCauseOfView, LooksIn, MovesTo, ReadsByName, ReadsFiltered, ReadsLastOf, ReadsNamed, RepliesOver, Shows, ShowsBy, ShowsByText};
 ghost use Rattle.chart_service.specs.Stepping.{IsLastShown, ReadsBy};
+ghost use Rattle.chart_grid.specs.Limits.{IsWindow};
+ghost use Rattle.chart_service.specs.Rooms.{FitsIn, HasRoom, KeepRooms, TellsIn};
 ghost use Rattle.chart_service.specs.Shown as shown;
 
 use crate::failure::ServiceError;
@@ -49,6 +51,7 @@ impl<P: Pages> Service<P> {
         ensures may { IfOk result (λ frame. MayShow number frame) }
         ensures quiet { OnOk result ((shown.view self.new).faults ≡ (shown.view self.old).faults) }
         ensures quiet_err { IfErr result (λ e. e ≢ ServiceError.DiskFault → (shown.view self.new).faults ≡ (shown.view self.old).faults) }
+        ensures stays { StaysIn number result self.old.sessions self.new.sessions }
     {
         match filter_of(self.alloc, text) {
             Ok(filter) => self.view(number, name, viewport, word, filter),
@@ -74,6 +77,7 @@ impl<P: Pages> Service<P> {
         ensures may { IfOk result (λ frame. MayShow number frame) }
         ensures quiet { OnOk result ((shown.view self.new).faults ≡ (shown.view self.old).faults) }
         ensures quiet_err { IfErr result (λ e. e ≢ ServiceError.DiskFault → (shown.view self.new).faults ≡ (shown.view self.old).faults) }
+        ensures stays { StaysIn number result self.old.sessions self.new.sessions }
     {
         if !self.sessions.is_open(number) {
             return Ok(refused(Refusal::UnknownSession));
@@ -100,6 +104,8 @@ impl<P: Pages> Service<P> {
         ensures quiet { OnOk result ((shown.view self.new).faults ≡ (shown.view self.old).faults) }
         ensures quiet_err { IfErr result (λ e. e ≢ ServiceError.DiskFault → (shown.view self.new).faults ≡ (shown.view self.old).faults) }
         ensures stays { StaysIn number result self.old.sessions self.new.sessions }
+        ensures tells { IsWindow t0 t1 → HasRoom self.old.sessions number → IfOk result (TellsIn number) }
+        ensures rooms { OnOk result (KeepRooms self.old.sessions self.new.sessions) }
     {
         let last = match self.last_answered(number) {
             Ok(last) => last.copy()?,
@@ -119,6 +125,8 @@ impl<P: Pages> Service<P> {
         ensures may { IfOk result (λ frame. MayShow number frame) }
         ensures quiet { OnOk result ((shown.view self.new).faults ≡ (shown.view self.old).faults) }
         ensures quiet_err { IfErr result (λ e. e ≢ ServiceError.DiskFault → (shown.view self.new).faults ≡ (shown.view self.old).faults) }
+        ensures stays { StaysIn number result self.old.sessions self.new.sessions }
+        ensures rooms { OnOk result (KeepRooms self.old.sessions self.new.sessions) }
     {
         let last = match self.last_answered(number) {
             Ok(last) => last.copy()?,
@@ -147,6 +155,8 @@ impl<P: Pages> Service<P> {
         ensures quiet { OnOk result ((shown.view self.new).faults ≡ (shown.view self.old).faults) }
         ensures quiet_err { IfErr result (λ e. e ≢ ServiceError.DiskFault → (shown.view self.new).faults ≡ (shown.view self.old).faults) }
         ensures stays { StaysIn number result self.old.sessions self.new.sessions }
+        ensures tells { (t0 t1 : ℤ) → IsMoved last.grid t0 t1 grid → IsWindow t0 t1 → FitsIn number last self.old.sessions → IfOk result (TellsIn number) }
+        ensures rooms { (t0 t1 : ℤ) → IsMoved last.grid t0 t1 grid → FitsIn number last self.old.sessions → HasRoom self.old.sessions number → OnOk result (HasRoom self.new.sessions number) }
     {
         // It brings in how many series there are.
         let _count = self.store.len();
@@ -193,6 +203,8 @@ impl<P: Pages> Service<P> {
         ensures quiet { OnOk result ((shown.view self.new).faults ≡ (shown.view self.old).faults) }
         ensures quiet_err { IfErr result (λ e. e ≢ ServiceError.DiskFault → (shown.view self.new).faults ≡ (shown.view self.old).faults) }
         ensures stays { StaysIn number result self.old.sessions self.new.sessions }
+        ensures tells { FitsIn number spec self.old.sessions → IfOk result (TellsIn number) }
+        ensures rooms { FitsIn number spec self.old.sessions → HasRoom self.old.sessions number → OnOk result (HasRoom self.new.sessions number) }
     {
         if spec.filter.is_none() {
             self.answer_coefs(number, spec)

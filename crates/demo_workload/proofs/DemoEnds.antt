@@ -12,7 +12,7 @@ use Rattle.demo_workload.specs.Replying.{Summarizes}
 use Rattle.demo_workload.specs.Workload.{workload}
 use Rattle.run_ends.specs.declared.ending.End.{End}
 use Rattle.run_ends.specs.declared.ending.End.TheVariants.{NoMemory, DiskFault, DamagedPage, Missing, BadCoefficient}
-use Rattle.store_commands.specs.Books.{HoldsAgain, begun}
+use Rattle.store_commands.specs.Books.{HoldsAgain, OfBook, begun}
 use Rattle.store_commands.specs.Status.{opening_end}
 use Rattle.store_commands.specs.Unopened.{IsUnopenedEnd}
 use Rattle.store_commands.proofs.Held.{held}
@@ -22,6 +22,8 @@ use Rattle.store_commands.proofs.Unopened.{unopened_end}
 use Rattle.store_commands.proofs.WorldLemmas.{IsUnopened}
 use Rattle.demo_workload.specs.Demonstrated.{AnswersFirst, CostsDemo, DemoEnds, IsAheadDemo, IsDemoEnd, LeavesDemo}
 use Rattle.demo_workload.specs.Answered.{Answered}
+use Rattle.demo_workload.specs.Reading.{ReadsDemo}
+use Rattle.demo_workload.proofs.DemoReads.{reads_opening}
 use Rattle.demo_workload.proofs.DemoRequests.{first_none, ahead_none}
 use Rattle.demo_workload.proofs.Rounds.{few_by_rounds}
 
@@ -50,6 +52,7 @@ undemonstrated seed rounds old new left left' before now sends sends_now cause e
       is = by cause (unopened_end old new left left' before now cause u);
       crash = opened_leaves (workload seed rounds) old new u.opens;
       costs = costs_opening rounds old new u.opens;
+      reads = reads_opening rounds old new u.opens;
       honest = u.opens.honest;
       goes_on = opened_goes old new u.opens;
     })
@@ -78,8 +81,8 @@ stopped seed rounds old new before now sends sends_now (BadCoefficient number) a
 stopped seed rounds old new before now sends sends_now end a same = absurd a.cause
 
 pub stopped_ends : (seed rounds : ℕ) (old new : View) (before now : Option (List ℕ)) (sends sends_now : ℕ) (end : End) → Answered (workload seed rounds) (page_count old.size) old new (Err end) → now ≡ before
-    → CostsDemo rounds old new → DemoEnds seed rounds old new before now sends sends_now end
-stopped_ends seed rounds old new before now sends sends_now end a same costs = record { costs = costs; is = stopped seed rounds old new before now sends sends_now end a same; crash = a.crash; honest = a.honest; goes_on = a.goes_on }
+    → CostsDemo rounds old new → OfBook (page_count old.size) old (λ total book. ReadsDemo rounds old new) → DemoEnds seed rounds old new before now sends sends_now end
+stopped_ends seed rounds old new before now sends sends_now end a same costs reads = record { costs = costs; reads = reads; is = stopped seed rounds old new before now sends sends_now end a same; crash = a.crash; honest = a.honest; goes_on = a.goes_on }
 
 -- ---- a disk that held a book holds one again
 

@@ -7,11 +7,12 @@ use Rattle.gate_pages.specs.Journal.{page_count}
 use Rattle.request_lines.specs.declared.requests.Request.{Request}
 use Rattle.chart_service.specs.State.{State}
 use Rattle.demo_workload.specs.declared.summaries.Summary.{Summary}
+use Rattle.demo_workload.specs.Reading.{ReadsDemo}
 use Rattle.demo_workload.specs.Replying.{Summarizes}
 use Rattle.demo_workload.specs.Summaries.{summary_line}
 use Rattle.demo_workload.specs.Workload.{workload}
 use Rattle.demo_workload.proofs.Replies.{pictures_answers}
-use Rattle.store_commands.specs.Books.{begun, FromBook}
+use Rattle.store_commands.specs.Books.{begun, FromBook, OfBook}
 use Rattle.store_commands.proofs.Moments.{since_sent}
 use Rattle.demo_workload.specs.Demonstrated.{AnswersFirst, CostsDemo, DemoEnds, IsAheadDemo, IsDemoEnd, LeavesDemo, SendsSummary, SendsSummaryPart}
 use Rattle.demo_workload.specs.Answered.{Answered}
@@ -65,8 +66,9 @@ module _ (seed rounds : ℕ) (old mid new : View) (summary : Summary) (a : Answe
   summary_sent before now sends sends_now end is = absurd is
 
 pub sent_ends : (seed rounds : ℕ) (old mid new : View) (before between now : Option (List ℕ)) (sends sends_mid sends_now : ℕ) (end : End) (summary : Summary) → Answered (workload seed rounds) (page_count old.size) old mid (Ok summary)
-    → between ≡ before → sends_mid ≡ sends → SendsText (summary_line summary) mid new between now sends_mid sends_now end → CostsDemo rounds old mid → DemoEnds seed rounds old new before now sends sends_now end
-sent_ends seed rounds old mid new before between now sends sends_mid sends_now end summary a same same_sends s costs =
+    → between ≡ before → sends_mid ≡ sends → SendsText (summary_line summary) mid new between now sends_mid sends_now end → CostsDemo rounds old mid
+    → OfBook (page_count old.size) old (λ total book. ReadsDemo rounds old mid) → DemoEnds seed rounds old new before now sends sends_now end
+sent_ends seed rounds old mid new before between now sends sends_mid sends_now end summary a same same_sends s costs reads =
     let B : Option (List ℕ) → Type 0 = λ b. SendsText (summary_line summary) mid new b now sends_mid sends_now end in
     let S : ℕ → Type 0 = λ n. SendsText (summary_line summary) mid new before now n sends_now end in
     let t = subst S same_sends (subst B same s) in
@@ -74,6 +76,7 @@ sent_ends seed rounds old mid new before between now sends sends_mid sends_now e
       is = summary_sent seed rounds old mid new summary a t.kept t.time before now sends sends_now end t.is;
       crash = all_leave (workload seed rounds) (page_count old.size) old mid new summary a t.kept t.time;
       costs = record { syncs = omega (arith, t.kept.syncs, costs.syncs); writes = omega (arith, t.kept.writes, costs.writes) };
+      reads = λ total book holds. omega (arith, t.kept.reads, reads total book holds);
       honest = λ h. kept_told mid new t.kept (a.honest h);
       goes_on = goes_then old mid new a.goes_on (goes_by mid new (Now mid) (λ sent. (sent_now mid ≤ sent) × (sent ≤ sent_now new)) t.time);
     }

@@ -1,5 +1,6 @@
 pub mod Walking
 pub mod Rounds
+pub mod FewReads
 pub mod Summing
 pub mod Replies
 pub mod Knowing
@@ -7,5 +8,6 @@ pub mod Moved
 pub mod Stepped
 pub mod Faulting
 pub mod DemoRequests
+pub mod DemoReads
 pub mod DemoSent
 pub mod DemoEnds

@@ -15,6 +15,7 @@ use Rattle.chart_service.specs.Moments.{Since}
 use Rattle.chart_service.specs.State.{State}
 use Rattle.demo_workload.specs.declared.summaries.Summary.{Summary}
 use Rattle.demo_workload.specs.Ending.{MeetsKey}
+use Rattle.demo_workload.specs.Reading.{ReadsDemo}
 use Rattle.demo_workload.specs.Replying.{AnswersEach, Summarizes, IsPartWay}
 use Rattle.demo_workload.specs.Summaries.{summary_line}
 use Rattle.demo_workload.specs.Workload.{workload}
@@ -84,6 +85,7 @@ pub record DemoEnds (seed rounds : ℕ) (old new : View) (before now : Option (L
   pub is : IsDemoEnd end seed rounds old new before now sends sends_now
   pub crash : LeavesDemo (workload seed rounds) (page_count old.size) old new
   pub costs : CostsDemo rounds old new
+  pub reads : OfBook (page_count old.size) old (λ total book. ReadsDemo rounds old new)
   -- reads give what a crash may leave, where they did
   pub honest : Honest old → Honest new
   pub goes_on : GoesOn old new

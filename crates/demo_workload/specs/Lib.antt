@@ -2,6 +2,7 @@ pub mod Draws
 pub mod Workload
 pub mod Remaining
 pub mod Summaries
+pub mod Reading
 pub mod Replying
 pub mod Ending
 pub mod Answering

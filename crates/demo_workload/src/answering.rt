@@ -8,7 +8,7 @@ ghost use Rattle.chart_frames.specs.Frames.{Fits};
 ghost use Rattle.chart_client.specs.Holdings.{holding_of};
 ghost use Rattle.chart_client.specs.Accepting.{Accepts, session_in};
 ghost use Rattle.chart_service.specs.Shown as shown;
-ghost use Rattle.chart_service.specs.Stepping.{RepliedTo, IsBeforeOrAfter, Steps};
+ghost use Rattle.chart_service.specs.Stepping.{RepliedTo, IsBeforeOrAfter, ReadsFew, Steps};
 ghost use Rattle.demo_workload.specs.Summaries.{IsSmall};
 ghost use Rattle.demo_workload.specs.Ending.{IfStopped, IsOutside, end_of_step};
 ghost use Rattle.demo_workload.specs.Answering.{ForMirrored, KnowsOpen, AnswersOne, AcceptsOne, RejectsAs, IsOneCause};
@@ -44,6 +44,7 @@ pub(crate) fn answer<P: Pages>(
     ensures standing { ForMirrored service.old client.old (λ total old. IfErr result IsOutside) }
     ensures moments { shown.ForBook service.old (λ total book. shown.PassesBy (RepliedTo request.now) total book service.old service.new) }
     ensures left { shown.ForBook service.old (λ total book. IfStopped result (IsBeforeOrAfter (RepliedTo request.now) total book (shown.sessions service.old) (shown.image service.new))) }
+    ensures reads { shown.ForBook service.old (λ total book. ReadsFew request.now book (shown.sessions service.old) (shown.view service.old).reads (shown.view service.new).reads) }
     // whatever the pages are
     ensures known { OnOk result (KnowsOpen (shown.sessions service.new) client.new) }
     ensures accepts { OnOk result (AcceptsOne client.old client.new) }

@@ -8,6 +8,7 @@ ghost use Rattle.chart_service.specs.Shown as service_shown;
 ghost use Rattle.demo_workload.specs.Workload.{workload};
 ghost use Rattle.demo_workload.specs.Answered.{Answered};
 ghost use Rattle.demo_workload.specs.Ending.{CostsRequests};
+ghost use Rattle.demo_workload.specs.Reading.{ReadsRequests};
 ghost use Rattle.run_ends.specs.Faults.{end_fault};
 ghost use Rattle.run_ends.specs.Statuses.{status_of};
 ghost use Rattle.store_commands.specs.Away.{TurnsAway};
@@ -59,6 +60,7 @@ fn answer_store<W: World>(
     requires rounds { rounds ≤ 4096 }
     ensures answered { let pages = shown.pages store in Answered (workload seed rounds) (count pages) (W.view (disk pages)) (W.view result.1) result.0 }
     ensures costs { CostsRequests (length (workload seed rounds)) (W.view (disk (shown.pages store))) (W.view result.1) }
+    ensures reads { ReadsRequests (workload seed rounds) (count (shown.pages store)) (W.view (disk (shown.pages store))) (W.view result.1) }
     ensures faults { CountsFault (fault_in end_fault result.0) (W.view (disk (shown.pages store))) (W.view result.1) }
 {
     match Service::new(alloc, store) {
@@ -79,6 +81,7 @@ fn answer_all<W: World>(
     requires rounds { rounds ≤ 4096 }
     ensures answered { let pages = service_shown.pages service in Answered (workload seed rounds) (count pages) (W.view (disk pages)) (W.view result.1) result.0 }
     ensures costs { CostsRequests (length (workload seed rounds)) (W.view (disk (service_shown.pages service))) (W.view result.1) }
+    ensures reads { ReadsRequests (workload seed rounds) (count (service_shown.pages service)) (W.view (disk (service_shown.pages service))) (W.view result.1) }
     ensures faults { CountsFault (fault_in end_fault result.0) (W.view (disk (service_shown.pages service))) (W.view result.1) }
 {
     let answer = run_workload(alloc, &mut service, seed, u32::from(rounds));

@@ -1,11 +1,12 @@
 //! A workload is given to a service and a client of it.
-ghost use Rattle.std.specs.Prelude.{◌≡◌, ◌≢◌, ◌≤◌, [], length, IfOk, IfErr, Err};
+ghost use Rattle.std.specs.Prelude.{◌≡◌, ◌≢◌, ◌+◌, ◌≤◌, [], length, IfOk, IfErr, Err};
 ghost use Rattle.block_disk.specs.View.{Now, Only};
 ghost use Rattle.chart_world.specs.Faults.{CountsFault, fault_in};
 ghost use Rattle.gate_pages.specs.Pages.{GoesOn};
 ghost use Rattle.run_ends.specs.Faults.{end_fault};
 ghost use Rattle.chart_service.specs.Shown as shown;
 ghost use Rattle.chart_service.specs.Stepping.{state_of};
+ghost use Rattle.demo_workload.specs.Reading.{most_reads};
 ghost use Rattle.demo_workload.specs.Workload.{workload};
 ghost use Rattle.demo_workload.specs.Replying.{Summarizes, IsPartWay, PassesPartWay};
 ghost use Rattle.demo_workload.specs.Ending.{CostsRequests, IfStopped, IsOutside, IsCause, Runs};
@@ -42,6 +43,7 @@ pub fn run_workload<P: Pages>(
     ensures standing { shown.ForBook service.old (λ total book. IfErr result IsOutside) }
     ensures moments { shown.ForBook service.old (λ total book. PassesPartWay (workload seed count) total book (shown.view service.old) (shown.view service.new)) }
     ensures left { shown.ForBook service.old (λ total book. IfStopped result (IsPartWay (workload seed count) total (state_of book total []) (shown.image service.new))) }
+    ensures reads { shown.ForBook service.old (λ total book. (shown.view service.new).reads ≤ (shown.view service.old).reads + most_reads (workload seed count)) }
     // whatever the pages are
     ensures cause { IfErr result (λ end. IsCause end (shown.IsTold service.new) (shown.view service.old) (shown.view service.new)) }
     ensures faults { CountsFault (fault_in end_fault result) (shown.view service.old) (shown.view service.new) }

@@ -3,7 +3,7 @@ ghost use Rattle.std.specs.Prelude.{◌≡◌, [], IfSome};
 ghost use Rattle.chart_service.specs.Shown as shown;
 ghost use Rattle.chart_world.specs.Faults.{CountsFault};
 ghost use Rattle.gate_pages.specs.Shown.{AreSound, count, disk};
-ghost use Rattle.hosted_lines.specs.Answers.{MayAnswerHost, SendsAnswers};
+ghost use Rattle.hosted_lines.specs.Answers.{MayAnswerHost, SendsAnswers, followed_behind};
 ghost use Rattle.run_ends.specs.Faults.{end_fault};
 ghost use Rattle.run_ends.specs.Statuses.{status_of};
 ghost use Rattle.series_store.specs.Shown as stored;
@@ -29,7 +29,7 @@ use store_commands::opening_end;
 pub fn host<W: World>(alloc: Global, world: W) -> (End, W)
     ensures ends { HostEnds (W.view world) (W.view result.1) (traffic W.left W.sent W.read_faults W.send_faults world result.1) result.0 }
     // whatever the disk holds, at the end each line of the input was answered, and all other frames are pushes
-    ensures answers { result.0 ≡ End.Done → IfSome (W.left world) (λ input. SendsAnswers MayAnswerHost input (W.sent world) (W.sent result.1)) }
+    ensures answers { result.0 ≡ End.Done → IfSome (W.left world) (λ input. SendsAnswers MayAnswerHost followed_behind input (W.sent world) (W.sent result.1)) }
     // blocks are read, and the disk is synced, by the opening, the lines, the groups and the pushes alone
     ensures costs { IfSome (W.left world) (λ input. CostsHosting (W.view world) (W.view result.1) input) }
     // a call failed exactly where the end tells of one
@@ -46,7 +46,7 @@ pub fn host<W: World>(alloc: Global, world: W) -> (End, W)
 fn serve_store<W: World>(alloc: Global, store: Store<GatePages<W>>) -> (End, W)
     requires { AreSound (stored.pages store) }
     ensures serves { let at = stored.pages store in Served (count at) (W.view (disk at)) (W.view result.1) (traffic W.left W.sent W.read_faults W.send_faults (disk at) result.1) result.0 }
-    ensures answers { result.0 ≡ End.Done → IfSome (W.left (disk (stored.pages store))) (λ input. SendsAnswers MayAnswerHost input (W.sent (disk (stored.pages store))) (W.sent result.1)) }
+    ensures answers { result.0 ≡ End.Done → IfSome (W.left (disk (stored.pages store))) (λ input. SendsAnswers MayAnswerHost followed_behind input (W.sent (disk (stored.pages store))) (W.sent result.1)) }
     ensures faults { CountsFault (end_fault result.0) (W.view (disk (stored.pages store))) (W.view result.1) }
     ensures costs { let pages = stored.pages store in IfSome (W.left (disk pages)) (λ input. CostsFrom (count pages) (W.view (disk pages)) (W.view result.1) input (W.view (disk pages)).reads (W.view (disk pages)).syncs) }
 {
@@ -61,7 +61,7 @@ fn serve_service<W: World>(alloc: Global, service: Service<GatePages<W>>) -> (En
     requires sound { AreSound (shown.pages service) }
     requires alone { shown.sessions service ≡ [] }
     ensures serves { let at = shown.pages service in Served (count at) (W.view (disk at)) (W.view result.1) (traffic W.left W.sent W.read_faults W.send_faults (disk at) result.1) result.0 }
-    ensures answers { result.0 ≡ End.Done → IfSome (W.left (disk (shown.pages service))) (λ input. SendsAnswers MayAnswerHost input (W.sent (disk (shown.pages service))) (W.sent result.1)) }
+    ensures answers { result.0 ≡ End.Done → IfSome (W.left (disk (shown.pages service))) (λ input. SendsAnswers MayAnswerHost followed_behind input (W.sent (disk (shown.pages service))) (W.sent result.1)) }
     ensures faults { CountsFault (end_fault result.0) (W.view (disk (shown.pages service))) (W.view result.1) }
     ensures costs { let pages = shown.pages service in IfSome (W.left (disk pages)) (λ input. CostsFrom (count pages) (W.view (disk pages)) (W.view result.1) input (W.view (disk pages)).reads (W.view (disk pages)).syncs) }
 {

@@ -12,7 +12,8 @@ use Rattle.chart_frames.specs.declared.reports.Report.{Report as OneReport}
 use Rattle.chart_service.specs.State.{State}
 use Rattle.drawn_replies.specs.Mirrors.{DrawsTheBook, Mirrors, OnlyLacksMemory, mirrored}
 use Rattle.host_sweeps.specs.Sweeping.{DoesStep, RefusesStep, SweepReplied, pushed_behind, step_clears, swept_followers}
-use Rattle.live_service.specs.Following.{CanFollow, FollowsWell}
+use Rattle.live_service.specs.Following.{FollowsWell}
+use Rattle.live_view.specs.Following.{CanFollow}
 use Rattle.live_service.specs.LiveReplies.{LiveState}
 use Rattle.live_view.specs.Replies.{followers, shows}
 use Rattle.live_view.specs.Sessions.{has_view}

@@ -24,7 +24,12 @@ use Rattle.host_lines.specs.declared.asked.HostLine.TheVariants.{List as ListLin
 use Rattle.host_replies.specs.Replies.{MayReport}
 use Rattle.host_sweeps.specs.Sweeping.{TellsStep}
 use Rattle.live_service.specs.Kinds.{AnswerWithPushes, MayAnswerAsked, MayAnswerBy, MayAnswerLive, MayPush}
+use Rattle.live_service.specs.Pushing.{AnswerFollowed, FollowedBy, followed_after, followed_asked}
 use Rattle.live_view.proofs.SpellingLemmas.{request-asks-nothing}
+use Rattle.live_view.specs.Following.{ShowsOneOf}
+use Rattle.live_view.specs.Meaning.{meaning_of}
+use Rattle.live_view.specs.Replies.{ended, still_followed}
+use Rattle.live_view.specs.declared.meaning.Meaning.{Meaning}
 use Rattle.live_view.specs.declared.live_lines.LiveLine.{LiveLine}
 use Rattle.retention.specs.declared.rule.Rule.{Rule}
 use Rattle.request_lines.specs.declared.requests.Request.{Request}
@@ -33,7 +38,7 @@ use Rattle.run_ends.specs.declared.ending.End.{End}
 use Rattle.series_book.specs.declared.edits.Edit.{Edit}
 use Rattle.zoom_session.specs.declared.session.Session.{Session}
 use Rattle.zoom_session.specs.Sessions.{is_open}
-use Rattle.hosted_lines.specs.Answers.{Answers, MayAnswerAlone, MayAnswerHost, MayTellStep, Sends, SendsAnswers}
+use Rattle.hosted_lines.specs.Answers.{Answers, MayAnswerAlone, MayAnswerHost, MayTellStep, Sends, SendsAnswers, Watched, followed_alone, followed_behind}
 use Rattle.hosted_lines.specs.Hosts.{IsPassed}
 use Rattle.hosted_lines.specs.Lives.{spelled}
 use Rattle.hosted_lines.proofs.AskLemmas.{asks_nothing}
@@ -51,6 +56,12 @@ edit_keeps (DoneOf slots) n was is = refl
 edit_keeps (Refused number a b) n was is = refl
 edit_keeps frame n was is = absurd is
 
+-- such a frame ends no following
+edit_ends : (meaning : Meaning) (frame : Frame) (followed : List ℕ) → IsEditReply frame → still_followed (ended meaning frame) followed ≡ followed
+edit_ends meaning (DoneOf slots) followed is = refl
+edit_ends meaning (Refused number a b) followed is = refl
+edit_ends meaning frame followed is = absurd is
+
 edits_keep : (frames : List Frame) (n : ℕ) (was : Bool) → All IsEditReply frames → opens_all frames n was ≡ was
 edits_keep [] n was all = refl
 edits_keep (f ∷ fs) n was all =
@@ -62,7 +73,7 @@ edits_name (f ∷ fs) was all =
     (edit_known f was (all 0 f (omega arith)), edits_name fs (λ n. opens f n (was n)) (All-tail IsEditReply f fs all))
 
 module _ (May : MayAnswerBy) where
-  -- ---- frames, and others behind them
+  -- ---- frames by a book, and others behind them
 
   pub with_more : (lines others : List (Option (List ℕ))) (frames more : List Frame) → AnswerWithPushes May lines frames → AnswerWithPushes May others more
       → AnswerWithPushes May (lines ++ others) (frames ++ more)
@@ -77,105 +88,127 @@ module _ (May : MayAnswerBy) where
   push_first [] frame frames may later = (may, later)
   push_first (line ∷ lines) frame frames may later = inr (may, later)
 
-  pub answers_none : (sessions : List Session) → Answers May [] sessions sessions []
-  answers_none sessions = record { frames = []; fits = All-nil Fits; answers = tt; named = tt; open_now = λ n. refl; text_is = refl }
+-- ---- what is watched
 
-  pub answers_then : (lines others : List (Option (List ℕ))) (old mid new : List Session) (text later : List ℕ) → Answers May lines old mid text → Answers May others mid new later
-      → Answers May (lines ++ others) old new (text ++ later)
+pub watched_same : (one other : Watched) → one.sessions ≡ other.sessions → one.followed ≡ other.followed → one ≡ other
+watched_same one other sessions followed = λ i. record { sessions = sessions i; followed = followed i }
+
+module _ (May : MayAnswerBy) (after : FollowedBy) where
+  -- ---- frames, and others behind them
+
+  followed_more : (lines others : List (Option (List ℕ))) (old mid new : List ℕ) (frames more : List Frame) → AnswerFollowed May after lines old frames mid → AnswerFollowed May after others mid more new
+      → AnswerFollowed May after (lines ++ others) old (frames ++ more) new
+  followed_more [] others old mid new [] more one two = let F : List ℕ → Type 0 = λ f. AnswerFollowed May after others f more new in subst F one two
+  followed_more (line ∷ lines) others old mid new [] more one two = absurd one
+  followed_more [] [] old mid new (f ∷ fs) more one two = (one.0, followed_more [] [] old mid new fs more one.1 two)
+  followed_more [] (o ∷ os) old mid new (f ∷ fs) more one two = inr (one.0, followed_more [] (o ∷ os) old mid new fs more one.1 two)
+  followed_more (line ∷ lines) others old mid new (f ∷ fs) more (inl it) two = inl (it.0, followed_more lines others (after line f old) mid new fs more it.1 two)
+  followed_more (line ∷ lines) others old mid new (f ∷ fs) more (inr it) two = inr (it.0, followed_more (line ∷ lines) others old mid new fs more it.1 two)
+
+  pub answers_none : (at : Watched) → Answers May after [] at at []
+  answers_none at = record { frames = []; fits = All-nil Fits; answers = refl; named = tt; open_now = λ n. refl; text_is = refl }
+
+  pub answers_then : (lines others : List (Option (List ℕ))) (old mid new : Watched) (text later : List ℕ) → Answers May after lines old mid text → Answers May after others mid new later
+      → Answers May after (lines ++ others) old new (text ++ later)
   answers_then lines others old mid new text later one two = record {
     frames = one.frames ++ two.frames;
     fits = All-append Fits one.frames two.frames one.fits two.fits;
-    answers = with_more lines others one.frames two.frames one.answers two.answers;
-    named = name_joined one.frames two.frames (λ n. is_open n old) one.named
-        (name_alike two.frames (λ n. is_open n mid) (λ n. opens_all one.frames n (is_open n old)) one.open_now two.named);
-    open_now = λ n. two.open_now n ∙ ap (λ b. opens_all two.frames n b) (one.open_now n) ∙ sym (opens_more one.frames two.frames n (is_open n old));
+    answers = followed_more lines others old.followed mid.followed new.followed one.frames two.frames one.answers two.answers;
+    named = name_joined one.frames two.frames (λ n. is_open n old.sessions) one.named
+        (name_alike two.frames (λ n. is_open n mid.sessions) (λ n. opens_all one.frames n (is_open n old.sessions)) one.open_now two.named);
+    open_now = λ n. two.open_now n ∙ ap (λ b. opens_all two.frames n b) (one.open_now n) ∙ sym (opens_more one.frames two.frames n (is_open n old.sessions));
     text_is = ap (λ t. t ++ later) one.text_is ∙ ap (λ t. spelled one.frames ++ t) two.text_is ∙ sym (spelled_more one.frames two.frames);
   }
 
   -- ---- what is sent
 
-  pub sends_none : (sessions : List Session) (before : Option (List ℕ)) → Sends May [] sessions sessions before before
-  sends_none sessions before = record { text = []; answers = answers_none sessions; sent = sent_none before }
+  pub sends_none : (at : Watched) (before : Option (List ℕ)) → Sends May after [] at at before before
+  sends_none at before = record { text = []; answers = answers_none at; sent = sent_none before }
 
-  pub sends_both : (lines others : List (Option (List ℕ))) (old mid new : List Session) (before between now : Option (List ℕ)) → Sends May lines old mid before between
-      → Sends May others mid new between now → Sends May (lines ++ others) old new before now
+  pub sends_both : (lines others : List (Option (List ℕ))) (old mid new : Watched) (before between now : Option (List ℕ)) → Sends May after lines old mid before between
+      → Sends May after others mid new between now → Sends May after (lines ++ others) old new before now
   sends_both lines others old mid new before between now one two = record {
     text = one.text ++ two.text;
     answers = answers_then lines others old mid new one.text two.text one.answers two.answers;
     sent = sent_more one.text two.text before between now one.sent two.sent;
   }
 
-  pub sends_then : {T : Type 0} (r : Result T End) (lines others : List (Option (List ℕ))) (old mid new : List Session) (before between now : Option (List ℕ))
-      → Sends May lines old mid before between → OnOk r (Sends May others mid new between now) → OnOk r (Sends May (lines ++ others) old new before now)
+  pub sends_then : {T : Type 0} (r : Result T End) (lines others : List (Option (List ℕ))) (old mid new : Watched) (before between now : Option (List ℕ))
+      → Sends May after lines old mid before between → OnOk r (Sends May after others mid new between now) → OnOk r (Sends May after (lines ++ others) old new before now)
   sends_then {T} r lines others old mid new before between now one two =
-      ok_so r (Sends May others mid new between now) (Sends May (lines ++ others) old new before now)
+      ok_so r (Sends May after others mid new between now) (Sends May after (lines ++ others) old new before now)
       (λ it. sends_both lines others old mid new before between now one it) two
 
-  pub sends_so : {T : Type 0} (r : Result T End) (lines others : List (Option (List ℕ))) (old new : List Session) (before now : Option (List ℕ)) → lines ≡ others
-      → OnOk r (Sends May lines old new before now) → OnOk r (Sends May others old new before now)
+  pub sends_so : {T : Type 0} (r : Result T End) (lines others : List (Option (List ℕ))) (old new : Watched) (before now : Option (List ℕ)) → lines ≡ others
+      → OnOk r (Sends May after lines old new before now) → OnOk r (Sends May after others old new before now)
   sends_so {T} r lines others old new before now same sends =
-      let P : List (Option (List ℕ)) → Type 0 = λ l. OnOk r (Sends May l old new before now) in subst P same sends
+      let P : List (Option (List ℕ)) → Type 0 = λ l. OnOk r (Sends May after l old new before now) in subst P same sends
 
   -- frames that were sent behind a call that sent nothing
-  made_sends : {T : Type 0} (r : Result T End) (lines : List (Option (List ℕ))) (frames : List Frame) (old mid new : List Session) (before between now : Option (List ℕ))
-      → All Fits frames → AnswerWithPushes May lines frames → NameOpen (λ n. is_open n old) frames → ((n : ℕ) → is_open n mid ≡ opens_all frames n (is_open n old))
-      → new ≡ mid → between ≡ before → OnOk r (now ≡ sent_after (spelled frames) between) → OnOk r (Sends May lines old new before now)
+  made_sends : {T : Type 0} (r : Result T End) (lines : List (Option (List ℕ))) (frames : List Frame) (old mid new : Watched) (before between now : Option (List ℕ))
+      → All Fits frames → AnswerFollowed May after lines old.followed frames mid.followed → NameOpen (λ n. is_open n old.sessions) frames
+      → ((n : ℕ) → is_open n mid.sessions ≡ opens_all frames n (is_open n old.sessions))
+      → new ≡ mid → between ≡ before → OnOk r (now ≡ sent_after (spelled frames) between) → OnOk r (Sends May after lines old new before now)
   made_sends {T} r lines frames old mid new before between now fits answers named open_now same unsent made =
       let B : Option (List ℕ) → Type 0 = λ b. OnOk r (now ≡ sent_after (spelled frames) b) in
-      ok_so r (now ≡ sent_after (spelled frames) before) (Sends May lines old new before now)
+      let A : Watched → Type 0 = λ w. AnswerFollowed May after lines old.followed frames w.followed in
+      ok_so r (now ≡ sent_after (spelled frames) before) (Sends May after lines old new before now)
       (λ sent. record {
         text = spelled frames;
         answers = record {
           frames = frames;
           fits = fits;
-          answers = answers;
+          answers = subst A (sym same) answers;
           named = named;
-          open_now = λ n. ap (λ s. is_open n s) same ∙ open_now n;
+          open_now = λ n. ap (λ (w : Watched). is_open n w.sessions) same ∙ open_now n;
           text_is = refl;
         };
         sent = sent;
       })
       (subst B unsent made)
 
-  module _ {T : Type 0} (r : Result T End) (frame : Frame) (old mid new : List Session) (before between now : Option (List ℕ)) (fits : Fits frame) (opened : OpensBy frame old mid)
+  module _ {T : Type 0} (r : Result T End) (frame : Frame) (old mid new : Watched) (before between now : Option (List ℕ)) (fits : Fits frame) (opened : OpensBy frame old.sessions mid.sessions)
       (same : new ≡ mid) (unsent : between ≡ before) (made : OnOk r (now ≡ sent_after (spelling frame) between)) where
-    one_sends : (lines : List (Option (List ℕ))) → AnswerWithPushes May lines (frame ∷ []) → OnOk r (Sends May lines old new before now)
+    one_sends : (lines : List (Option (List ℕ))) → AnswerFollowed May after lines old.followed (frame ∷ []) mid.followed → OnOk r (Sends May after lines old new before now)
     one_sends lines answers =
         let S : List ℕ → Type 0 = λ t. OnOk r (now ≡ sent_after t between) in
-        made_sends r lines (frame ∷ []) old mid new before between now (All-cons Fits frame [] fits (All-nil Fits)) answers (names_open frame old opened.named, tt) opened.after
+        made_sends r lines (frame ∷ []) old mid new before between now (All-cons Fits frame [] fits (All-nil Fits)) answers (names_open frame old.sessions opened.named, tt) opened.after
         same unsent (subst S (sym (append-nil (spelling frame))) made)
 
     -- the frame answers a line
-    pub sends_answer : (line : Option (List ℕ)) → May line frame → OnOk r (Sends May (line ∷ []) old new before now)
-    sends_answer line may = one_sends (line ∷ []) (inl (may, tt))
+    pub sends_answer : (line : Option (List ℕ)) → May line frame → mid.followed ≡ after line frame old.followed → OnOk r (Sends May after (line ∷ []) old new before now)
+    sends_answer line may followed = one_sends (line ∷ []) (inl (may, followed))
 
     -- it is pushed
-    pub sends_push : MayPush frame → OnOk r (Sends May [] old new before now)
-    sends_push may = one_sends [] (may, tt)
+    pub sends_push : ShowsOneOf old.followed frame → mid.followed ≡ old.followed → OnOk r (Sends May after [] old new before now)
+    sends_push shows followed = one_sends [] (shows, followed)
 
   -- ---- all lines of an input, where no session was open before them
 
-  input_answers : (input : List ℕ) (old new : List Session) (before now : Option (List ℕ)) → old ≡ [] → Sends May (told input) old new before now → SendsAnswers May input before now
-  input_answers input old new before now none s =
+  input_answers : (input : List ℕ) (old new : Watched) (before now : Option (List ℕ)) → old.sessions ≡ [] → old.followed ≡ [] → Sends May after (told input) old new before now
+      → SendsAnswers May after input before now
+  input_answers input old new before now none alone s =
       let N : List Session → Type 0 = λ ss. NameOpen (λ n. is_open n ss) s.answers.frames in
+      let F : List ℕ → Type 0 = λ f. AnswerFollowed May after (told input) f s.answers.frames new.followed in
       record {
         frames = s.answers.frames;
         fits = s.answers.fits;
-        answers = s.answers.answers;
+        followed = new.followed;
+        answers = subst F alone s.answers.answers;
         named = named_opened s.answers.frames (subst N none s.answers.named);
         sent = s.sent ∙ ap (λ t. sent_after t before) s.answers.text_is;
       }
 
-  pub sends_answers : (o : Option (List ℕ)) (old new : List Session) (before now : Option (List ℕ)) → old ≡ [] → IfSome o (λ input. Sends May (told input) old new before now)
-      → IfSome o (λ input. SendsAnswers May input before now)
-  sends_answers None old new before now none sends = tt
-  sends_answers (Some input) old new before now none sends = input_answers input old new before now none sends
+  pub sends_answers : (o : Option (List ℕ)) (old new : Watched) (before now : Option (List ℕ)) → old.sessions ≡ [] → old.followed ≡ [] → IfSome o (λ input. Sends May after (told input) old new before now)
+      → IfSome o (λ input. SendsAnswers May after input before now)
+  sends_answers None old new before now none alone sends = tt
+  sends_answers (Some input) old new before now none alone sends = input_answers input old new before now none alone sends
 
   -- behind an opening, which leaves the streams
-  pub answers_over : (o o' before before' now : Option (List ℕ)) → o ≡ o' → before ≡ before' → IfSome o (λ input. SendsAnswers May input before now) → IfSome o' (λ input. SendsAnswers May input before' now)
+  pub answers_over : (o o' before before' now : Option (List ℕ)) → o ≡ o' → before ≡ before' → IfSome o (λ input. SendsAnswers May after input before now) → IfSome o' (λ input. SendsAnswers May after input before' now)
   answers_over o o' before before' now same unsent answers =
-      let O : Option (List ℕ) → Type 0 = λ x. IfSome x (λ input. SendsAnswers May input before' now) in
-      let B : Option (List ℕ) → Type 0 = λ b. IfSome o (λ input. SendsAnswers May input b now) in
+      let O : Option (List ℕ) → Type 0 = λ x. IfSome x (λ input. SendsAnswers May after input before' now) in
+      let B : Option (List ℕ) → Type 0 = λ b. IfSome o (λ input. SendsAnswers May after input b now) in
       subst O same (subst B unsent answers)
 
 -- ---- a host
@@ -191,52 +224,102 @@ edit_may (Some (byte ∷ bytes)) edit frame spells is =
     subst H (sym (asks_nothing text (EditRequest edit) spells))
     (subst A (sym (request-asks-nothing text (EditRequest edit) spells)) (subst R (sym spells) is))
 
-edits_answer : (lines : List (Option (List ℕ))) (edits : List Edit) (frames : List Frame) → SpellEdits lines edits → length frames ≡ length edits → All IsEditReply frames
-    → AnswerWithPushes MayAnswerHost lines frames
-edits_answer [] [] [] spell long all = tt
-edits_answer [] [] (f ∷ fs) spell long all = absurd (omega (arith, long))
-edits_answer [] (e ∷ es) frames spell long all = absurd spell
-edits_answer (l ∷ ls) [] frames spell long all = absurd spell
-edits_answer (l ∷ ls) (e ∷ es) [] spell long all = absurd (omega (arith, long))
-edits_answer (l ∷ ls) (e ∷ es) (f ∷ fs) spell long all =
-    inl (edit_may l e f spell.0 (all 0 f (omega arith)), edits_answer ls es fs spell.1 (omega (arith, long)) (All-tail IsEditReply f fs all))
+-- it leaves the followed sessions
+edit_after : (line : Option (List ℕ)) (edit : Edit) (frame : Frame) (followed : List ℕ) → SpellsEdit line edit → IsEditReply frame → followed_behind line frame followed ≡ followed
+edit_after None edit frame followed spells is = absurd spells
+edit_after (Some []) edit frame followed spells is = absurd spells
+edit_after (Some (byte ∷ bytes)) edit frame followed spells is =
+    let text : List ℕ = byte ∷ bytes in
+    let A : LiveLine → Type 0 = λ a. followed_asked a text frame followed ≡ followed in
+    let H : HostLine → Type 0 = λ a. followed_alone a text frame followed ≡ followed in
+    subst H (sym (asks_nothing text (EditRequest edit) spells))
+    (subst A (sym (request-asks-nothing text (EditRequest edit) spells)) (edit_ends (meaning_of text) frame followed is))
 
--- edits are answered that lines spell; the sessions stay
-pub sends_group : {T : Type 0} (r : Result T End) (lines : List (Option (List ℕ))) (edits : List Edit) (frames : List Frame) (old mid new : List Session)
-    (before between now : Option (List ℕ)) → SpellEdits lines edits → length frames ≡ length edits → All IsEditReply frames → All Fits frames → mid ≡ old → new ≡ mid
-    → between ≡ before → OnOk r (now ≡ sent_after (spelled frames) between) → OnOk r (Sends MayAnswerHost lines old new before now)
-sends_group {T} r lines edits frames old mid new before between now spell long all fits kept same unsent made =
-    made_sends MayAnswerHost r lines frames old mid new before between now fits (edits_answer lines edits frames spell long all) (edits_name frames (λ n. is_open n old) all)
-    (λ n. ap (λ s. is_open n s) kept ∙ sym (edits_keep frames n (is_open n old) all)) same unsent made
+edits_answer : (lines : List (Option (List ℕ))) (edits : List Edit) (frames : List Frame) (followed : List ℕ) → SpellEdits lines edits → length frames ≡ length edits → All IsEditReply frames
+    → AnswerFollowed MayAnswerHost followed_behind lines followed frames followed
+edits_answer [] [] [] followed spell long all = refl
+edits_answer [] [] (f ∷ fs) followed spell long all = absurd (omega (arith, long))
+edits_answer [] (e ∷ es) frames followed spell long all = absurd spell
+edits_answer (l ∷ ls) [] frames followed spell long all = absurd spell
+edits_answer (l ∷ ls) (e ∷ es) [] followed spell long all = absurd (omega (arith, long))
+edits_answer (l ∷ ls) (e ∷ es) (f ∷ fs) followed spell long all =
+    let F : List ℕ → Type 0 = λ x. AnswerFollowed MayAnswerHost followed_behind ls x fs followed in
+    inl (
+      edit_may l e f spell.0 (all 0 f (omega arith)),
+      subst F (sym (edit_after l e f followed spell.0 (all 0 f (omega arith)))) (edits_answer ls es fs followed spell.1 (omega (arith, long)) (All-tail IsEditReply f fs all)),
+    )
+
+-- edits are answered that lines spell; the sessions stay, and the followed ones
+pub sends_group : {T : Type 0} (r : Result T End) (lines : List (Option (List ℕ))) (edits : List Edit) (frames : List Frame) (old mid new : Watched)
+    (before between now : Option (List ℕ)) → SpellEdits lines edits → length frames ≡ length edits → All IsEditReply frames → All Fits frames → mid.sessions ≡ old.sessions → mid.followed ≡ old.followed → new ≡ mid
+    → between ≡ before → OnOk r (now ≡ sent_after (spelled frames) between) → OnOk r (Sends MayAnswerHost followed_behind lines old new before now)
+sends_group {T} r lines edits frames old mid new before between now spell long all fits kept followed same unsent made =
+    let F : List ℕ → Type 0 = λ x. AnswerFollowed MayAnswerHost followed_behind lines old.followed frames x in
+    made_sends MayAnswerHost followed_behind r lines frames old mid new before between now fits (subst F (sym followed) (edits_answer lines edits frames old.followed spell long all)) (edits_name frames (λ n. is_open n old.sessions) all)
+    (λ n. ap (λ s. is_open n s) kept ∙ sym (edits_keep frames n (is_open n old.sessions) all)) same unsent made
 
 -- lines that ask nothing of the host alone are answered as by a live service
 pub may_passed : (line : Option (List ℕ)) (frame : Frame) → IsPassed line → MayAnswerLive line frame → MayAnswerHost line frame
 may_passed None frame passed may = may
 may_passed (Some text) frame passed may = let H : HostLine → Type 0 = λ a. MayAnswerAlone a text frame in subst H (sym passed) may
 
-all_passed : (lines : List (Option (List ℕ))) (frames : List Frame) → ArePassed lines → AnswerWithPushes MayAnswerLive lines frames → AnswerWithPushes MayAnswerHost lines frames
-all_passed [] [] passed may = tt
-all_passed (line ∷ lines) [] passed may = absurd may
-all_passed [] (f ∷ fs) passed may = (may.0, all_passed [] fs tt may.1)
-all_passed (line ∷ lines) (f ∷ fs) passed (inl it) = inl (may_passed line f passed.0 it.0, all_passed lines fs passed.1 it.1)
-all_passed (line ∷ lines) (f ∷ fs) passed (inr it) = inr (it.0, all_passed (line ∷ lines) fs passed it.1)
+passed_after : (line : Option (List ℕ)) (frame : Frame) (followed : List ℕ) → IsPassed line → followed_behind line frame followed ≡ followed_after line frame followed
+passed_after None frame followed passed = refl
+passed_after (Some text) frame followed passed =
+    let H : HostLine → Type 0 = λ a. followed_alone a text frame followed ≡ followed_after (Some text) frame followed in subst H (sym passed) refl
 
-pub sends_host : {T : Type 0} (r : Result T End) (lines : List (Option (List ℕ))) (old new : List Session) (before now : Option (List ℕ)) → ArePassed lines
-    → OnOk r (Sends MayAnswerLive lines old new before now) → OnOk r (Sends MayAnswerHost lines old new before now)
+all_passed : (lines : List (Option (List ℕ))) (old new : List ℕ) (frames : List Frame) → ArePassed lines → AnswerFollowed MayAnswerLive followed_after lines old frames new
+    → AnswerFollowed MayAnswerHost followed_behind lines old frames new
+all_passed [] old new [] passed may = may
+all_passed (line ∷ lines) old new [] passed may = absurd may
+all_passed [] old new (f ∷ fs) passed may = (may.0, all_passed [] old new fs tt may.1)
+all_passed (line ∷ lines) old new (f ∷ fs) passed (inl it) =
+    let F : List ℕ → Type 0 = λ x. AnswerFollowed MayAnswerHost followed_behind lines x fs new in
+    inl (may_passed line f passed.0 it.0, subst F (sym (passed_after line f old passed.0)) (all_passed lines (followed_after line f old) new fs passed.1 it.1))
+all_passed (line ∷ lines) old new (f ∷ fs) passed (inr it) = inr (it.0, all_passed (line ∷ lines) old new fs passed it.1)
+
+pub sends_host : {T : Type 0} (r : Result T End) (lines : List (Option (List ℕ))) (old new : Watched) (before now : Option (List ℕ)) → ArePassed lines
+    → OnOk r (Sends MayAnswerLive followed_after lines old new before now) → OnOk r (Sends MayAnswerHost followed_behind lines old new before now)
 sends_host {T} r lines old new before now passed sends =
-    ok_so r (Sends MayAnswerLive lines old new before now) (Sends MayAnswerHost lines old new before now)
+    ok_so r (Sends MayAnswerLive followed_after lines old new before now) (Sends MayAnswerHost followed_behind lines old new before now)
     (λ s. let a = s.answers in record {
       text = s.text;
       answers = record {
         frames = a.frames;
         fits = a.fits;
-        answers = all_passed lines a.frames passed a.answers;
+        answers = all_passed lines old.followed new.followed a.frames passed a.answers;
         named = a.named;
         open_now = a.open_now;
         text_is = a.text_is;
       };
       sent = s.sent;
     }) sends
+
+-- a line that asks something of the host alone leaves the followed sessions
+alone_after : (asked : HostLine) (text : List ℕ) (frame : Frame) (followed : List ℕ) → (asked ≡ Other → ⊥) → followed ≡ followed_alone asked text frame followed
+alone_after ListLine text frame followed other = refl
+alone_after (Values name t0 t1) text frame followed other = refl
+alone_after (Sum session request) text frame followed other = refl
+alone_after (Sweep rule) text frame followed other = refl
+alone_after (Bad at) text frame followed other = refl
+alone_after Other text frame followed other = absurd (other refl)
+
+not_other : (asked : HostLine) (frame : Frame) → MayReport asked frame → asked ≡ Other → ⊥
+not_other asked frame may is = let R : HostLine → Type 0 = λ a. MayReport a frame in subst R is may
+
+asked_after : (text : List ℕ) (asked : HostLine) (frame : Frame) (old mid : List ℕ) → host_line text ≡ asked → (asked ≡ Other → ⊥) → mid ≡ old → mid ≡ followed_behind (Some text) frame old
+asked_after text asked frame old mid asks other same =
+    let H : HostLine → Type 0 = λ a. mid ≡ followed_alone a text frame old in
+    subst H (sym asks) (same ∙ alone_after asked text frame old other)
+
+pub report_after : (text : List ℕ) (asked : HostLine) (frame : Frame) (old mid : List ℕ) → host_line text ≡ asked → MayReport asked frame → mid ≡ old → mid ≡ followed_behind (Some text) frame old
+report_after text asked frame old mid asks may same = asked_after text asked frame old mid asks (not_other asked frame may) same
+
+never_sweep : (rule : Rule) → ◌≡◌ {A = HostLine} (Sweep rule) Other → ⊥
+never_sweep rule is = cc
+
+pub step_after : (text : List ℕ) (rule : Rule) (frame : Frame) (old mid : List ℕ) → host_line text ≡ Sweep rule → mid ≡ old → mid ≡ followed_behind (Some text) frame old
+step_after text rule frame old mid asks same = asked_after text (Sweep rule) frame old mid asks (never_sweep rule) same
 
 -- the frame of a report, and of a step
 reported : (asked : HostLine) (text : List ℕ) (frame : Frame) → MayReport asked frame → MayAnswerAlone asked text frame

@@ -12,21 +12,21 @@ use Rattle.series_book.specs.declared.edits.Edit.{Edit}
 use Rattle.served_lines.specs.Turning.{lines_of}
 use Rattle.served_lines.proofs.Carried.{all_ended, lines_all, told_are}
 use Rattle.zoom_session.specs.declared.session.Session.{Session}
-use Rattle.hosted_lines.specs.Answers.{Answers, MayAnswerHost, Sends}
+use Rattle.hosted_lines.specs.Answers.{Answers, MayAnswerHost, Sends, Watched, followed_behind}
 use Rattle.hosted_lines.specs.Doing.{Held}
-use Rattle.hosted_lines.specs.Standing.{AnswersSome, Any, DoesFrom, IsNamed, Named, Over, Stand, Stands}
+use Rattle.hosted_lines.specs.Standing.{AnswersSome, Any, DoesFrom, IsNamed, Named, Over, Stand, Stands, watched_of}
 use Rattle.hosted_lines.proofs.AnswersLemmas.{answers_none, answers_then}
 use Rattle.hosted_lines.proofs.TurnLemmas.{none_both, split_both}
 
 some_none : (at : Named) → AnswersSome at [] [] at
-some_none at = record { front = []; split = append-nil at.ahead; answers = answers_none MayAnswerHost at.sessions }
+some_none at = record { front = []; split = append-nil at.ahead; answers = answers_none MayAnswerHost followed_behind at.watched }
 
 some_then : (old mid new : Named) (lines more : List (Option (List ℕ))) (text later : List ℕ) → AnswersSome old lines text mid → AnswersSome mid more later new
     → AnswersSome old (lines ++ more) (text ++ later) new
 some_then old mid new lines more text later one two = record {
   front = one.front ++ two.front;
   split = split_both old.ahead lines more one.front mid.ahead two.front new.ahead one.split two.split;
-  answers = answers_then MayAnswerHost one.front two.front old.sessions mid.sessions new.sessions text later one.answers two.answers;
+  answers = answers_then MayAnswerHost followed_behind one.front two.front old.watched mid.watched new.watched text later one.answers two.answers;
 }
 
 record Answered (old : Named) (given : List Given) (text : List ℕ) (stand : Stand) : Type 0 where
@@ -88,14 +88,14 @@ ended earlier given old text stand p is all =
 
 -- ---- all lines
 
-module _ (sessions : List Session) (edits : List Edit) (told_now : Type 0) (view : View) (held : Held) (before now : Option (List ℕ)) (pieces pieces' : ℕ) where
+module _ (watched : Watched) (edits : List Edit) (told_now : Type 0) (view : View) (held : Held) (before now : Option (List ℕ)) (pieces pieces' : ℕ) where
   abbrev IsNow : Stand → Type 0
   IsNow stand = Stands stand edits told_now view held now
 
   abbrev begin : Named
-  begin = record { ahead = []; sessions = sessions }
+  begin = record { ahead = []; watched = watched }
 
-  sends_all : (input : List ℕ) → Runs DoesFrom (Any begin) (AreAll pieces pieces') IsNow (Some input) before now → Sends MayAnswerHost (told input) sessions held.sessions before now
+  sends_all : (input : List ℕ) → Runs DoesFrom (Any begin) (AreAll pieces pieces') IsNow (Some input) before now → Sends MayAnswerHost followed_behind (told input) watched (watched_of held) before now
   sends_all input all =
       let done = all.done in
       let t = ended all.are.earlier done.given begin done.text done.behind all.are.paused all.are.given_are done.carries in
@@ -104,12 +104,12 @@ module _ (sessions : List Session) (edits : List Edit) (told_now : Type 0) (view
       let are : lines_all done.given ≡ told input = ap lines_all all.are.given_are ∙ all_ended all.are.earlier ∙ told_are all.are.earlier input all.are.lines_are in
       let front : some.front ≡ told input = sym (append-nil some.front) ∙ ap (λ l. some.front ++ l) (sym t.1) ∙ sym some.split ∙ are in
       let stands : IsNamed new edits held = subst IsNow t.0.is all.stands in
-      let L : List (Option (List ℕ)) → Type 0 = λ l. Answers MayAnswerHost l sessions held.sessions done.text in
-      let S : List Session → Type 0 = λ ss. Answers MayAnswerHost some.front sessions ss done.text in
-      record { text = done.text; answers = subst L front (subst S stands.sessions_are some.answers); sent = all.sent }
+      let L : List (Option (List ℕ)) → Type 0 = λ l. Answers MayAnswerHost followed_behind l watched (watched_of held) done.text in
+      let S : Watched → Type 0 = λ w. Answers MayAnswerHost followed_behind some.front watched w done.text in
+      record { text = done.text; answers = subst L front (subst S stands.watched_are some.answers); sent = all.sent }
 
   pub all_sends : {T E : Type 0} (answer : Result T E) (input : Option (List ℕ)) → OnOk answer (Runs DoesFrom (Any begin) (AreAll pieces pieces') IsNow input before now)
-      → OnOk answer (IfSome input (λ bytes. Sends MayAnswerHost (told bytes) sessions held.sessions before now))
+      → OnOk answer (IfSome input (λ bytes. Sends MayAnswerHost followed_behind (told bytes) watched (watched_of held) before now))
   all_sends {T} {E} (Ok v) None all = tt
   all_sends {T} {E} (Ok v) (Some input) all = sends_all input all
   all_sends {T} {E} (Err e) input all = tt

@@ -18,11 +18,11 @@ use Rattle.series_book.specs.declared.one_series.Series.{Series}
 use Rattle.served_lines.specs.Turning.{lines_of, pauses_of}
 use Rattle.stored_book.specs.Standing.{StandsForBook}
 use Rattle.zoom_session.specs.declared.session.Session.{Session}
-use Rattle.hosted_lines.specs.Answers.{Answers, MayAnswerHost, Sends}
+use Rattle.hosted_lines.specs.Answers.{Answers, MayAnswerHost, Sends, Watched, followed_behind}
 use Rattle.hosted_lines.specs.Doing.{Held, held_with}
 use Rattle.hosted_lines.specs.Groups.{GroupsBy}
 use Rattle.hosted_lines.specs.Hosting.{DoesHost}
-use Rattle.hosted_lines.specs.Standing.{Any, DoesFrom, IsNamed, LastsFrom, LeavesFrom, Named, Over, Stand, Stands, StopsFrom}
+use Rattle.hosted_lines.specs.Standing.{Any, DoesFrom, IsNamed, LastsFrom, LeavesFrom, Named, Over, Stand, Stands, StopsFrom, watched_of}
 use Rattle.hosted_lines.specs.Working.{Does, Hosted, IsHosted, KeepsNone}
 use Rattle.hosted_lines.proofs.AnswersLemmas.{answers_none}
 use Rattle.hosted_lines.proofs.WorkLemmas.{host_does, host_keeps, host_lacks, host_leaves, host_stops, none_kept, sound_of}
@@ -44,24 +44,24 @@ module _ (edits : List Edit) (told : Type 0) (view : View) (held : Held) (before
       over_one : (hosted : Hosted) → DoesOne Does (λ h. IsHosted h edits' told' view' held' now) hosted it before now → DoesOne DoesFrom IsNow (Over hosted) it before now
       over_one hosted d = record { text = d.text; behind = Over d.behind; done = d.done; stands = d.stands; sent = d.sent }
 
-      any_one : (named : Named) → IsNamed named edits held → Sends MayAnswerHost (named.ahead ++ lines_of it) held.sessions held'.sessions before now
+      any_one : (named : Named) → IsNamed named edits held → Sends MayAnswerHost followed_behind (named.ahead ++ lines_of it) (watched_of held) (watched_of held') before now
           → DoesOne DoesFrom IsNow (Any named) it before now
       any_one named is s =
           let front = named.ahead ++ lines_of it in
-          let S : List Session → Type 0 = λ ss. Answers MayAnswerHost front ss held'.sessions s.text in
+          let S : Watched → Type 0 = λ w. Answers MayAnswerHost followed_behind front w (watched_of held') s.text in
           record {
             text = s.text;
-            behind = Any (record { ahead = []; sessions = held'.sessions });
-            done = (record { front = front; split = sym (append-nil front); answers = subst S (sym is.sessions_are) s.answers }, none_kept it);
-            stands = record { spell = subst (SpellEdits []) (sym none) tt; sessions_are = refl };
+            behind = Any (record { ahead = []; watched = watched_of held' });
+            done = (record { front = front; split = sym (append-nil front); answers = subst S (sym is.watched_are) s.answers }, none_kept it);
+            stands = record { spell = subst (SpellEdits []) (sym none) tt; watched_are = refl };
             sent = s.sent;
           }
 
       pub stand_does : ((lines : List (Option (List ℕ))) → SpellEdits lines edits → GroupsBy (lines ++ lines_of it) 1 (pauses_of it)) → OnOk result (held'.pending ≡ [])
-          → ((lines : List (Option (List ℕ))) → SpellEdits lines edits → OnOk result (Sends MayAnswerHost (lines ++ lines_of it) held.sessions held'.sessions before now))
+          → ((lines : List (Option (List ℕ))) → SpellEdits lines edits → OnOk result (Sends MayAnswerHost followed_behind (lines ++ lines_of it) (watched_of held) (watched_of held') before now))
           → (stand : Stand) → Stands stand edits told view held before → OnOk result (DoesOne DoesFrom IsNow stand it before now)
       stand_does by idle sends (Any named) is =
-          ok_so result (Sends MayAnswerHost (named.ahead ++ lines_of it) held.sessions held'.sessions before now) (DoesOne DoesFrom IsNow (Any named) it before now)
+          ok_so result (Sends MayAnswerHost followed_behind (named.ahead ++ lines_of it) (watched_of held) (watched_of held') before now) (DoesOne DoesFrom IsNow (Any named) it before now)
           (λ s. any_one named is s) (sends named.ahead is.spell)
       stand_does by idle sends (Over hosted) is =
           ok_so result (DoesOne Does (λ h. IsHosted h edits' told' view' held' now) hosted it before now) (DoesOne DoesFrom IsNow (Over hosted) it before now) (λ d. over_one hosted d)
@@ -84,15 +84,15 @@ module _ (edits : List Edit) (told : Type 0) (view : View) (held : Held) (before
       → ((lines : List (Option (List ℕ))) → SpellEdits lines edits → SpellEdits (lines ++ more) edits') → (stand : Stand) → Stands stand edits told view held before
       → DoesOne DoesFrom (λ s. Stands s edits' told view held before) stand it before before
   stand_keeps more same keeps edits' spell (Any named) is =
-      let S : List Session → Type 0 = λ ss. Answers MayAnswerHost [] ss held.sessions [] in
+      let S : Watched → Type 0 = λ w. Answers MayAnswerHost followed_behind [] w (watched_of held) [] in
       record {
         text = [];
-        behind = Any (record { ahead = named.ahead ++ more; sessions = held.sessions });
+        behind = Any (record { ahead = named.ahead ++ more; watched = watched_of held });
         done = (
-          record { front = []; split = ap (λ l. named.ahead ++ l) same; answers = subst S (sym is.sessions_are) (answers_none MayAnswerHost held.sessions) },
+          record { front = []; split = ap (λ l. named.ahead ++ l) same; answers = subst S (sym is.watched_are) (answers_none MayAnswerHost followed_behind (watched_of held)) },
           keeps (named.ahead ++ more),
         );
-        stands = record { spell = spell named.ahead is.spell; sessions_are = refl };
+        stands = record { spell = spell named.ahead is.spell; watched_are = refl };
         sent = sent_none before;
       }
   stand_keeps more same keeps edits' spell (Over hosted) is =

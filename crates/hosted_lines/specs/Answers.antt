@@ -1,5 +1,5 @@
 -- Which frames may answer a line of a host, and what calls send for lines, whatever the pages are.
-use Rattle.std.specs.Prelude.{ℕ, ◌≡◌, List, All, Option, None, Some, ⊤}
+use Rattle.std.specs.Prelude.{ℕ, ◌≡◌, List, [], All, Option, None, Some, ⊤}
 use Rattle.block_disk.specs.Streams.{sent_after}
 use Rattle.block_disk.specs.declared.streams.Streams.{Ghosts as StreamGhosts}
 use Rattle.block_disk.specs.declared.streams.Streams as streams
@@ -18,8 +18,10 @@ use Rattle.host_lines.specs.Grammar.{host_line}
 use Rattle.host_lines.specs.declared.asked.HostLine.{HostLine}
 use Rattle.host_lines.specs.declared.asked.HostLine.TheVariants.{Sweep, Other}
 use Rattle.host_replies.specs.Replies.{MayReport}
-use Rattle.live_service.specs.Kinds.{AnswerWithPushes, MayAnswerBy, MayAnswerLive}
+use Rattle.live_service.specs.Kinds.{MayAnswerBy, MayAnswerLive}
+use Rattle.live_service.specs.Pushing.{AnswerFollowed, FollowedBy, followed_after}
 use Rattle.live_service.specs.Shown as its
+use Rattle.live_view.specs.Live as follows
 use Rattle.live_service.specs.declared.stepper.ServiceStepper.{ServiceStepper}
 use Rattle.live_view.specs.declared.live.Live.{Live}
 use Rattle.live_view.specs.declared.stepper.Stepper.{Ghosts as StepperGhosts}
@@ -46,33 +48,53 @@ abbrev pub MayAnswerHost : Option (List ℕ) → Frame → Type 0
 MayAnswerHost None frame = MayAnswerLine None frame
 MayAnswerHost (Some text) frame = MayAnswerAlone (host_line text) text frame
 
--- This text is the spellings of frames that answer the lines, with pushes. The fields of each meet their rules, it names
--- sessions that are open by those before it, and behind them all just these are open.
-pub record Answers (May : MayAnswerBy) (lines : List (Option (List ℕ))) (old new : List Session) (text : List ℕ) : Type 0 where
+-- the followed sessions behind a line that a frame answers, by what the line asks of the host alone: such a line leaves them
+abbrev pub followed_alone : HostLine → List ℕ → Frame → List ℕ → List ℕ
+followed_alone Other text frame followed = followed_after (Some text) frame followed
+followed_alone asked text frame followed = followed
+
+-- and behind a line: its text, or nothing where it is too long
+abbrev pub followed_behind : FollowedBy
+followed_behind None frame followed = followed
+followed_behind (Some text) frame followed = followed_alone (host_line text) text frame followed
+
+-- the open sessions, and the numbers of those that are followed
+pub record Watched : Type 0 where
+  pub sessions : List Session
+  pub followed : List ℕ
+
+-- This text is the spellings of frames that answer the lines, with pushes to the sessions that are followed then. The fields of
+-- each meet their rules, it names sessions that are open by those before it, and behind them all just these are open.
+pub record Answers (May : MayAnswerBy) (after : FollowedBy) (lines : List (Option (List ℕ))) (old new : Watched) (text : List ℕ) : Type 0 where
   pub frames : List Frame
   pub fits : All Fits frames
-  pub answers : AnswerWithPushes May lines frames
-  pub named : NameOpen (λ n. is_open n old) frames
-  pub open_now : (n : ℕ) → is_open n new ≡ opens_all frames n (is_open n old)
+  pub answers : AnswerFollowed May after lines old.followed frames new.followed
+  pub named : NameOpen (λ n. is_open n old.sessions) frames
+  pub open_now : (n : ℕ) → is_open n new.sessions ≡ opens_all frames n (is_open n old.sessions)
   pub text_is : text ≡ spelled frames
 
 -- such a text was sent
-pub record Sends (May : MayAnswerBy) (lines : List (Option (List ℕ))) (old new : List Session) (before now : Option (List ℕ)) : Type 0 where
+pub record Sends (May : MayAnswerBy) (after : FollowedBy) (lines : List (Option (List ℕ))) (old new : Watched) (before now : Option (List ℕ)) : Type 0 where
   pub text : List ℕ
-  pub answers : Answers May lines old new text
+  pub answers : Answers May after lines old new text
   pub sent : now ≡ sent_after text before
 
 -- The spellings of frames were sent, of which one answers each line of the input that isn't empty, in order, and all others are
--- pushes. The fields of each meet their rules, and it names sessions that those before it opened.
-pub record SendsAnswers (May : MayAnswerBy) (input : List ℕ) (before now : Option (List ℕ)) : Type 0 where
+-- pushes: each shows a view of a session that is followed by the lines before it. The fields of each meet their rules, and it
+-- names sessions that those before it opened.
+pub record SendsAnswers (May : MayAnswerBy) (after : FollowedBy) (input : List ℕ) (before now : Option (List ℕ)) : Type 0 where
   pub frames : List Frame
   pub fits : All Fits frames
-  pub answers : AnswerWithPushes May (told input) frames
+  pub followed : List ℕ
+  pub answers : AnswerFollowed May after (told input) [] frames followed
   pub named : NameOpened frames
   pub sent : now ≡ sent_after (spelled frames) before
 
 module _ {P : Type 0} {g : Ghosts P} {h : StepperGhosts (ServiceStepper P g) ServiceError} {beside : StreamGhosts (ServiceStepper P g)} where
+  -- the open sessions of a live service, and the followed ones
+  abbrev pub watched : Live (ServiceStepper P g) ServiceError h beside → Watched
+  watched it = record { sessions = shown.sessions (its.service it); followed = follows.followed it }
+
   -- what a call sends from one moment to another
-  abbrev pub SendsFor : streams.Ghosts P → MayAnswerBy → List (Option (List ℕ)) → Live (ServiceStepper P g) ServiceError h beside → Live (ServiceStepper P g) ServiceError h beside → Type 0
-  SendsFor told May lines old new =
-      Sends May lines (shown.sessions (its.service old)) (shown.sessions (its.service new)) (told.sent (pages old)) (told.sent (pages new))
+  abbrev pub SendsFor : streams.Ghosts P → MayAnswerBy → FollowedBy → List (Option (List ℕ)) → Live (ServiceStepper P g) ServiceError h beside → Live (ServiceStepper P g) ServiceError h beside → Type 0
+  SendsFor told May after lines old new = Sends May after lines (watched old) (watched new) (told.sent (pages old)) (told.sent (pages new))

@@ -6,15 +6,18 @@ use Rattle.line_runs.specs.Given.{Given}
 use Rattle.run_ends.specs.declared.ending.End.{End}
 use Rattle.series_book.specs.declared.edits.Edit.{Edit}
 use Rattle.served_lines.specs.Turning.{lines_of}
-use Rattle.zoom_session.specs.declared.session.Session.{Session}
-use Rattle.hosted_lines.specs.Answers.{Answers, MayAnswerHost}
+use Rattle.hosted_lines.specs.Answers.{Answers, MayAnswerHost, Watched, followed_behind}
 use Rattle.hosted_lines.specs.Doing.{Held}
 use Rattle.hosted_lines.specs.Working.{Does, Hosted, IsHosted, KeepsNone, Lasting, Leaves, Rests, Stops}
 
--- what is known whatever the pages are: the lines that are kept back, and the open sessions
+-- what is known whatever the pages are: the lines that are kept back, and the open and the followed sessions
 pub record Named : Type 0 where
   pub ahead : List (Option (List ℕ))
-  pub sessions : List Session
+  pub watched : Watched
+
+-- these of what a service holds beside its book
+abbrev pub watched_of : Held → Watched
+watched_of held = record { sessions = held.sessions; followed = held.followed }
 
 pub data Stand : Type 0 where
   Any : Named → Stand
@@ -23,7 +26,7 @@ pub data Stand : Type 0 where
 -- these are the sessions, and the lines kept back spell the edits that are
 pub record IsNamed (named : Named) (edits : List Edit) (held : Held) : Type 0 where
   pub spell : SpellEdits named.ahead edits
-  pub sessions_are : named.sessions ≡ held.sessions
+  pub watched_are : named.watched ≡ watched_of held
 
 abbrev pub Stands : Stand → List Edit → Type 0 → View → Held → Option (List ℕ) → Type 0
 Stands (Any named) edits told at held sent = IsNamed named edits held
@@ -33,7 +36,7 @@ Stands (Over hosted) edits told at held sent = IsHosted hosted edits told at hel
 pub record AnswersSome (old : Named) (lines : List (Option (List ℕ))) (text : List ℕ) (new : Named) : Type 0 where
   pub front : List (Option (List ℕ))
   pub split : old.ahead ++ lines ≡ front ++ new.ahead
-  pub answers : Answers MayAnswerHost front old.sessions new.sessions text
+  pub answers : Answers MayAnswerHost followed_behind front old.watched new.watched text
 
 abbrev pub DoesFrom : Stand → Given → List ℕ → Stand → Type 0
 DoesFrom (Any old) it text (Any new) = AnswersSome old (lines_of it) text new × KeepsNone it new.ahead

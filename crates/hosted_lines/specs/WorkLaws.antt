@@ -10,7 +10,7 @@ use Rattle.stored_book.specs.Standing.{StandsForBook}
 use Rattle.zoom_session.specs.declared.session.Session.{Session}
 use Rattle.hosted_lines.specs.Doing.{AreBeside, Goes, Held, Side}
 use Rattle.hosted_lines.specs.GoesLaws.{IsBeside, held_of, held_same, host_cause_later}
-use Rattle.hosted_lines.specs.Standing.{Any, DoesFrom, LastsFrom, Over, RestsFrom, Stand, Stands}
+use Rattle.hosted_lines.specs.Standing.{Any, DoesFrom, LastsFrom, Over, RestsFrom, Stand, Stands, watched_of}
 use Rattle.hosted_lines.specs.Working.{AreTold, CausesEnd, Hosted, IsFit, IsHosted}
 
 pub fit_kept : (old new : View) (pending pending' : List ℕ) (edits : List Edit) → DiskKept old new → pending' ≡ pending → IsFit old pending edits → IsFit new pending' edits
@@ -37,7 +37,7 @@ kept_so hosted edits told told' old new held held' before now more disk same uns
 pub stands_kept : (stand : Stand) (edits : List Edit) (told told' : Type 0) (old new : View) (held held' : Held) (before now : Option (List ℕ)) → (told → told') → DiskKept old new → held' ≡ held → now ≡ before
     → Stands stand edits told old held before → Stands stand edits told' new held' now
 stands_kept (Any named) edits told told' old new held held' before now more disk same unsent is =
-    record { spell = is.spell; sessions_are = is.sessions_are ∙ sym (ap (λ (h : Held). h.sessions) same) }
+    record { spell = is.spell; watched_are = is.watched_are ∙ sym (ap watched_of same) }
 stands_kept (Over hosted) edits told told' old new held held' before now more disk same unsent is =
     kept_so hosted edits told told' old new held held' before now more disk same unsent is
 

@@ -11,6 +11,7 @@ ghost use Rattle.live_service.specs.Kinds.{MayAnswerLive};
 ghost use Rattle.live_service.specs.Shown as its;
 ghost use Rattle.live_view.specs.Live as follows;
 ghost use Rattle.run_ends.specs.Faults.{end_fault};
+ghost use Rattle.live_service.specs.Pushing.{followed_after};
 ghost use Rattle.hosted_lines.specs.Answers.{SendsFor};
 ghost use Rattle.hosted_lines.specs.Doing.{DoesFor, FrameStops, Goes, IsCause, side_of, step_end};
 ghost use Rattle.hosted_lines.specs.Shown.{ForSound, pages};
@@ -72,7 +73,7 @@ pub fn refuse_line<P: PageWorld>(
     requires idle { follows.IsIdle live.old }
     ensures does { ForSound live.old (λ total book. DoesFor P.Streams (None ∷ []) total book result live.old live.new) }
     // whatever the pages are
-    ensures sends { OnOk result (SendsFor P.Streams MayAnswerLive (None ∷ []) live.old live.new) }
+    ensures sends { OnOk result (SendsFor P.Streams MayAnswerLive followed_after (None ∷ []) live.old live.new) }
     ensures goes { Goes (side_of P.Streams live.old) (side_of P.Streams live.new) }
     ensures cause { IfErr result (λ e. IsCause e (side_of P.Streams live.old) (side_of P.Streams live.new)) }
     ensures long { result ≢ Err End.InputTooLong }
@@ -96,7 +97,7 @@ fn answer_frame<P: PageWorld>(
     requires idle { follows.IsIdle live.old }
     requires short { length line.now ≤ 8192 }
     ensures does { ForSound live.old (λ total book. DoesFor P.Streams (Some line.now ∷ []) total book result live.old live.new) }
-    ensures sends { OnOk result (SendsFor P.Streams MayAnswerLive (Some line.now ∷ []) live.old live.new) }
+    ensures sends { OnOk result (SendsFor P.Streams MayAnswerLive followed_after (Some line.now ∷ []) live.old live.new) }
     ensures goes { Goes (side_of P.Streams live.old) (side_of P.Streams live.new) }
     ensures cause { IfErr result (λ e. IsCause e (side_of P.Streams live.old) (side_of P.Streams live.new)) }
     ensures long { result ≢ Err End.InputTooLong }
@@ -118,7 +119,7 @@ fn send_push<P: PageWorld>(alloc: Global, live: &mut Live<ServiceStepper<P>>) ->
     requires sound { (its.view live.old).fit }
     requires some { follows.IsIdle live.old → ⊥ }
     ensures does { ForSound live.old (λ total book. DoesFor P.Streams [] total book result live.old live.new) }
-    ensures sends { OnOk result (SendsFor P.Streams MayAnswerLive [] live.old live.new) }
+    ensures sends { OnOk result (SendsFor P.Streams MayAnswerLive followed_after [] live.old live.new) }
     ensures goes { Goes (side_of P.Streams live.old) (side_of P.Streams live.new) }
     ensures cause { IfErr result (λ e. IsCause e (side_of P.Streams live.old) (side_of P.Streams live.new)) }
     ensures long { result ≢ Err End.InputTooLong }
@@ -143,7 +144,7 @@ pub(crate) fn send_pushes<P: PageWorld>(
 ) -> Result<(), End>
     requires { (its.view live.old).fit }
     ensures does { ForSound live.old (λ total book. DoesFor P.Streams [] total book result live.old live.new) }
-    ensures sends { OnOk result (SendsFor P.Streams MayAnswerLive [] live.old live.new) }
+    ensures sends { OnOk result (SendsFor P.Streams MayAnswerLive followed_after [] live.old live.new) }
     ensures goes { Goes (side_of P.Streams live.old) (side_of P.Streams live.new) }
     ensures cause { IfErr result (λ e. IsCause e (side_of P.Streams live.old) (side_of P.Streams live.new)) }
     ensures long { result ≢ Err End.InputTooLong }
@@ -174,7 +175,7 @@ pub fn answer_line<P: PageWorld>(
     requires short { length line.now ≤ 8192 }
     ensures does { ForSound live.old (λ total book. DoesFor P.Streams (unless_empty (Some line.now)) total book result live.old live.new) }
     // whatever the pages are
-    ensures sends { OnOk result (SendsFor P.Streams MayAnswerLive (unless_empty (Some line.now)) live.old live.new) }
+    ensures sends { OnOk result (SendsFor P.Streams MayAnswerLive followed_after (unless_empty (Some line.now)) live.old live.new) }
     ensures goes { Goes (side_of P.Streams live.old) (side_of P.Streams live.new) }
     ensures cause { IfErr result (λ e. IsCause e (side_of P.Streams live.old) (side_of P.Streams live.new)) }
     ensures long { result ≢ Err End.InputTooLong }

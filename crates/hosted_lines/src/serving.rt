@@ -6,7 +6,7 @@ ghost use Rattle.chart_world.specs.Reading.{IsReadUp};
 ghost use Rattle.live_service.specs.Shown as its;
 ghost use Rattle.live_view.specs.Live as follows;
 ghost use Rattle.run_ends.specs.Faults.{end_fault};
-ghost use Rattle.hosted_lines.specs.Answers.{MayAnswerHost, SendsFor};
+ghost use Rattle.hosted_lines.specs.Answers.{MayAnswerHost, SendsFor, followed_behind};
 ghost use Rattle.hosted_lines.specs.Doing.{Goes, side_of};
 ghost use Rattle.hosted_lines.specs.HostCauses.{IsHostCause};
 ghost use Rattle.hosted_lines.specs.Input.{most_bytes};
@@ -41,7 +41,7 @@ pub fn host_lines<P: PageWorld>(alloc: Global, live: &mut Live<ServiceStepper<P>
     ensures costs { its.ForBook live.old (λ total book. CostsFew P.Streams total book live.old live.new) }
     // whatever the pages are
     // each frame names sessions that are open by those before it, and after `Done` one answers each line; the others are pushes
-    ensures answers { result ≡ End.Done → IfSome (P.left (pages live.old)) (λ input. SendsFor P.Streams MayAnswerHost (told input) live.old live.new) }
+    ensures answers { result ≡ End.Done → IfSome (P.left (pages live.old)) (λ input. SendsFor P.Streams MayAnswerHost followed_behind (told input) live.old live.new) }
     ensures whole { result ≡ End.Done → IsReadUp (P.left (pages live.old)) (P.left (pages live.new)) }
     ensures long { result ≡ End.InputTooLong → IfSome (P.left (pages live.old)) (λ input. most_bytes < length input) }
     ensures goes { Goes (side_of P.Streams live.old) (side_of P.Streams live.new) }

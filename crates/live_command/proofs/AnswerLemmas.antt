@@ -9,34 +9,34 @@ use Rattle.chart_world.specs.LineLaws.{lines_none, no_rest, piece_line, told_mor
 use Rattle.chart_world.specs.Lines.{is_line_feed}
 use Rattle.chart_world.specs.Reading.{Reading, told_lines, unread, unread_input}
 use Rattle.live_service.specs.Kinds.{MayAnswerLive}
-use Rattle.zoom_session.specs.declared.session.Session.{Session}
-use Rattle.hosted_lines.specs.Answers.{Sends}
+use Rattle.live_service.specs.Pushing.{followed_after}
+use Rattle.hosted_lines.specs.Answers.{Sends, Watched}
 use Rattle.hosted_lines.proofs.AnswersLemmas.{sends_both, sends_none}
 
 -- they are told by a front of the input, and the bytes left are behind it
-pub record Answered (input : List ℕ) (bytes : Option (List ℕ)) (given : ℕ) (old new : List Session) (before now : Option (List ℕ)) : Type 0 where
+pub record Answered (input : List ℕ) (bytes : Option (List ℕ)) (given : ℕ) (old new : Watched) (before now : Option (List ℕ)) : Type 0 where
   pub front : List ℕ
   pub rest : List ℕ
   pub begins : BeginsWith input front rest
   pub told_rest : bytes ≡ Some rest
   pub counted : given ≡ length front
-  pub sends : Sends MayAnswerLive (told front) old new before now
+  pub sends : Sends MayAnswerLive followed_after (told front) old new before now
 
-answered_first : (input : List ℕ) (r : Reading) (sessions : List Session) (before : Option (List ℕ)) → r ≡ unread_input → Answered input (unread r (Some input)) r.given sessions sessions before before
-answered_first input r sessions before fresh =
-    let P : Reading → Type 0 = λ x. Answered input (unread x (Some input)) x.given sessions sessions before before in
-    let L : List (Option (List ℕ)) → Type 0 = λ l. Sends MayAnswerLive l sessions sessions before before in
+answered_first : (input : List ℕ) (r : Reading) (at : Watched) (before : Option (List ℕ)) → r ≡ unread_input → Answered input (unread r (Some input)) r.given at at before before
+answered_first input r at before fresh =
+    let P : Reading → Type 0 = λ x. Answered input (unread x (Some input)) x.given at at before before in
+    let L : List (Option (List ℕ)) → Type 0 = λ l. Sends MayAnswerLive followed_after l at at before before in
     subst P (sym fresh) (record {
       front = [];
       rest = input;
       begins = record { split = refl; whole = inl (inl refl) };
       told_rest = refl;
       counted = refl;
-      sends = subst L (sym (ap (λ l. filter says l) lines_none)) (sends_none MayAnswerLive sessions before);
+      sends = subst L (sym (ap (λ l. filter says l) lines_none)) (sends_none MayAnswerLive followed_after at before);
     })
 
-module _ (input : List ℕ) (r r' : Reading) (left left' line : Option (List ℕ)) (gives : Gives r r' left left' line) (old mid new : List Session) (before between now : Option (List ℕ))
-    (sends : Sends MayAnswerLive (unless_empty line) mid new between now) (g : Answered input (unread r left) r.given old mid before between) where
+module _ (input : List ℕ) (r r' : Reading) (left left' line : Option (List ℕ)) (gives : Gives r r' left left' line) (old mid new : Watched) (before between now : Option (List ℕ))
+    (sends : Sends MayAnswerLive followed_after (unless_empty line) mid new between now) (g : Answered input (unread r left) r.given old mid before between) where
   it_passes : Passed input g.front g.rest (unread r' left') r'.given line
   it_passes = passes input g.front g.rest r r' left left' line g.told_rest g.counted g.begins gives
 
@@ -44,48 +44,48 @@ module _ (input : List ℕ) (r r' : Reading) (left left' line : Option (List ℕ
   answered_line =
       let piece = first_piece g.rest in
       let both : told (g.front ++ piece) ≡ told g.front ++ unless_empty line = told_more g.front piece line it_passes.whole (piece_line g.rest line it_passes.lines_are) in
-      let L : List (Option (List ℕ)) → Type 0 = λ l. Sends MayAnswerLive l old new before now in
+      let L : List (Option (List ℕ)) → Type 0 = λ l. Sends MayAnswerLive followed_after l old new before now in
       record {
         front = g.front ++ piece;
         rest = after_first is_line_feed g.rest;
         begins = it_passes.begins;
         told_rest = it_passes.told_rest;
         counted = it_passes.counted;
-        sends = subst L (sym both) (sends_both MayAnswerLive (told g.front) (unless_empty line) old mid new before between now g.sends sends);
+        sends = subst L (sym both) (sends_both MayAnswerLive followed_after (told g.front) (unless_empty line) old mid new before between now g.sends sends);
       }
 
 -- where no line is left, all are
-answered_all : (input : List ℕ) (bytes : Option (List ℕ)) (given : ℕ) (old new : List Session) (before now : Option (List ℕ)) → IfSome (told_lines bytes) (λ all. all ≡ [])
-    → Answered input bytes given old new before now → Sends MayAnswerLive (told input) old new before now
+answered_all : (input : List ℕ) (bytes : Option (List ℕ)) (given : ℕ) (old new : Watched) (before now : Option (List ℕ)) → IfSome (told_lines bytes) (λ all. all ≡ [])
+    → Answered input bytes given old new before now → Sends MayAnswerLive followed_after (told input) old new before now
 answered_all input bytes given old new before now none g =
     let P : Option (List ℕ) → Type 0 = λ b. IfSome (told_lines b) (λ all. all ≡ []) in
     let rest_none : g.rest ≡ [] = no_rest g.rest (subst P g.told_rest none) in
     let all : g.front ≡ input = sym (g.begins.split ∙ ap (λ l. g.front ++ l) rest_none ∙ append-nil g.front) in
-    let Q : List ℕ → Type 0 = λ i. Sends MayAnswerLive (told i) old new before now in
+    let Q : List ℕ → Type 0 = λ i. Sends MayAnswerLive followed_after (told i) old new before now in
     subst Q all g.sends
 
 -- ---- where the input is told
 
-abbrev pub FarAnswered : Option (List ℕ) → Option (List ℕ) → ℕ → List Session → List Session → Option (List ℕ) → Option (List ℕ) → Type 0
+abbrev pub FarAnswered : Option (List ℕ) → Option (List ℕ) → ℕ → Watched → Watched → Option (List ℕ) → Option (List ℕ) → Type 0
 FarAnswered o bytes given old new before now = IfSome o (λ input. Answered input bytes given old new before now)
 
-pub far_answered_first : (o : Option (List ℕ)) (r : Reading) (sessions : List Session) (before : Option (List ℕ)) → r ≡ unread_input → FarAnswered o (unread r o) r.given sessions sessions before before
-far_answered_first None r sessions before fresh = tt
-far_answered_first (Some input) r sessions before fresh = answered_first input r sessions before fresh
+pub far_answered_first : (o : Option (List ℕ)) (r : Reading) (at : Watched) (before : Option (List ℕ)) → r ≡ unread_input → FarAnswered o (unread r o) r.given at at before before
+far_answered_first None r at before fresh = tt
+far_answered_first (Some input) r at before fresh = answered_first input r at before fresh
 
-pub far_answered_kept : (o bytes : Option (List ℕ)) (given : ℕ) (old new new' : List Session) (before now now' : Option (List ℕ)) → new' ≡ new → now' ≡ now
+pub far_answered_kept : (o bytes : Option (List ℕ)) (given : ℕ) (old new new' : Watched) (before now now' : Option (List ℕ)) → new' ≡ new → now' ≡ now
     → FarAnswered o bytes given old new before now → FarAnswered o bytes given old new' before now'
 far_answered_kept o bytes given old new new' before now now' same unsent far =
-    let S : List Session → Type 0 = λ s. FarAnswered o bytes given old s before now' in
+    let S : Watched → Type 0 = λ s. FarAnswered o bytes given old s before now' in
     let N : Option (List ℕ) → Type 0 = λ n. FarAnswered o bytes given old new before n in
     subst S (sym same) (subst N (sym unsent) far)
 
-pub far_answered_line : (o : Option (List ℕ)) (r r' : Reading) (left left' line : Option (List ℕ)) → Gives r r' left left' line → (old mid new : List Session) (before between now : Option (List ℕ))
-    → Sends MayAnswerLive (unless_empty line) mid new between now → FarAnswered o (unread r left) r.given old mid before between → FarAnswered o (unread r' left') r'.given old new before now
+pub far_answered_line : (o : Option (List ℕ)) (r r' : Reading) (left left' line : Option (List ℕ)) → Gives r r' left left' line → (old mid new : Watched) (before between now : Option (List ℕ))
+    → Sends MayAnswerLive followed_after (unless_empty line) mid new between now → FarAnswered o (unread r left) r.given old mid before between → FarAnswered o (unread r' left') r'.given old new before now
 far_answered_line None r r' left left' line gives old mid new before between now sends far = tt
 far_answered_line (Some input) r r' left left' line gives old mid new before between now sends far = answered_line input r r' left left' line gives old mid new before between now sends far
 
-pub answered_far : (o bytes : Option (List ℕ)) (given : ℕ) (old new : List Session) (before now : Option (List ℕ)) → IfSome (told_lines bytes) (λ all. all ≡ []) → FarAnswered o bytes given old new before now
-    → IfSome o (λ input. Sends MayAnswerLive (told input) old new before now)
+pub answered_far : (o bytes : Option (List ℕ)) (given : ℕ) (old new : Watched) (before now : Option (List ℕ)) → IfSome (told_lines bytes) (λ all. all ≡ []) → FarAnswered o bytes given old new before now
+    → IfSome o (λ input. Sends MayAnswerLive followed_after (told input) old new before now)
 answered_far None bytes given old new before now none far = tt
 answered_far (Some input) bytes given old new before now none far = answered_all input bytes given old new before now none far

@@ -3,6 +3,7 @@ ghost use Rattle.std.specs.Prelude.{◌≡◌, ◌≢◌, ◌≤◌, ◌<◌, �
 ghost use Rattle.chart_service.specs.Serving.{told};
 ghost use Rattle.chart_world.specs.Faults.{CountsFault, fault_in};
 ghost use Rattle.chart_world.specs.Reading.{IsReadUp, unread_input};
+ghost use Rattle.live_service.specs.Pushing.{followed_after};
 ghost use Rattle.live_service.specs.Kinds.{MayAnswerLive};
 ghost use Rattle.live_service.specs.Shown as its;
 ghost use Rattle.live_view.specs.Live as follows;
@@ -38,7 +39,7 @@ pub fn serve_live<P: PageWorld>(alloc: Global, live: &mut Live<ServiceStepper<P>
     ensures syncs { IfSome (P.left (pages live.old)) (λ input. SyncsLines input (its.view live.old).syncs (its.view live.new).syncs) }
     // whatever the pages are
     // each frame names sessions that are open by those before it, and after `Done` one answers each line; the others are pushes
-    ensures answers { result ≡ End.Done → IfSome (P.left (pages live.old)) (λ input. SendsFor P.Streams MayAnswerLive (told input) live.old live.new) }
+    ensures answers { result ≡ End.Done → IfSome (P.left (pages live.old)) (λ input. SendsFor P.Streams MayAnswerLive followed_after (told input) live.old live.new) }
     ensures whole { result ≡ End.Done → IsReadUp (P.left (pages live.old)) (P.left (pages live.new)) }
     ensures long { result ≡ End.InputTooLong → IfSome (P.left (pages live.old)) (λ input. 2 ^ 32 < length input) }
     ensures goes { Goes (side_of P.Streams live.old) (side_of P.Streams live.new) }
@@ -71,7 +72,7 @@ fn answer_lines<P: PageWorld>(
     ensures crash { its.ForBook live.old (λ total book. LastsFor P.Streams total book live.old live.new) }
     ensures reads { its.ForBook live.old (λ total book. ReadsFew P.Streams total book live.old live.new) }
     ensures syncs { IfSome (P.left (pages live.old)) (λ input. SyncsLines input (its.view live.old).syncs (its.view live.new).syncs) }
-    ensures answers { OnOk result (IfSome (P.left (pages live.old)) (λ input. SendsFor P.Streams MayAnswerLive (told input) live.old live.new)) }
+    ensures answers { OnOk result (IfSome (P.left (pages live.old)) (λ input. SendsFor P.Streams MayAnswerLive followed_after (told input) live.old live.new)) }
     ensures whole { OnOk result (IsReadUp (P.left (pages live.old)) (P.left (pages live.new))) }
     ensures long { result ≡ Err End.InputTooLong → IfSome (P.left (pages live.old)) (λ input. 2 ^ 32 < length input) }
     ensures goes { Goes (side_of P.Streams live.old) (side_of P.Streams live.new) }

@@ -12,7 +12,8 @@ use Rattle.chart_service.specs.State.{State, IsSound}
 use Rattle.chart_world.specs.Fronts.{says}
 use Rattle.chart_world.specs.Lines.{split_lines, text_of, without_return, lines}
 use Rattle.drawn_replies.specs.Mirrors.{Mirrors, mirrored, DrawsTheBook, OnlyLacksMemory}
-use Rattle.live_service.specs.Following.{CanFollow, FollowsWell, ShowsView}
+use Rattle.live_service.specs.Following.{FollowsWell, ShowsView}
+use Rattle.live_view.specs.Following.{CanFollow}
 use Rattle.live_service.specs.LiveReplies.{LiveState, LiveReplied, Pushed}
 use Rattle.live_service.specs.Showing.{IsFirst}
 use Rattle.zoom_session.specs.declared.session.Session.{Session}

@@ -13,7 +13,8 @@ use Rattle.chart_service.specs.State.{State}
 use Rattle.chart_service.specs.ViewingLaws.{no_window}
 use Rattle.chart_service.specs.Viewing.{axis_of, range_spec}
 use Rattle.coefficient_cache.specs.Caches.{Cache}
-use Rattle.live_service.specs.Following.{CanFollow, FollowsWell, ShowsView}
+use Rattle.live_service.specs.Following.{FollowsWell, ShowsView}
+use Rattle.live_view.specs.Following.{CanFollow}
 use Rattle.live_service.specs.LiveReplies.{LiveState, LiveReplied, RepliesTo as LiveTo, AnswersItself, PassesOn, Pushed, changed_in}
 use Rattle.live_view.proofs.NumberLemmas.{with-all, rest-all, first-of-all}
 use Rattle.live_view.proofs.PassingLemmas.{followers-all}

@@ -1,5 +1,7 @@
 pub mod Replying
 pub mod KindLemmas
+pub mod CanKept
+pub mod PushLemmas
 pub mod Facts
 pub mod Grouping
 pub mod Followed

@@ -7,7 +7,8 @@ use Rattle.chart_service.specs.EditGroups.{RepliesToEdits, SpellsEdit}
 use Rattle.chart_service.specs.Replies.{Edits, RepliesTo}
 use Rattle.chart_service.specs.State.{State}
 use Rattle.chart_service.specs.Stepping.{RepliedTo}
-use Rattle.live_service.specs.Following.{CanFollow, FollowsWell}
+use Rattle.live_service.specs.Following.{FollowsWell}
+use Rattle.live_view.specs.Following.{CanFollow}
 use Rattle.live_service.specs.LiveReplies.{GroupReplied, LiveReplied, LiveState, PassesOn, RepliesTo as LiveTo, changed_by, changed_in}
 use Rattle.live_service.proofs.OneAnswer.{OneRequest, same_live}
 use Rattle.live_view.proofs.GroupLemmas.{group-all, group-of-one}

@@ -16,7 +16,9 @@ ghost use Rattle.chart_world.specs.Faults.{CountsFault, fault_in};
 ghost use Rattle.gate_pages.specs.Pages.{GoesOn};
 ghost use Rattle.live_service.specs.Kinds.{MayAnswerLive, MayPush};
 ghost use Rattle.live_service.specs.LiveReplies.{GroupReplied, LiveReplied, Pushed};
+ghost use Rattle.live_service.specs.Pushing.{followed_after};
 ghost use Rattle.live_service.specs.Shown as its;
+ghost use Rattle.live_view.specs.Following.{ShowsOneOf};
 ghost use Rattle.live_view.specs.Live as follows;
 ghost use Rattle.series_book.specs.Edits.{IsEdit};
 ghost use Rattle.series_store.specs.Results.{IsUnchanged};
@@ -46,6 +48,8 @@ pub fn step_line<P: PageWorld>(
     ensures fits { IfOk result Fits }
     // a frame is of the kind, and in the session, that its line asks for
     ensures may { IfOk result (λ frame. MayAnswerLive (line_text line.now) frame) }
+    // the sessions are followed that the lines and their frames say
+    ensures followed { IfOk result (λ frame. follows.followed live.new ≡ followed_after (line_text line.now) frame (follows.followed live.old)) }
     ensures opens { IfOk result (λ frame. OpensBy frame (shown.sessions (its.service live.old)) (shown.sessions (its.service live.new))) }
     ensures ended { IfErr result (λ error. follows.IsIdle live.new) }
     ensures unchanged { CommitsOnly result (its.service live.old) (its.service live.new) }
@@ -121,6 +125,9 @@ pub fn push<P: PageWorld>(live: &mut Live<ServiceStepper<P>>) -> Result<Option<F
     // whatever the pages are
     ensures fits { IfOk result (λ some. IfSome some Fits) }
     ensures may { IfOk result (λ some. IfSome some MayPush) }
+    // a push is no refusal: it shows a view of a followed session
+    ensures shows { IfOk result (λ some. IfSome some (ShowsOneOf (follows.followed live.old))) }
+    ensures followed { OnOk result (follows.followed live.new ≡ follows.followed live.old) }
     ensures opens { IfOk result (λ some. IfSome some (λ frame. OpensBy frame (shown.sessions (its.service live.old)) (shown.sessions (its.service live.new)))) }
     ensures moments { shown.PassesTo (Now (its.view live.old)) (its.service live.old) (its.service live.new) }
     ensures unchanged { IsUnchanged (shown.IsTold (its.service live.old)) (its.view live.old) (its.view live.new) }

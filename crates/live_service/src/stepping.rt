@@ -30,7 +30,10 @@ impl<P: PageWorld> Stepper for ServiceStepper<P> {
 
     ghost fails_edits = { λ old edits error new. LosesEdits edits error old.service new.service };
 
+    #[tactic(auto, using(crate::proofs::CanKept::line_goes, crate::proofs::CanKept::line_lost))]
     fn step_line(&mut self, line: &[u8]) -> Result<Frame, ServiceError> {
+        // It brings in what holds of the open sessions.
+        let _cache = self.service.cache(0);
         self.service.step_line(line)
     }
 
@@ -41,7 +44,10 @@ impl<P: PageWorld> Stepper for ServiceStepper<P> {
         }
     }
 
+    #[tactic(auto, using(crate::proofs::CanKept::own_goes, crate::proofs::CanKept::own_shows, crate::proofs::CanKept::line_lost))]
     fn repeat(&mut self, session: u32) -> Result<Frame, ServiceError> {
+        // It brings in what holds of the open sessions.
+        let _cache = self.service.cache(0);
         self.service.repeat(session)
     }
 

@@ -4,5 +4,6 @@ pub mod OpenLemmas
 pub mod PassingLemmas
 pub mod GroupLemmas
 pub mod SetLemmas
+pub mod CanLemmas
 pub mod BoundLemmas
 pub mod SpellingLemmas

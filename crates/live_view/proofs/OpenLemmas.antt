@@ -45,7 +45,7 @@ open-cache n (s ∷ ss) =
     ]
 
 -- a session that is open is found
-opens-found : (n : ℕ) (sessions : List Session) → is_some (session_of n sessions) ≡ is_open n sessions
+pub opens-found : (n : ℕ) (sessions : List Session) → is_some (session_of n sessions) ≡ is_open n sessions
 opens-found n [] = refl
 opens-found n (s ∷ ss) =
     elim (s.number == n) as (λ b. is_some (if b then Some s else session_of n ss) ≡ (b || is_open n ss)) [
@@ -68,11 +68,11 @@ open-alike old new ns same opened = λ k d below. same (get_or ns k d) ∙ opene
 
 -- the other numbers of a queue still have views
 pub views-stay : (old new : List Session) (ns rest : List ℕ) (n : ℕ) → IsStrictlyIncreasing ns → ns ≡ n ∷ rest
-    → ((m : ℕ) → m ≢ n → last_of (session_of m new) ≡ last_of (session_of m old)) → HaveViews old ns → HaveViews new rest
+    → ((m : ℕ) → m ≢ n → session_of m new ≡ session_of m old) → HaveViews old ns → HaveViews new rest
 views-stay old new ns rest n rising is others viewed = λ k d below.
     let P : List ℕ → Type 0 = λ l. IsStrictlyIncreasing l in
     let Q : List ℕ → Type 0 = λ l. HaveViews old l in
     let pairs = AllPairs-from_increasing (n ∷ rest) (subst P is rising) in
     let above : n < get_or rest k d = pairs 0 (suc k) d (omega arith) (omega (arith, below)) in
     let there : has_view (get_or rest k d) old ≡ true = subst Q is viewed (suc k) d (omega (arith, below)) in
-    ap is_some (others (get_or rest k d) (λ same. absurd (omega (arith, above, same)))) ∙ there
+    ap (λ o. is_some (last_of o)) (others (get_or rest k d) (λ same. absurd (omega (arith, above, same)))) ∙ there

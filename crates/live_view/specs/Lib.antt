@@ -3,6 +3,7 @@ pub mod Lines
 pub mod Meaning
 pub mod Sessions
 pub mod Replies
+pub mod Following
 pub mod Groups
 pub mod Live
 pub mod Laws

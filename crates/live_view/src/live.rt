@@ -1,6 +1,7 @@
 //! Sessions that follow their views.
 ghost use Rattle.std.specs.Prelude.{◌≡◌, ◌≤◌, [], length, IsTrue, ◌↔◌};
 ghost use Rattle.std.specs.List.Sorted.{IsStrictlyIncreasing};
+ghost use Rattle.live_view.specs.Following.{AreAble, AreAmong};
 ghost use Rattle.live_view.specs.Numbers.{ArePositive};
 ghost use Rattle.live_view.specs.Sessions.{AreOpen, HaveViews};
 
@@ -21,6 +22,8 @@ pub struct Live<S: Stepper> {
     ghost queue: { IsStrictlyIncreasing pending.items },
     ghost viewed: { HaveViews (S.sessions stepper) pending.items },
     ghost queued: { ArePositive pending.items },
+    ghost able: { AreAble (S.sessions stepper) followed.items },
+    ghost among: { AreAmong followed.items pending.items },
 }
 
 impl<S: Stepper> Live<S> {

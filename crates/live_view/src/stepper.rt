@@ -1,5 +1,5 @@
 //! What answers the lines of a live view's sessions.
-ghost use Rattle.std.specs.Prelude.{ℕ, ◌≡◌, ◌≢◌, ◌≤◌, ◌<◌, List, All, length, Option, Result, IfOk, IfErr, OnOk, IsTrue};
+ghost use Rattle.std.specs.Prelude.{ℕ, ◌≡◌, ◌≢◌, ◌≤◌, ◌<◌, List, All, length, Option, None, Result, IfOk, IfErr, OnErr, OnOk, IsTrue};
 ghost use Rattle.std.specs.Option.{option_copied};
 ghost use Rattle.chart_frames.specs.declared.frame.Frame.{Frame};
 ghost use Rattle.chart_frames.specs.Frames.{Fits};
@@ -7,6 +7,9 @@ ghost use Rattle.series_book.specs.declared.edits.Edit.{Edit};
 ghost use Rattle.series_book.specs.Edits.{IsEdit};
 ghost use Rattle.zoom_session.specs.declared.session.Session.{Session};
 ghost use Rattle.zoom_session.specs.Sessions.{session_of, last_of, cache_of, AreSessions};
+ghost use Rattle.live_view.specs.Following.{CanFollow, GoOnFollowing, ShowsOf, StayWhereOpen};
+ghost use Rattle.live_view.specs.Meaning.{meaning_of};
+ghost use Rattle.live_view.specs.Replies.{ended};
 ghost use Rattle.live_view.specs.Sessions.{has_view, OpensBy, AreOpenAlike};
 
 use block_disk::Streams;
@@ -46,6 +49,8 @@ pub trait Stepper: Streams {
         ensures reply { replies self.old line.now result self.new }
         ensures fits { IfOk result Fits }
         ensures opens { IfOk result (λ frame. OpensBy frame (sessions self.old) (sessions self.new)) }
+        ensures goes { IfOk result (λ frame. GoOnFollowing (ended (meaning_of line.now) frame) (sessions self.old) (sessions self.new)) }
+        ensures lost { OnErr result (StayWhereOpen (sessions self.old) (sessions self.new)) }
         ensures fit { OnOk result (fit self.new) };
 
     /// Does 1 to 64 edits together, and answers each by its frame. The sessions stay.
@@ -61,7 +66,8 @@ pub trait Stepper: Streams {
         ensures same_sessions { sessions self.new ≡ sessions self.old }
         ensures fit { OnOk result (fit self.new) };
 
-    /// Answers a zoom of a session to the window of its own last view. Other sessions keep their last views.
+    /// Answers a zoom of a session to the window of its own last view. Other sessions stay. Where the session can follow,
+    /// the frame shows its view.
     fn repeat(&mut self, session: u32) -> Result<Frame, Self::Fault>
         requires fit { fit self.old }
         requires number { 1 ≤ session }
@@ -69,7 +75,10 @@ pub trait Stepper: Streams {
         ensures reply { repeats self.old session result self.new }
         ensures fits { IfOk result Fits }
         ensures same_open { OnOk result (AreOpenAlike (sessions self.old) (sessions self.new)) }
-        ensures others { (n : ℕ) → n ≢ session → last_of (session_of n (sessions self.new)) ≡ last_of (session_of n (sessions self.old)) }
+        ensures others { (n : ℕ) → n ≢ session → session_of n (sessions self.new) ≡ session_of n (sessions self.old) }
+        ensures shows { CanFollow (sessions self.old) session → IfOk result (ShowsOf session) }
+        ensures goes { OnOk result (GoOnFollowing None (sessions self.old) (sessions self.new)) }
+        ensures lost { OnErr result (StayWhereOpen (sessions self.old) (sessions self.new)) }
         ensures fit { OnOk result (fit self.new) };
 
     /// The view that a session was answered last. It is `None` where the session isn't open, or has had no

@@ -1,6 +1,7 @@
 //! Lines are answered, and frames pushed.
 ghost use Rattle.std.specs.Prelude.{◌≡◌, ◌↔◌, Ok, None, IfOk, IfErr, IfSome, IfNone, OnOk};
 ghost use Rattle.chart_frames.specs.Frames.{Fits};
+ghost use Rattle.live_view.specs.Following.{ShowsOneOf};
 ghost use Rattle.live_view.specs.declared.live_lines.LiveLine.TheVariants.{Other};
 ghost use Rattle.live_view.specs.Lines.{live_line};
 
@@ -69,6 +70,7 @@ impl<S: Stepper> Live<S> {
         ensures none { (result ≡ Ok None) ↔ live.IsIdle self.old }
         ensures unchanged { IfOk result (λ some. IfNone some (live.Stays self.old self.new)) }
         ensures pushes { IfOk result (λ some. IfSome some (λ frame. live.Pushes frame self.old self.new)) }
+        ensures shows { IfOk result (λ some. IfSome some (ShowsOneOf (live.followed self.old))) }
         ensures fits { IfOk result (λ some. IfSome some Fits) }
         ensures fails { IfErr result (λ fault. live.PushFails fault self.old self.new) }
         ensures fit { OnOk result (S.fit self.new.stepper) }

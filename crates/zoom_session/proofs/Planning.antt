@@ -1,5 +1,5 @@
 -- What a plan of the session of a number is, from what the plan of its keys is.
-use Rattle.std.proofs.Common.{◌≡◌, ℕ, ℤ, List, get_or, Option, Some, subst, sym}
+use Rattle.std.proofs.Common.{◌≡◌, ◌≤◌, ℕ, ℤ, List, length, get_or, Option, Some, subst, sym, arith}
 use Rattle.std.specs.Prelude.{All, Result, Ok, Err, IfOk, IfErr, OnOk}
 use Rattle.chart_grid.specs.declared.axis.Axis.{Axis}
 use Rattle.chart_grid.specs.declared.grid.Grid.{Grid}
@@ -12,7 +12,7 @@ use Rattle.needed_nodes.specs.declared.scan_of.ScanOf.{ScanOf}
 use Rattle.needed_nodes.specs.declared.scan_of.ScanOf.TheVariants as scan
 use Rattle.zoom_session.specs.Planned.{Plan}
 use Rattle.zoom_session.specs.Places.{IsPlaceOf}
-use Rattle.zoom_session.specs.Plans.{AreNeeded, IsPlan, PlansIn, HasEntries, IsTooLarge, RefusesPlan, CountsNeeded, plan_error_of}
+use Rattle.zoom_session.specs.Plans.{AreNeeded, IsPlan, PlansIn, HasEntries, IsTooLarge, RefusesPlan, CountsNeeded, NeedsAtMost, plan_error_of}
 use Rattle.zoom_session.specs.Sessions.{session_of}
 use Rattle.zoom_session.specs.declared.session.Session.{Session}
 use Rattle.zoom_session.specs.declared.errors.PlanError.{PlanError}
@@ -72,3 +72,17 @@ counted s list axis grid lo hi keys NoMemory each large = tt
 pub counts_needed : (s : Session) (list : List (Option ℤ)) (axis : Axis) (grid : Grid) (lo hi : ℤ) (keys : List (Key × Coef)) (r : Result Plan PlanError) → AreNeeded list axis grid lo hi keys → IfErr r (IsTooLarge s keys) → IfErr r (CountsNeeded list axis grid lo hi)
 counts_needed s list axis grid lo hi keys (Ok plan) each large = tt
 counts_needed s list axis grid lo hi keys (Err error) each large = counted s list axis grid lo hi keys error each large
+
+-- no more keys are needed than there were
+pub walk_few : (most : ℕ) (error : ScanOf) → NeedsAtMost most (plan_error_of error)
+walk_few most (scan.Node error) = tt
+walk_few most scan.NoMemory = tt
+
+few_large : (s : Session) (keys : List (Key × Coef)) (most : ℕ) (error : PlanError) → length keys ≤ most → IsTooLarge s keys error → NeedsAtMost most error
+few_large s keys most (TooLarge needed cache) few large = omega (arith, few, large.1)
+few_large s keys most (Node error) few large = tt
+few_large s keys most NoMemory few large = tt
+
+pub keys_few : (s : Session) (keys : List (Key × Coef)) (most : ℕ) (r : Result Plan PlanError) → length keys ≤ most → IfErr r (IsTooLarge s keys) → IfErr r (NeedsAtMost most)
+keys_few s keys most (Ok plan) few large = tt
+keys_few s keys most (Err error) few large = few_large s keys most error few large

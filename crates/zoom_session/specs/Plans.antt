@@ -74,6 +74,12 @@ CountsNeeded list axis grid lo hi (TooLarge needed cache) = (keys : List (Key ×
 CountsNeeded list axis grid lo hi (Node error) = ⊤
 CountsNeeded list axis grid lo hi NoMemory = ⊤
 
+-- a view that is too large needs at most so many keys
+abbrev pub NeedsAtMost : ℕ → PlanError → Type 0
+NeedsAtMost most (TooLarge needed cache) = needed ≤ most
+NeedsAtMost most (Node error) = ⊤
+NeedsAtMost most NoMemory = ⊤
+
 -- what an error of the walk is for a plan
 abbrev pub plan_error_of : ScanOf → PlanError
 plan_error_of (scan.Node error) = Node error

@@ -3,8 +3,9 @@ use Rattle.std.proofs.lemmas.Int.{to_z-of_z}
 use Rattle.om3_coeff.specs.declared.errors.NodeError.TheVariants.{DiskFault}
 use Rattle.om3_coeff.specs.View.{NodesView, StaysSame}
 use Rattle.om3_coeff.proofs.WalkLemmas.{still_agrees}
+use Rattle.needed_nodes.specs.Answers.{most_needed}
 use Rattle.tree_walk.proofs.StepLemmas.{error_so}
-use Rattle.zoom_session.specs.Plans.{AreNeeded, CountsNeeded}
+use Rattle.zoom_session.specs.Plans.{AreNeeded, CountsNeeded, NeedsAtMost}
 use Rattle.zoom_session.specs.Sessions.{session_of}
 use Rattle.zoom_session.specs.declared.errors.PlanError.{PlanError}
 use Rattle.zoom_session.specs.declared.errors.PlanError.TheVariants.{Node}
@@ -117,3 +118,8 @@ returns-clause-root g c =
     g.met.N.Nodes.keeps_same c.args.nodes.now c.plan_view.new.nodes
     (g.met.N.Nodes.keeps_on c.args.nodes.now c.shown_range.new.nodes c.plan_view.new.nodes c.shown_range.ensures.kept c.plan_view.ensures.kept) in
     c.root-root.ensures.root ∙ all.root
+
+pub returns-in_err-plan-clause-large : goal.returns-in_err-plan-clause-large
+returns-in_err-plan-clause-large g c =
+    let P : PlanError → Type 0 = NeedsAtMost (most_needed c.args.spec.now.grid.w c.args.axis.slots) in
+    error_so (λ (e : PlanError). e ≡ c.in_err-plan.field-0.0) P c.from_residual.result c.from_residual.ensures.1 (λ e is. subst P (sym is) c.in_err-plan.ensures.large)

@@ -10,6 +10,8 @@ use Rattle.store_commands.proofs.Stores.{store_disk, store_sound}
 use Rattle.demo_workload.specs.Answered.{Answered}
 use Rattle.demo_workload.specs.Ending.{CostsRequests}
 use Rattle.store_commands.proofs.Held.{rests_new}
+use Rattle.demo_workload.specs.Reading.{ReadsRequests}
+use Rattle.demo_workload.proofs.DemoReads.{few_over}
 use Rattle.demo_workload.proofs.DemoRequests.{answered_by}
 use Rattle.demo_workload.proofs.demo.answer_all.Goals as goal
 
@@ -54,3 +56,14 @@ returns-clause-costs g c =
     let R : ℕ → Type 0 = λ n. CostsRequests (length (workload c.args.seed n)) old (view (shown.pages after).disk) in
     let D : g.row.W.Denot → Type 0 = λ d. CostsRequests (length (workload c.args.seed c.args.rounds)) old (view d) in
     subst D (sym same_disk) (subst R c.from.ensures (record { syncs = made.syncs; writes = made.writes }))
+
+pub returns-clause-reads : goal.returns-clause-reads
+returns-clause-reads g c =
+    let view = g.W.Disk.view in
+    let pages = shown.pages c.args.service in
+    let after = c.run_workload-answer.new.service in
+    let same_disk = c.disk_of.ensures.disk ∙ store_disk c.into_store.result after.store c.into_store.ensures in
+    let rests = rests_new pages.count (view pages.disk) (shown.numbers c.args.service) (pages.at_rest c.requires.sound) (c.args.service.store.space.spelled c.requires.sound) in
+    let R : ℕ → Type 0 = λ n. ReadsRequests (workload c.args.seed n) pages.count (view pages.disk) (view (shown.pages after).disk) in
+    let D : g.row.W.Denot → Type 0 = λ d. ReadsRequests (workload c.args.seed c.args.rounds) pages.count (view pages.disk) (view d) in
+    subst D (sym same_disk) (subst R c.from.ensures (few_over (workload c.args.seed c.from.result) pages.count (view pages.disk) (view (shown.pages after).disk) rests c.run_workload-answer.ensures.reads))

@@ -9,6 +9,9 @@ use Rattle.demo_workload.specs.Answered.{Answered}
 use Rattle.demo_workload.specs.Ending.{CostsRequests}
 use Rattle.demo_workload.proofs.DemoRequests.{answered_none}
 use Rattle.demo_workload.proofs.Moved.{costs_none}
+use Rattle.demo_workload.specs.Reading.{ReadsRequests}
+use Rattle.series_store.specs.declared.store.Store.{Store}
+use Rattle.demo_workload.proofs.DemoReads.{few_none}
 use Rattle.demo_workload.proofs.demo.answer_store.Goals as goal
 
 pub returns-in-Err-clause-answered : goal.returns-in-Err-clause-answered
@@ -35,3 +38,18 @@ returns-in-Err-clause-costs g c =
     let requests = length (workload c.args.seed c.args.rounds) in
     let D : g.row.W.Denot → Type 0 = λ d. CostsRequests requests old (view d) in
     subst D (sym (c.disk_of.ensures.disk ∙ store_disk c.in-Err.field-0.value c.args.store c.in-Err.ensures.back)) (costs_none requests old)
+
+pub returns-in-Err-clause-reads : goal.returns-in-Err-clause-reads
+returns-in-Err-clause-reads g c =
+    let view = g.W.Disk.view in
+    let pages = shown.pages c.args.store in
+    let requests = workload c.args.seed c.args.rounds in
+    let D : g.row.W.Denot → Type 0 = λ d. ReadsRequests requests pages.count (view pages.disk) (view d) in
+    subst D (sym (c.disk_of.ensures.disk ∙ store_disk c.in-Err.field-0.value c.args.store c.in-Err.ensures.back)) (few_none requests pages.count (view pages.disk))
+
+pub returns-in-Ok-clause-reads : goal.returns-in-Ok-clause-reads
+returns-in-Ok-clause-reads g c =
+    let view = g.W.Disk.view in
+    let requests = workload c.args.seed c.args.rounds in
+    let S : Store _ _ → Type 0 = λ s. ReadsRequests requests (shown.pages s).count (view (shown.pages s).disk) (view c.answer_all.result.1) in
+    subst S c.in-Ok.ensures.store c.answer_all.ensures.reads

@@ -10,6 +10,7 @@ use Rattle.store_commands.specs.Faulting.{counts_unopened_end}
 use Rattle.demo_workload.specs.Summaries.{summary_line}
 use Rattle.demo_workload.specs.Workload.{workload}
 use Rattle.demo_workload.proofs.DemoRequests.{answered_opened}
+use Rattle.demo_workload.proofs.DemoReads.{reads_behind}
 use Rattle.demo_workload.proofs.DemoSent.{sent_ends}
 use Rattle.demo_workload.proofs.DemoEnds.{again_answered, costs_behind, undemonstrated, stopped_ends}
 use Rattle.std.specs.Prelude.{◌≤◌}
@@ -39,6 +40,7 @@ returns-in-Ok-answer-clause-ends g c =
     (sym (w.beside_send_faults mid) ∙ ap (λ (b : Beside). b.send_faults) a.beside ∙ w.beside_send_faults old)
     (c.send_text.ensures.sends (summary_line summary) c.line.ensures)
     (costs_behind c.args.seed c.args.rounds (view old) (view opened.disk) (view mid) c.in-Ok.ensures.opens c.answer_store-answer.ensures.costs)
+    (reads_behind c.args.seed c.args.rounds opened.count (view old) (view opened.disk) (view mid) c.in-Ok.ensures.count c.in-Ok.ensures.opens c.answer_store-answer.ensures.reads)
 
 pub returns-in-Err-answer-clause-ends : goal.returns-in-Err-answer-clause-ends
 returns-in-Err-answer-clause-ends g c =
@@ -54,6 +56,7 @@ returns-in-Err-answer-clause-ends g c =
     stopped_ends c.args.seed c.args.rounds (view old) (view new) (sent old) (sent new) (sends old) (sends new) end a
     (sym (w.beside_sent new) ∙ ap (λ (b : Beside). b.sent) a.beside ∙ w.beside_sent old)
     (costs_behind c.args.seed c.args.rounds (view old) (view opened.disk) (view new) c.in-Ok.ensures.opens c.answer_store-answer.ensures.costs)
+    (reads_behind c.args.seed c.args.rounds opened.count (view old) (view opened.disk) (view new) c.in-Ok.ensures.count c.in-Ok.ensures.opens c.answer_store-answer.ensures.reads)
 
 pub returns-in-Err-clause-ends : goal.returns-in-Err-clause-ends
 returns-in-Err-clause-ends g c =

@@ -1,4 +1,4 @@
-use Rattle.std.proofs.Common.{◌≡◌, ◌+◌, ◌≤◌, suc, [], ◌∷◌, None, length, refl, ap, ◌∙◌, arith}
+use Rattle.std.proofs.Common.{◌≡◌, ◌+◌, ◌≤◌, suc, [], ◌∷◌, None, length, refl, sym, ap, subst, ◌∙◌, arith}
 use Rattle.block_disk.proofs.Passing.{passes_none}
 use Rattle.chart_world.specs.FaultLaws.{counts_then}
 use Rattle.gate_pages.specs.Pages.{Quiet}
@@ -7,8 +7,10 @@ use Rattle.chart_service.specs.Stepping.{state_of}
 use Rattle.chart_service.specs.Shown as shown
 use Rattle.run_ends.specs.declared.ending.End.TheVariants.{DiskFault}
 use Rattle.run_ends.specs.Faults.{end_fault}
+use Rattle.demo_workload.specs.Reading.{most_reads}
 use Rattle.demo_workload.specs.Workload.{workload}
 use Rattle.demo_workload.specs.Replying.{IsPartWay}
+use Rattle.demo_workload.proofs.FewReads.{AreOfDemo, of_left, of_workload, reads_most, reads_on}
 use Rattle.demo_workload.proofs.Rounds.{few_requests}
 use Rattle.demo_workload.proofs.Replies.{starts, nothing_done, next_reaches, reaches_more, reached_part, reached_all, next_part, accepted_none, accepted_more}
 use Rattle.demo_workload.proofs.Knowing.{knows_none}
@@ -41,6 +43,8 @@ requests-init g c = record {
   moments = λ total book told stands.
       passes_none (shown.view c.args.service.now) (IsPartWay (workload c.args.seed c.args.count) total (state_of book total []))
       (Quiet (shown.view c.args.service.now));
+  are = subst AreOfDemo (sym c.new-workload.ensures) (of_workload c.args.seed c.args.count);
+  reads = λ total book told stands. omega (arith, ap most_reads c.new-workload.ensures);
   faults = refl;
   runs = runs_none (shown.IsTold c.args.service.now) (shown.view c.args.service.now);
   goes_on = goes_none (shown.under c.args.service.now);
@@ -104,6 +108,11 @@ requests-preserved g c =
           let r = next_reaches (workload c.args.seed c.args.count) c.requests.workload c.next.new.self c.in-Some.request total (state_of book total []) (shown.image c.requests.service) c.requests.service.sessions c.requests.client c.requests.summary is (c.requests.invariant.reaches total book told stands) in
           moments_more (workload c.args.seed c.args.count) c.next.new.self c.in-Some.request total (state_of book total []) (shown.view c.args.service.now) (shown.view c.requests.service) (shown.view c.answer-answered.new.service) c.requests.service.sessions c.requests.client c.requests.summary r
           (c.requests.invariant.moments total book told stands) (c.in-Ok-answered.ensures.moments total r.book (c.requests.invariant.runs.told told) r.stands);
+      are = of_left c.requests.workload c.next.new.self c.in-Some.request is c.requests.invariant.are;
+      reads = λ total book told stands.
+          let r = c.requests.invariant.reaches total book told stands in
+          reads_on (shown.view c.args.service.now).reads (shown.view c.requests.service).reads (shown.view c.answer-answered.new.service).reads (most_reads (workload c.args.seed c.args.count)) c.requests.workload c.next.new.self c.in-Some.request r.book c.requests.service.sessions is c.requests.invariant.are
+          (c.requests.invariant.reads total book told stands) (c.in-Ok-answered.ensures.reads total r.book (c.requests.invariant.runs.told told) r.stands);
       faults = counts_then None (shown.view c.args.service.now) (shown.view c.requests.service) (shown.view c.answer-answered.new.service) c.requests.invariant.faults c.in-Ok-answered.ensures.faults;
       runs = runs_on (shown.IsTold c.args.service.now) (shown.IsTold c.requests.service) (shown.IsTold c.answer-answered.new.service)
           (shown.view c.args.service.now) (shown.view c.requests.service) (shown.view c.answer-answered.new.service) c.requests.invariant.runs c.in-Ok-answered.ensures.steps;
@@ -141,3 +150,25 @@ returns-in-Err-clause-costs g c =
     let some : length c.requests.workload ≡ suc (length c.next.new.self) = ap length is in
     costs_on (shown.IsTold c.requests.service) (shown.IsTold c.answer-answered.new.service) c.requests.summary.requests (length (workload c.args.seed c.args.count)) (shown.view c.args.service.now) (shown.view c.requests.service) (shown.view c.answer-answered.new.service)
     (omega (arith, was, some)) c.requests.invariant.costs c.in-Err.ensures.steps
+
+pub returns-in_default-clause-reads : goal.returns-in_default-clause-reads
+returns-in_default-clause-reads g c = λ total book told stands. omega arith
+
+pub returns-in_default-next-clause-reads : goal.returns-in_default-next-clause-reads
+returns-in_default-next-clause-reads g c = λ total book told stands.
+    reads_most (shown.view c.args.service.now).reads (shown.view c.requests.service).reads (most_reads (workload c.args.seed c.args.count)) (most_reads c.requests.workload) (c.requests.invariant.reads total book told stands)
+
+pub returns-in_default-next-2-clause-reads : goal.returns-in_default-next-2-clause-reads
+returns-in_default-next-2-clause-reads g c = λ total book told stands.
+    reads_most (shown.view c.args.service.now).reads (shown.view c.requests.service).reads (most_reads (workload c.args.seed c.args.count)) (most_reads c.requests.workload) (c.requests.invariant.reads total book told stands)
+
+pub returns-in-Err-clause-reads : goal.returns-in-Err-clause-reads
+returns-in-Err-clause-reads g c = λ total book told stands.
+    let is : c.requests.workload ≡ c.in-Some.request ∷ c.next.new.self = given_some c.in-Ok-next.next c.in-Some.request _ _ c.in-Ok-next.ensures.given c.in-Some.is in
+    let r = c.requests.invariant.reaches total book told stands in
+    let most = most_reads (workload c.args.seed c.args.count) in
+    let old = (shown.view c.args.service.now).reads in
+    let new = (shown.view c.answer-answered.new.service).reads in
+    reads_most old new most (most_reads c.next.new.self)
+    (reads_on old (shown.view c.requests.service).reads new most c.requests.workload c.next.new.self c.in-Some.request r.book c.requests.service.sessions is c.requests.invariant.are
+    (c.requests.invariant.reads total book told stands) (c.in-Err.ensures.reads total r.book (c.requests.invariant.runs.told told) r.stands))

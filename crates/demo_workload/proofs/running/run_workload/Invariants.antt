@@ -7,10 +7,12 @@ use Rattle.stored_book.specs.Standing.{StandsForBook}
 use Rattle.chart_service.specs.Stepping.{state_of}
 use Rattle.chart_service.specs.Shown as shown
 use Rattle.demo_workload.specs.Workload.{workload}
+use Rattle.demo_workload.specs.Reading.{most_reads}
 use Rattle.demo_workload.specs.Summaries.{IsSmall}
 use Rattle.demo_workload.specs.Replying.{IsPartWay}
 use Rattle.demo_workload.specs.Ending.{CostsRequests, Runs}
 use Rattle.demo_workload.specs.Answering.{KnowsOpen, HasAccepted, Reaches}
+use Rattle.demo_workload.proofs.FewReads.{AreOfDemo}
 use Rattle.demo_workload.proofs.running.run_workload.Given as goal
 
 -- the requests so far are answered
@@ -27,6 +29,9 @@ invariant-requests g l = record {
       → Reaches (workload l.fn.seed l.fn.count) l.workload total (state_of book total []) (shown.image l.service) l.service.sessions l.client l.summary;
   moments : (total : ℕ) (book : List Series) → shown.IsTold l.fn.service → StandsForBook (shown.image l.fn.service) total book
       → Passes (shown.view l.fn.service) (shown.view l.service) (IsPartWay (workload l.fn.seed l.fn.count) total (state_of book total [])) (Quiet (shown.view l.fn.service));
+  are : AreOfDemo l.workload;
+  reads : (total : ℕ) (book : List Series) → shown.IsTold l.fn.service → StandsForBook (shown.image l.fn.service) total book
+      → (shown.view l.service).reads + most_reads l.workload ≤ (shown.view l.fn.service).reads + most_reads (workload l.fn.seed l.fn.count);
   faults : CountsFault None (shown.view l.fn.service) (shown.view l.service);
   runs : Runs (shown.IsTold l.fn.service) (shown.IsTold l.service) (shown.view l.fn.service) (shown.view l.service);
   goes_on : GoesOn (shown.under l.fn.service) (shown.under l.service);

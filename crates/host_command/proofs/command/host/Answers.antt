@@ -11,7 +11,7 @@ use Rattle.store_commands.specs.Faulting.{counts_unopened_end}
 use Rattle.store_commands.specs.Traffic.{Traffic, traffic}
 use Rattle.host_command.specs.Ended.{HostEnds}
 use Rattle.host_command.proofs.DiskLemmas.{costs_on, costs_unopened, host_ends, unopened_ends, opening_done}
-use Rattle.hosted_lines.specs.Answers.{MayAnswerHost}
+use Rattle.hosted_lines.specs.Answers.{MayAnswerHost, followed_behind}
 use Rattle.hosted_lines.proofs.AnswersLemmas.{answers_over}
 use Rattle.host_command.proofs.command.host.Goals as goal
 
@@ -92,7 +92,7 @@ returns-in-Ok-clause-answers g c =
     let start = (stored.pages c.in-Ok.store).disk in
     let w = g.met.W.World in
     let beside = c.in-Ok.ensures.opens.beside_is in
-    λ done. answers_over MayAnswerHost (left start) (left old) (sent start) (sent old) (sent c.serve_store.result.1) (sym (w.beside_left start) ∙ ap (λ (b : Beside). b.left) beside ∙ w.beside_left old)
+    λ done. answers_over MayAnswerHost followed_behind (left start) (left old) (sent start) (sent old) (sent c.serve_store.result.1) (sym (w.beside_left start) ∙ ap (λ (b : Beside). b.left) beside ∙ w.beside_left old)
     (sym (w.beside_sent start) ∙ ap (λ (b : Beside). b.sent) beside ∙ w.beside_sent old) (c.serve_store.ensures.answers done)
 
 pub returns-in-Err-clause-answers : goal.returns-in-Err-clause-answers

@@ -20,7 +20,7 @@ use Rattle.hosted_lines.proofs.DiskSides.{begins_so}
 use Rattle.host_command.proofs.DiskLemmas.{costs_from, served_by}
 use Rattle.live_service.proofs.LiveShown.{begun_service, ended_store}
 use Rattle.chart_world.specs.Faults.{CountsFault}
-use Rattle.hosted_lines.specs.Answers.{MayAnswerHost, SendsAnswers}
+use Rattle.hosted_lines.specs.Answers.{MayAnswerHost, SendsAnswers, followed_behind, watched}
 use Rattle.hosted_lines.proofs.AnswersLemmas.{sends_answers}
 use Rattle.host_command.proofs.command.serve_service.Goals as goal
 
@@ -113,7 +113,7 @@ returns-clause-answers g c =
     let is_store = ended_store after c.into_stepper.result c.into_service-service.result store c.into_stepper.ensures c.into_service-service.ensures c.into_store.ensures in
     let same_disk = c.disk_of.ensures.disk ∙ store_disk store (its.service after).store is_store in
     let alone = ap (λ (s : Service _ _). s.sessions) is_service ∙ c.requires.alone in
-    let D : g.row.W.Denot → Type 0 = λ d. end ≡ Done → IfSome (left disk) (λ input. SendsAnswers MayAnswerHost input (sent disk) (sent d)) in
-    let S : Service _ _ → Type 0 = λ s. end ≡ Done → IfSome (left (shown.pages s).disk) (λ input. SendsAnswers MayAnswerHost input (sent (shown.pages s).disk) (sent c.disk_of.result)) in
+    let D : g.row.W.Denot → Type 0 = λ d. end ≡ Done → IfSome (left disk) (λ input. SendsAnswers MayAnswerHost followed_behind input (sent disk) (sent d)) in
+    let S : Service _ _ → Type 0 = λ s. end ≡ Done → IfSome (left (shown.pages s).disk) (λ input. SendsAnswers MayAnswerHost followed_behind input (sent (shown.pages s).disk) (sent c.disk_of.result)) in
     subst S is_service (subst D (sym same_disk)
-    (λ done. sends_answers MayAnswerHost (left disk) (shown.sessions (its.service start)) (shown.sessions (its.service after)) (sent disk) (sent new) alone (c.host_lines-end.ensures.answers done)))
+    (λ done. sends_answers MayAnswerHost followed_behind (left disk) (watched start) (watched after) (sent disk) (sent new) alone c.new-live.ensures.none (c.host_lines-end.ensures.answers done)))

@@ -9,7 +9,7 @@ use Rattle.host_command.specs.Ended.{CostsFrom}
 use Rattle.host_command.specs.Ending.{Served}
 use Rattle.host_command.proofs.DiskLemmas.{costs_untaken, served_none}
 use Rattle.chart_world.specs.Faults.{CountsFault}
-use Rattle.hosted_lines.specs.Answers.{MayAnswerHost, SendsAnswers}
+use Rattle.hosted_lines.specs.Answers.{MayAnswerHost, SendsAnswers, followed_behind}
 use Rattle.host_command.proofs.command.serve_store.Goals as goal
 
 pub serve_service-requires-clause-sound : goal.serve_service-requires-clause-sound
@@ -88,5 +88,5 @@ returns-in-Ok-clause-answers g c =
     let made = c.in-Ok.service.store in
     let new = c.serve_service.result.1 in
     let end = c.serve_service.result.0 in
-    let D : g.row.W.Denot → Type 0 = λ d. end ≡ Done → IfSome (left d) (λ input. SendsAnswers MayAnswerHost input (sent d) (sent new)) in
+    let D : g.row.W.Denot → Type 0 = λ d. end ≡ Done → IfSome (left d) (λ input. SendsAnswers MayAnswerHost followed_behind input (sent d) (sent new)) in
     subst D (store_disk made store c.in-Ok.ensures.store) c.serve_service.ensures.answers

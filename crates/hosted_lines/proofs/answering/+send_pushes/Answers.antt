@@ -6,10 +6,10 @@ use Rattle.hosted_lines.proofs.LineLemmas.{still_does, then_does}
 use Rattle.chart_world.specs.FaultLaws.{counts_then}
 use Rattle.run_ends.specs.Faults.{end_fault}
 use Rattle.chart_world.specs.Faults.{fault_in}
-use Rattle.chart_service.specs.Shown as shown
 use Rattle.live_service.specs.Kinds.{MayAnswerLive}
-use Rattle.live_service.specs.Shown as its
 use Rattle.hosted_lines.proofs.AnswersLemmas.{sends_none, sends_then}
+use Rattle.live_service.specs.Pushing.{followed_after}
+use Rattle.hosted_lines.specs.Answers.{watched}
 use Rattle.hosted_lines.proofs.answering.+send_pushes.Goals as goal
 
 pub returns-then-is_idle-clause-does : goal.returns-then-is_idle-clause-does
@@ -40,7 +40,7 @@ returns-in-Ok-clause-faults g t c =
     counts_then (fault_in end_fault c.send_pushes.result) (view (pages c.args.live.now)) (view (pages c.send_push.new.live)) (view (pages c.send_pushes.new.live)) c.in-Ok.ensures.faults c.send_pushes.ensures.faults
 
 pub returns-then-is_idle-clause-sends : goal.returns-then-is_idle-clause-sends
-returns-then-is_idle-clause-sends g t c = sends_none MayAnswerLive (shown.sessions (its.service c.args.live.now)) (g.P.Streams.sent (pages c.args.live.now))
+returns-then-is_idle-clause-sends g t c = sends_none MayAnswerLive followed_after (watched c.args.live.now) (g.P.Streams.sent (pages c.args.live.now))
 
 pub returns-in-Ok-clause-sends : goal.returns-in-Ok-clause-sends
 returns-in-Ok-clause-sends g t c =
@@ -48,5 +48,5 @@ returns-in-Ok-clause-sends g t c =
     let old = c.args.live.now in
     let mid = c.send_push.new.live in
     let new = c.send_pushes.new.live in
-    sends_then MayAnswerLive c.send_pushes.result [] [] (shown.sessions (its.service old)) (shown.sessions (its.service mid)) (shown.sessions (its.service new)) (sent (pages old)) (sent (pages mid)) (sent (pages new))
+    sends_then MayAnswerLive followed_after c.send_pushes.result [] [] (watched old) (watched mid) (watched new) (sent (pages old)) (sent (pages mid)) (sent (pages new))
     c.in-Ok.ensures.sends c.send_pushes.ensures.sends

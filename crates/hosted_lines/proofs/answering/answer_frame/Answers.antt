@@ -19,10 +19,11 @@ use Rattle.chart_world.specs.FaultLaws.{counts_then}
 use Rattle.run_ends.specs.Faults.{end_fault}
 use Rattle.chart_world.specs.Faults.{fault_in}
 use Rattle.hosted_lines.proofs.FaultLemmas.{step_short, unmade_counts}
-use Rattle.chart_service.specs.Shown as shown
 use Rattle.live_service.specs.Kinds.{MayAnswerLive}
-use Rattle.live_service.specs.Shown as its
-use Rattle.hosted_lines.proofs.AnswersLemmas.{sends_answer}
+use Rattle.hosted_lines.proofs.AnswersLemmas.{sends_answer, watched_same}
+use Rattle.live_service.specs.Pushing.{followed_after}
+use Rattle.hosted_lines.specs.Answers.{watched}
+use Rattle.live_view.specs.Live as follows
 use Rattle.hosted_lines.proofs.answering.answer_frame.Goals as goal
 
 pub returns-in-Ok-clause-does : goal.returns-in-Ok-clause-does
@@ -139,5 +140,7 @@ returns-in-Ok-clause-sends g c =
     let made = c.send_frame.ensures in
     let text = c.args.line.now in
     let L : Option (List ℕ) → Type 0 = λ l. MayAnswerLive l c.in-Ok.frame in
-    sends_answer MayAnswerLive c.send_frame.result c.in-Ok.frame (shown.sessions (its.service old)) (shown.sessions (its.service mid)) (shown.sessions (its.service new)) (sent (pages old)) (sent (pages mid)) (sent (pages new)) e.fits
-    e.opens made.beside.changed.sessions (sym (w.beside_sent (pages mid)) ∙ ap (λ (b : Beside). b.sent) e.steps.beside ∙ w.beside_sent (pages old)) made.whole (Some text) (subst L (text_is text c.requires.short) e.may)
+    let F : Option (List ℕ) → Type 0 = λ l. follows.followed mid ≡ followed_after l c.in-Ok.frame (follows.followed old) in
+    sends_answer MayAnswerLive followed_after c.send_frame.result c.in-Ok.frame (watched old) (watched mid) (watched new) (sent (pages old)) (sent (pages mid)) (sent (pages new)) e.fits
+    e.opens (watched_same (watched new) (watched mid) made.beside.changed.sessions made.beside.followed_same) (sym (w.beside_sent (pages mid)) ∙ ap (λ (b : Beside). b.sent) e.steps.beside ∙ w.beside_sent (pages old)) made.whole (Some text) (subst L (text_is text c.requires.short) e.may)
+    (subst F (text_is text c.requires.short) e.followed)

@@ -3,19 +3,18 @@ use Rattle.std.proofs.lemmas.Grind.{common_steps}
 use Rattle.chart_service.specs.Serving.{unless_empty}
 use Rattle.chart_service.specs.Syncing.{edits_of}
 use Rattle.hosted_lines.proofs.SyncLemmas.{none_syncs, text_syncs}
-use Rattle.hosted_lines.specs.Answers.{Sends}
+use Rattle.hosted_lines.specs.Answers.{Sends, watched}
 use Rattle.hosted_lines.specs.Doing.{held_by, held_with}
 use Rattle.hosted_lines.specs.Shown.{pages}
 use Rattle.hosted_lines.proofs.LineLemmas.{line_empty, line_some, then_does}
 use Rattle.chart_world.specs.FaultLaws.{counts_then}
 use Rattle.run_ends.specs.Faults.{end_fault}
 use Rattle.chart_world.specs.Faults.{fault_in}
-use Rattle.chart_service.specs.Shown as shown
 use Rattle.chart_world.specs.LineLaws.{said, says_text}
 use Rattle.live_service.specs.Kinds.{MayAnswerLive}
-use Rattle.live_service.specs.Shown as its
 use Rattle.hosted_lines.proofs.AnswersLemmas.{sends_none, sends_so, sends_then}
 use Rattle.hosted_lines.proofs.WorkLemmas.{none_said}
+use Rattle.live_service.specs.Pushing.{followed_after}
 use Rattle.hosted_lines.proofs.answering.answer_line.Goals as goal
 
 pub returns-then-is_empty-clause-does : goal.returns-then-is_empty-clause-does
@@ -76,11 +75,11 @@ returns-in-Ok-clause-faults g c =
 pub returns-then-is_empty-clause-sends : goal.returns-then-is_empty-clause-sends
 returns-then-is_empty-clause-sends g c =
     let at = c.args.live.now in
-    let own = shown.sessions (its.service at) in
+    let own = watched at in
     let sent = g.P.Streams.sent (pages at) in
     let none : length c.args.line.now ≡ 0 = grind (arith, common_steps) in
-    let S : List (Option (List ℕ)) → Type 0 = λ l. Sends MayAnswerLive l own own sent sent in
-    subst S (sym (none_said c.args.line.now none)) (sends_none MayAnswerLive own sent)
+    let S : List (Option (List ℕ)) → Type 0 = λ l. Sends MayAnswerLive followed_after l own own sent sent in
+    subst S (sym (none_said c.args.line.now none)) (sends_none MayAnswerLive followed_after own sent)
 
 pub returns-in-Ok-clause-sends : goal.returns-in-Ok-clause-sends
 returns-in-Ok-clause-sends g c =
@@ -90,7 +89,7 @@ returns-in-Ok-clause-sends g c =
     let new = c.send_pushes.new.live in
     let text = c.args.line.now in
     let some : 0 < length c.args.line.now = grind (arith, common_steps) in
-    let own = shown.sessions (its.service old) in
-    let behind = shown.sessions (its.service new) in
-    sends_so MayAnswerLive c.send_pushes.result (Some text ∷ []) (unless_empty (Some text)) own behind (sent (pages old)) (sent (pages new)) (sym (said (Some text) (says_text text some)))
-    (sends_then MayAnswerLive c.send_pushes.result (Some text ∷ []) [] own (shown.sessions (its.service mid)) behind (sent (pages old)) (sent (pages mid)) (sent (pages new)) c.in-Ok.ensures.sends c.send_pushes.ensures.sends)
+    let own = watched old in
+    let behind = watched new in
+    sends_so MayAnswerLive followed_after c.send_pushes.result (Some text ∷ []) (unless_empty (Some text)) own behind (sent (pages old)) (sent (pages new)) (sym (said (Some text) (says_text text some)))
+    (sends_then MayAnswerLive followed_after c.send_pushes.result (Some text ∷ []) [] own (watched mid) behind (sent (pages old)) (sent (pages mid)) (sent (pages new)) c.in-Ok.ensures.sends c.send_pushes.ensures.sends)

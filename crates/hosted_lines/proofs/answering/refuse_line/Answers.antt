@@ -9,12 +9,12 @@ use Rattle.hosted_lines.proofs.EventLemmas.{by_answer, long_replied, reads_answe
 use Rattle.hosted_lines.specs.GoesLaws.{held_same}
 use Rattle.hosted_lines.proofs.LineLemmas.{frame_does}
 use Rattle.chart_service.specs.Opening.{OpensBy}
-use Rattle.chart_service.specs.Shown as shown
 use Rattle.live_service.specs.Kinds.{MayAnswerLive}
-use Rattle.live_service.specs.Shown as its
 use Rattle.live_service.proofs.KindLemmas.{refused_stays}
 use Rattle.series_book.specs.declared.refusals.Refusal.TheVariants.{LineTooLong}
-use Rattle.hosted_lines.proofs.AnswersLemmas.{sends_answer}
+use Rattle.hosted_lines.proofs.AnswersLemmas.{sends_answer, watched_same}
+use Rattle.live_service.specs.Pushing.{followed_after}
+use Rattle.hosted_lines.specs.Answers.{watched}
 use Rattle.hosted_lines.proofs.answering.refuse_line.Goals as goal
 
 pub returns-clause-does : goal.returns-clause-does
@@ -49,8 +49,8 @@ returns-clause-sends g c =
     let old = c.args.live.now in
     let new = c.send_frame.new.live in
     let frame = c.refused.result in
-    let own = shown.sessions (its.service old) in
+    let own = watched old in
     let made = c.send_frame.ensures in
-    let O : Frame → Type 0 = λ f. OpensBy f own own in
-    sends_answer MayAnswerLive c.send_frame.result frame own own (shown.sessions (its.service new)) (sent (pages old)) (sent (pages old)) (sent (pages new)) c.refused.ensures.fits
-    (subst O (sym c.refused.ensures.frame) (refused_stays LineTooLong own)) made.beside.changed.sessions refl made.whole None c.refused.ensures.frame
+    let O : Frame → Type 0 = λ f. OpensBy f own.sessions own.sessions in
+    sends_answer MayAnswerLive followed_after c.send_frame.result frame own own (watched new) (sent (pages old)) (sent (pages old)) (sent (pages new)) c.refused.ensures.fits
+    (subst O (sym c.refused.ensures.frame) (refused_stays LineTooLong own.sessions)) (watched_same (watched new) own made.beside.changed.sessions made.beside.followed_same) refl made.whole None c.refused.ensures.frame refl

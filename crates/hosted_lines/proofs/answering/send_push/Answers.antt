@@ -17,9 +17,12 @@ use Rattle.chart_world.specs.Faults.{fault_in}
 use Rattle.hosted_lines.proofs.FaultLemmas.{step_short, unmade_counts}
 use Rattle.chart_frames.specs.Frames.{Fits}
 use Rattle.chart_service.specs.Opening.{OpensBy}
-use Rattle.chart_service.specs.Shown as shown
 use Rattle.live_service.specs.Kinds.{MayAnswerLive, MayPush}
-use Rattle.hosted_lines.proofs.AnswersLemmas.{sends_push}
+use Rattle.hosted_lines.proofs.AnswersLemmas.{sends_push, watched_same}
+use Rattle.live_service.specs.Pushing.{followed_after}
+use Rattle.hosted_lines.specs.Answers.{watched}
+use Rattle.live_view.specs.Following.{ShowsOneOf}
+use Rattle.live_view.specs.Live as follows
 use Rattle.hosted_lines.proofs.answering.send_push.Goals as goal
 
 pub returns-in-Ok-Some-clause-does : goal.returns-in-Ok-Some-clause-does
@@ -100,8 +103,8 @@ returns-in-Ok-Some-clause-sends g c =
     let frame = c.in-Ok-Some.frame in
     let some = c.in-Ok-Some.field-0 in
     let is = c.in-Ok-Some.field-0-is in
-    let own = shown.sessions (its.service old) in
-    let behind = shown.sessions (its.service mid) in
-    sends_push MayAnswerLive c.send_frame.result frame own behind (shown.sessions (its.service new)) (sent (pages old)) (sent (pages mid)) (sent (pages new)) (of_frame some frame Fits is e.fits)
-    (of_frame some frame (λ f. OpensBy f own behind) is e.opens) made.beside.changed.sessions (sym (w.beside_sent (pages mid)) ∙ ap (λ (b : Beside). b.sent) e.steps.beside ∙ w.beside_sent (pages old)) made.whole
-    (of_frame some frame (λ f. MayPush f) is e.may)
+    let own = watched old in
+    let behind = watched mid in
+    sends_push MayAnswerLive followed_after c.send_frame.result frame own behind (watched new) (sent (pages old)) (sent (pages mid)) (sent (pages new)) (of_frame some frame Fits is e.fits)
+    (of_frame some frame (λ f. OpensBy f own.sessions behind.sessions) is e.opens) (watched_same (watched new) (watched mid) made.beside.changed.sessions made.beside.followed_same) (sym (w.beside_sent (pages mid)) ∙ ap (λ (b : Beside). b.sent) e.steps.beside ∙ w.beside_sent (pages old)) made.whole
+    (of_frame some frame (λ f. ShowsOneOf (follows.followed old) f) is e.shows) e.followed

@@ -4,9 +4,7 @@ use Rattle.chart_world.specs.LineLaws.{said, says_text}
 use Rattle.hosted_lines.specs.Doing.{held_by, held_with}
 use Rattle.hosted_lines.specs.Shown.{pages}
 use Rattle.hosted_lines.proofs.HostLemmas.{lines_so}
-use Rattle.chart_service.specs.Shown as shown
-use Rattle.live_service.specs.Shown as its
-use Rattle.hosted_lines.specs.Answers.{MayAnswerHost}
+use Rattle.hosted_lines.specs.Answers.{MayAnswerHost, followed_behind, watched}
 use Rattle.hosted_lines.proofs.AnswersLemmas.{sends_so}
 use Rattle.hosted_lines.proofs.keeping.answer_alone.Goals as goal
 
@@ -38,7 +36,7 @@ returns-in-List-clause-sends g c = λ lines spell.
     let line = c.args.line.now in
     let old = c.args.live.now in
     let new = c.answer_asked.new.live in
-    sends_so MayAnswerHost c.answer_asked.result (lines ++ Some line ∷ []) (lines ++ unless_empty (Some line)) (shown.sessions (its.service old)) (shown.sessions (its.service new)) (sent (pages old)) (sent (pages new))
+    sends_so MayAnswerHost followed_behind c.answer_asked.result (lines ++ Some line ∷ []) (lines ++ unless_empty (Some line)) (watched old) (watched new) (sent (pages old)) (sent (pages new))
     (ap (λ l. lines ++ l) (sym (said (Some line) (says_text line c.requires.some)))) (c.answer_asked.ensures.sends line (sym c.requires.asks) lines spell)
 
 pub returns-in-Sweep-clause-sends : goal.returns-in-Sweep-clause-sends
@@ -47,5 +45,5 @@ returns-in-Sweep-clause-sends g c = λ lines spell.
     let line = c.args.line.now in
     let old = c.args.live.now in
     let new = c.answer_step.new.live in
-    sends_so MayAnswerHost c.answer_step.result (lines ++ Some line ∷ []) (lines ++ unless_empty (Some line)) (shown.sessions (its.service old)) (shown.sessions (its.service new)) (sent (pages old)) (sent (pages new))
+    sends_so MayAnswerHost followed_behind c.answer_step.result (lines ++ Some line ∷ []) (lines ++ unless_empty (Some line)) (watched old) (watched new) (sent (pages old)) (sent (pages new))
     (ap (λ l. lines ++ l) (sym (said (Some line) (says_text line c.requires.some)))) (c.answer_step.ensures.sends line (sym c.requires.asks ∙ c.in-Sweep.is) lines spell)

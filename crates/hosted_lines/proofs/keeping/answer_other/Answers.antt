@@ -6,9 +6,7 @@ use Rattle.hosted_lines.specs.Shown.{pages}
 use Rattle.hosted_lines.proofs.HostLemmas.{fails_wide, host_then, live_does}
 use Rattle.hosted_lines.proofs.RowLemmas.{passed_line}
 use Rattle.hosted_lines.proofs.WorkLemmas.{no_edits}
-use Rattle.chart_service.specs.Shown as shown
-use Rattle.live_service.specs.Shown as its
-use Rattle.hosted_lines.specs.Answers.{MayAnswerHost}
+use Rattle.hosted_lines.specs.Answers.{MayAnswerHost, followed_behind, watched}
 use Rattle.hosted_lines.proofs.AnswersLemmas.{sends_host, sends_then}
 use Rattle.hosted_lines.proofs.keeping.answer_other.Goals as goal
 
@@ -46,7 +44,7 @@ returns-in-Ok-clause-sends g c = λ lines spell.
     let mid = c.settle.new.live in
     let new = c.answer_line.new.live in
     let more = unless_empty (Some c.args.line.now) in
-    let between = shown.sessions (its.service mid) in
-    let behind = shown.sessions (its.service new) in
-    sends_then MayAnswerHost c.answer_line.result lines more (shown.sessions (its.service old)) between behind (sent (pages old)) (sent (pages mid)) (sent (pages new)) (c.in-Ok.ensures.sends lines spell)
+    let between = watched mid in
+    let behind = watched new in
+    sends_then MayAnswerHost followed_behind c.answer_line.result lines more (watched old) between behind (sent (pages old)) (sent (pages mid)) (sent (pages new)) (c.in-Ok.ensures.sends lines spell)
     (sends_host c.answer_line.result more between behind (sent (pages mid)) (sent (pages new)) (passed_line c.args.line.now c.requires.passed) c.answer_line.ensures.sends)

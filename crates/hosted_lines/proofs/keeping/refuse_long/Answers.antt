@@ -2,9 +2,7 @@ use Rattle.std.proofs.Common.{[], ◌∷◌, None}
 use Rattle.hosted_lines.specs.Doing.{held_by, held_with}
 use Rattle.hosted_lines.specs.Shown.{pages}
 use Rattle.hosted_lines.proofs.HostLemmas.{fails_wide, host_then, live_does}
-use Rattle.chart_service.specs.Shown as shown
-use Rattle.live_service.specs.Shown as its
-use Rattle.hosted_lines.specs.Answers.{MayAnswerHost}
+use Rattle.hosted_lines.specs.Answers.{MayAnswerHost, followed_behind, watched}
 use Rattle.hosted_lines.proofs.AnswersLemmas.{sends_host, sends_then}
 use Rattle.hosted_lines.proofs.keeping.refuse_long.Goals as goal
 
@@ -38,7 +36,7 @@ returns-in-Ok-clause-sends g c = λ lines spell.
     let old = c.args.live.now in
     let mid = c.settle.new.live in
     let new = c.refuse_line.new.live in
-    let between = shown.sessions (its.service mid) in
-    let behind = shown.sessions (its.service new) in
-    sends_then MayAnswerHost c.refuse_line.result lines (None ∷ []) (shown.sessions (its.service old)) between behind (sent (pages old)) (sent (pages mid)) (sent (pages new)) (c.in-Ok.ensures.sends lines spell)
+    let between = watched mid in
+    let behind = watched new in
+    sends_then MayAnswerHost followed_behind c.refuse_line.result lines (None ∷ []) (watched old) between behind (sent (pages old)) (sent (pages mid)) (sent (pages new)) (c.in-Ok.ensures.sends lines spell)
     (sends_host c.refuse_line.result (None ∷ []) between behind (sent (pages mid)) (sent (pages new)) (tt, tt) c.refuse_line.ensures.sends)

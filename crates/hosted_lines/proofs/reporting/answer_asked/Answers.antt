@@ -2,9 +2,7 @@ use Rattle.std.proofs.Common.{[], ◌∷◌, Some}
 use Rattle.hosted_lines.specs.Doing.{held_by, held_with}
 use Rattle.hosted_lines.specs.Shown.{pages}
 use Rattle.hosted_lines.proofs.HostLemmas.{fails_wide, host_then}
-use Rattle.chart_service.specs.Shown as shown
-use Rattle.live_service.specs.Shown as its
-use Rattle.hosted_lines.specs.Answers.{MayAnswerHost}
+use Rattle.hosted_lines.specs.Answers.{MayAnswerHost, followed_behind, watched}
 use Rattle.hosted_lines.proofs.AnswersLemmas.{sends_then}
 use Rattle.hosted_lines.proofs.reporting.answer_asked.Goals as goal
 
@@ -36,5 +34,5 @@ returns-in-Ok-clause-sends g c = λ line asks lines spell.
     let old = c.args.live.now in
     let mid = c.settle.new.live in
     let new = c.send_report.new.live in
-    sends_then MayAnswerHost c.send_report.result lines (Some line ∷ []) (shown.sessions (its.service old)) (shown.sessions (its.service mid)) (shown.sessions (its.service new)) (sent (pages old)) (sent (pages mid)) (sent (pages new))
+    sends_then MayAnswerHost followed_behind c.send_report.result lines (Some line ∷ []) (watched old) (watched mid) (watched new) (sent (pages old)) (sent (pages mid)) (sent (pages new))
     (c.in-Ok.ensures.sends lines spell) (c.send_report.ensures.sends line asks)

@@ -13,10 +13,9 @@ use Rattle.hosted_lines.specs.GoesLaws.{held_same}
 use Rattle.hosted_lines.specs.Shown.{pages}
 use Rattle.hosted_lines.proofs.FaultLemmas.{unmade_counts}
 use Rattle.hosted_lines.proofs.ReportLemmas.{report_costs, report_moments, report_sends, report_unmade, unmade_cause}
-use Rattle.chart_service.specs.Shown as shown
-use Rattle.live_service.specs.Shown as its
-use Rattle.hosted_lines.specs.Answers.{MayAnswerHost}
-use Rattle.hosted_lines.proofs.AnswersLemmas.{may_report, sends_answer}
+use Rattle.hosted_lines.specs.Answers.{MayAnswerHost, followed_behind, watched}
+use Rattle.hosted_lines.proofs.AnswersLemmas.{may_report, report_after, sends_answer, watched_same}
+use Rattle.live_view.specs.Live as follows
 use Rattle.hosted_lines.proofs.reporting.send_report.Goals as goal
 
 pub returns-in-Ok-clause-does : goal.returns-in-Ok-clause-does
@@ -93,5 +92,6 @@ returns-in-Ok-clause-sends g c = λ line asks.
     let frame = c.in-Ok.frame in
     let e = c.in-Ok.ensures.makes in
     let made = c.send_frame.ensures in
-    sends_answer MayAnswerHost c.send_frame.result frame (shown.sessions (its.service old)) (shown.sessions (its.service mid)) (shown.sessions (its.service new)) (sent (pages old)) (sent (pages mid)) (sent (pages new)) e.fits e.opens
-    made.beside.changed.sessions (sym (w.beside_sent (pages mid)) ∙ ap (λ (b : Beside). b.sent) e.looks.beside ∙ w.beside_sent (pages old)) made.whole (Some line) (may_report line c.args.asked.now frame asks e.may)
+    sends_answer MayAnswerHost followed_behind c.send_frame.result frame (watched old) (watched mid) (watched new) (sent (pages old)) (sent (pages mid)) (sent (pages new)) e.fits e.opens
+    (watched_same (watched new) (watched mid) made.beside.changed.sessions made.beside.followed_same) (sym (w.beside_sent (pages mid)) ∙ ap (λ (b : Beside). b.sent) e.looks.beside ∙ w.beside_sent (pages old)) made.whole (Some line) (may_report line c.args.asked.now frame asks e.may)
+    (report_after line c.args.asked.now frame (follows.followed old) (follows.followed mid) asks e.may c.in-Ok.ensures.followed)

@@ -12,7 +12,7 @@ use Rattle.live_service.specs.Shown as its
 use Rattle.run_ends.specs.Faults.{end_fault}
 use Rattle.run_ends.specs.declared.ending.End.{End}
 use Rattle.run_ends.specs.declared.ending.End.TheVariants.{Done, DiskFault, InputTooLong}
-use Rattle.hosted_lines.specs.Answers.{MayAnswerHost, SendsFor}
+use Rattle.hosted_lines.specs.Answers.{MayAnswerHost, SendsFor, followed_behind, watched}
 use Rattle.hosted_lines.specs.Doing.{held_by, side_of}
 use Rattle.hosted_lines.specs.HostCauses.{IsHostCause}
 use Rattle.hosted_lines.specs.Input.{most_bytes}
@@ -165,11 +165,11 @@ returns-clause-answers g c =
     let new = c.run_lines-answer.new.from in
     let work = c.run_lines-answer.new.work in
     let e = c.run_lines-answer.ensures in
-    let own = shown.sessions (its.service old) in
+    let own = watched old in
     let none : c.new.result.items ≡ [] = search rules in
-    let here : IsNamed (record { ahead = []; sessions = own }) c.new.result.items (held_by old) = record { spell = subst (SpellEdits []) (sym none) tt; sessions_are = refl } in
-    let A : End → Type 0 = λ end. end ≡ Done → IfSome (left (pages old)) (λ input. SendsFor g.P.Streams MayAnswerHost (told input) old new) in
+    let here : IsNamed (record { ahead = []; watched = own }) c.new.result.items (held_by old) = record { spell = subst (SpellEdits []) (sym none) tt; watched_are = refl } in
+    let A : End → Type 0 = λ end. end ≡ Done → IfSome (left (pages old)) (λ input. SendsFor g.P.Streams MayAnswerHost followed_behind (told input) old new) in
     subst A (sym c.run_end.ensures)
     (came_to_end (λ end s s'. CausesEnd end (side s) (side s')) old new c.run_lines-answer.result (λ none. none.cause)
     (all_sends own work.edits.items (shown.IsTold (its.service new)) (its.view new) (held_by new) (sent (pages old)) (sent (pages new)) (pieces (pages old)) (pieces (pages new)) c.run_lines-answer.result (left (pages old))
-    (e.done (Any (record { ahead = []; sessions = own })) here)) e.cause)
+    (e.done (Any (record { ahead = []; watched = own })) here)) e.cause)

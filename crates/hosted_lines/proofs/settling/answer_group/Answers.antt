@@ -9,11 +9,10 @@ use Rattle.hosted_lines.specs.Lives.{spelled}
 use Rattle.hosted_lines.specs.Shown.{pages}
 use Rattle.hosted_lines.proofs.GroupLemmas.{group_sends, group_unmade}
 use Rattle.hosted_lines.proofs.SpelledLemmas.{sound_edits}
-use Rattle.chart_service.specs.Shown as shown
-use Rattle.live_service.specs.Shown as its
 use Rattle.std.specs.Prelude.{OnOk}
 use Rattle.block_disk.specs.Streams.{sent_after}
-use Rattle.hosted_lines.proofs.AnswersLemmas.{sends_group}
+use Rattle.hosted_lines.proofs.AnswersLemmas.{sends_group, watched_same}
+use Rattle.hosted_lines.specs.Answers.{watched}
 use Rattle.hosted_lines.proofs.settling.answer_group.Goals as goal
 
 pub returns-in-Ok-clause-does : goal.returns-in-Ok-clause-does
@@ -68,5 +67,5 @@ returns-in-Ok-clause-sends g c = λ lines spell.
     let e = c.in-Ok.ensures in
     let made = c.send_frames.ensures in
     let W : List Frame → Type 0 = λ f. OnOk c.send_frames.result (sent (pages new) ≡ sent_after (spelled f) (sent (pages mid))) in
-    sends_group c.send_frames.result lines c.args.edits.now frames (shown.sessions (its.service old)) (shown.sessions (its.service mid)) (shown.sessions (its.service new)) (sent (pages old)) (sent (pages mid)) (sent (pages new)) spell e.each e.replies e.fits e.sessions
-    made.beside.changed.sessions (sym (w.beside_sent (pages mid)) ∙ ap (λ (b : Beside). b.sent) e.moves.beside ∙ w.beside_sent (pages old)) (subst W c.as_slice.ensures.value made.whole)
+    sends_group c.send_frames.result lines c.args.edits.now frames (watched old) (watched mid) (watched new) (sent (pages old)) (sent (pages mid)) (sent (pages new)) spell e.each e.replies e.fits e.sessions e.followed
+    (watched_same (watched new) (watched mid) made.beside.changed.sessions made.beside.followed_same) (sym (w.beside_sent (pages mid)) ∙ ap (λ (b : Beside). b.sent) e.moves.beside ∙ w.beside_sent (pages old)) (subst W c.as_slice.ensures.value made.whole)

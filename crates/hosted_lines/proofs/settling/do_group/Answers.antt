@@ -5,9 +5,7 @@ use Rattle.hosted_lines.specs.Doing.{held_by, held_with}
 use Rattle.hosted_lines.specs.Shown.{pages}
 use Rattle.hosted_lines.proofs.HostLemmas.{host_then, lines_so, live_does, none_hosts}
 use Rattle.hosted_lines.proofs.SpelledLemmas.{spell_none}
-use Rattle.chart_service.specs.Shown as shown
-use Rattle.live_service.specs.Shown as its
-use Rattle.hosted_lines.specs.Answers.{MayAnswerHost, Sends}
+use Rattle.hosted_lines.specs.Answers.{MayAnswerHost, Sends, followed_behind, watched}
 use Rattle.hosted_lines.proofs.AnswersLemmas.{sends_host, sends_none, sends_so, sends_then}
 use Rattle.hosted_lines.proofs.settling.do_group.Goals as goal
 
@@ -36,11 +34,11 @@ returns-in-Ok-clause-does g c = λ lines spell total book told stands sound.
 
 pub returns-then-is_empty-clause-sends : goal.returns-then-is_empty-clause-sends
 returns-then-is_empty-clause-sends g c = λ lines spell.
-    let own = shown.sessions (its.service c.args.live.now) in
+    let own = watched c.args.live.now in
     let sent = g.P.Streams.sent (pages c.args.live.now) in
     let none : length c.args.edits.now ≡ 0 = grind (arith, common_steps) in
-    let S : List (Option (List ℕ)) → Type 0 = λ l. Sends MayAnswerHost l own own sent sent in
-    subst S (sym (spell_none lines c.args.edits.now none spell)) (sends_none MayAnswerHost own sent)
+    let S : List (Option (List ℕ)) → Type 0 = λ l. Sends MayAnswerHost followed_behind l own own sent sent in
+    subst S (sym (spell_none lines c.args.edits.now none spell)) (sends_none MayAnswerHost followed_behind own sent)
 
 pub returns-in-Ok-clause-sends : goal.returns-in-Ok-clause-sends
 returns-in-Ok-clause-sends g c = λ lines spell.
@@ -48,9 +46,9 @@ returns-in-Ok-clause-sends g c = λ lines spell.
     let old = c.args.live.now in
     let mid = c.answer_group.new.live in
     let new = c.send_pushes.new.live in
-    let own = shown.sessions (its.service old) in
-    let between = shown.sessions (its.service mid) in
-    let behind = shown.sessions (its.service new) in
-    sends_so MayAnswerHost c.send_pushes.result _ lines own behind (sent (pages old)) (sent (pages new)) (append-nil lines)
-    (sends_then MayAnswerHost c.send_pushes.result lines [] own between behind (sent (pages old)) (sent (pages mid)) (sent (pages new)) (c.in-Ok.ensures.sends lines spell)
+    let own = watched old in
+    let between = watched mid in
+    let behind = watched new in
+    sends_so MayAnswerHost followed_behind c.send_pushes.result _ lines own behind (sent (pages old)) (sent (pages new)) (append-nil lines)
+    (sends_then MayAnswerHost followed_behind c.send_pushes.result lines [] own between behind (sent (pages old)) (sent (pages mid)) (sent (pages new)) (c.in-Ok.ensures.sends lines spell)
     (sends_host c.send_pushes.result [] between behind (sent (pages mid)) (sent (pages new)) tt c.send_pushes.ensures.sends))

@@ -2,9 +2,7 @@ use Rattle.std.proofs.Common.{[], ◌∷◌, Some}
 use Rattle.hosted_lines.specs.Doing.{held_by, held_with}
 use Rattle.hosted_lines.specs.Shown.{pages}
 use Rattle.hosted_lines.proofs.HostLemmas.{host_then, live_does}
-use Rattle.chart_service.specs.Shown as shown
-use Rattle.live_service.specs.Shown as its
-use Rattle.hosted_lines.specs.Answers.{MayAnswerHost}
+use Rattle.hosted_lines.specs.Answers.{MayAnswerHost, followed_behind, watched}
 use Rattle.hosted_lines.proofs.AnswersLemmas.{sends_host, sends_then}
 use Rattle.hosted_lines.proofs.sweeping.do_step.Goals as goal
 
@@ -28,7 +26,7 @@ returns-in-Ok-clause-sends g c = λ line asks.
     let old = c.args.live.now in
     let mid = c.send_step.new.live in
     let new = c.send_pushes.new.live in
-    let between = shown.sessions (its.service mid) in
-    let behind = shown.sessions (its.service new) in
-    sends_then MayAnswerHost c.send_pushes.result (Some line ∷ []) [] (shown.sessions (its.service old)) between behind (sent (pages old)) (sent (pages mid)) (sent (pages new)) (c.in-Ok.ensures.sends line asks)
+    let between = watched mid in
+    let behind = watched new in
+    sends_then MayAnswerHost followed_behind c.send_pushes.result (Some line ∷ []) [] (watched old) between behind (sent (pages old)) (sent (pages mid)) (sent (pages new)) (c.in-Ok.ensures.sends line asks)
     (sends_host c.send_pushes.result [] between behind (sent (pages mid)) (sent (pages new)) tt c.send_pushes.ensures.sends)

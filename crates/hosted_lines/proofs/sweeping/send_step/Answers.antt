@@ -10,10 +10,8 @@ use Rattle.hosted_lines.specs.GoesLaws.{held_same}
 use Rattle.hosted_lines.specs.Shown.{pages}
 use Rattle.hosted_lines.proofs.FaultLemmas.{unmade_counts}
 use Rattle.hosted_lines.proofs.SweepLemmas.{step_costs, step_sends, step_unmade}
-use Rattle.chart_service.specs.Shown as shown
-use Rattle.live_service.specs.Shown as its
-use Rattle.hosted_lines.specs.Answers.{MayAnswerHost}
-use Rattle.hosted_lines.proofs.AnswersLemmas.{may_step, sends_answer, step_stays}
+use Rattle.hosted_lines.specs.Answers.{MayAnswerHost, followed_behind, watched}
+use Rattle.hosted_lines.proofs.AnswersLemmas.{may_step, sends_answer, step_after, step_stays, watched_same}
 use Rattle.hosted_lines.proofs.sweeping.send_step.Goals as goal
 
 pub returns-in-Ok-clause-does : goal.returns-in-Ok-clause-does
@@ -78,8 +76,8 @@ returns-in-Ok-clause-sends g c = λ line asks.
     let frame = c.in-Ok.frame in
     let e = c.in-Ok.ensures in
     let made = c.send_frame.ensures in
-    let own = shown.sessions (its.service old) in
-    let between = shown.sessions (its.service mid) in
-    sends_answer MayAnswerHost c.send_frame.result frame own between (shown.sessions (its.service new)) (sent (pages old)) (sent (pages mid)) (sent (pages new)) e.fits
-    (step_stays frame _ _ _ own between e.sessions e.tells) made.beside.changed.sessions (sym (w.beside_sent (pages mid)) ∙ ap (λ (b : Beside). b.sent) e.carries.beside ∙ w.beside_sent (pages old)) made.whole
-    (Some line) (may_step line c.args.rule.now frame _ _ _ asks e.tells)
+    let own = watched old in
+    let between = watched mid in
+    sends_answer MayAnswerHost followed_behind c.send_frame.result frame own between (watched new) (sent (pages old)) (sent (pages mid)) (sent (pages new)) e.fits
+    (step_stays frame _ _ _ own.sessions between.sessions e.sessions e.tells) (watched_same (watched new) (watched mid) made.beside.changed.sessions made.beside.followed_same) (sym (w.beside_sent (pages mid)) ∙ ap (λ (b : Beside). b.sent) e.carries.beside ∙ w.beside_sent (pages old)) made.whole
+    (Some line) (may_step line c.args.rule.now frame _ _ _ asks e.tells) (step_after line c.args.rule.now frame own.followed between.followed asks e.followed)

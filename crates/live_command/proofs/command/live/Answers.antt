@@ -13,6 +13,7 @@ use Rattle.live_command.specs.Ended.{LiveEnds}
 use Rattle.live_command.proofs.DiskLemmas.{live_ends, reads_on, reads_unopened, syncs_on, syncs_unopened, unopened_ends, opening_done}
 use Rattle.live_service.specs.Kinds.{MayAnswerLive}
 use Rattle.hosted_lines.proofs.AnswersLemmas.{answers_over}
+use Rattle.live_service.specs.Pushing.{followed_after}
 use Rattle.live_command.proofs.command.live.Goals as goal
 
 pub returns-in-Ok-clause-ends : goal.returns-in-Ok-clause-ends
@@ -108,7 +109,7 @@ returns-in-Ok-clause-answers g c =
     let start = (stored.pages c.in-Ok.store).disk in
     let w = g.met.W.World in
     let beside = c.in-Ok.ensures.opens.beside_is in
-    λ done. answers_over MayAnswerLive (left start) (left old) (sent start) (sent old) (sent c.serve_store.result.1) (sym (w.beside_left start) ∙ ap (λ (b : Beside). b.left) beside ∙ w.beside_left old)
+    λ done. answers_over MayAnswerLive followed_after (left start) (left old) (sent start) (sent old) (sent c.serve_store.result.1) (sym (w.beside_left start) ∙ ap (λ (b : Beside). b.left) beside ∙ w.beside_left old)
     (sym (w.beside_sent start) ∙ ap (λ (b : Beside). b.sent) beside ∙ w.beside_sent old) (c.serve_store.ensures.answers done)
 
 pub returns-in-Err-clause-answers : goal.returns-in-Err-clause-answers

@@ -21,8 +21,9 @@ use Rattle.hosted_lines.proofs.DiskSides.{begins_so}
 use Rattle.live_service.proofs.LiveShown.{begun_service, ended_store}
 use Rattle.chart_world.specs.Faults.{CountsFault}
 use Rattle.live_service.specs.Kinds.{MayAnswerLive}
-use Rattle.hosted_lines.specs.Answers.{SendsAnswers}
+use Rattle.hosted_lines.specs.Answers.{SendsAnswers, watched}
 use Rattle.hosted_lines.proofs.AnswersLemmas.{sends_answers}
+use Rattle.live_service.specs.Pushing.{followed_after}
 use Rattle.live_command.proofs.command.serve_service.Goals as goal
 
 pub returns-clause-serves : goal.returns-clause-serves
@@ -134,7 +135,7 @@ returns-clause-answers g c =
     let is_store = ended_store after c.into_stepper.result c.into_service-service.result store c.into_stepper.ensures c.into_service-service.ensures c.into_store.ensures in
     let same_disk = c.disk_of.ensures.disk ∙ store_disk store (its.service after).store is_store in
     let alone = ap (λ (s : Service _ _). s.sessions) is_service ∙ c.requires.alone in
-    let D : g.row.W.Denot → Type 0 = λ d. end ≡ Done → IfSome (left disk) (λ input. SendsAnswers MayAnswerLive input (sent disk) (sent d)) in
-    let S : Service _ _ → Type 0 = λ s. end ≡ Done → IfSome (left (shown.pages s).disk) (λ input. SendsAnswers MayAnswerLive input (sent (shown.pages s).disk) (sent c.disk_of.result)) in
+    let D : g.row.W.Denot → Type 0 = λ d. end ≡ Done → IfSome (left disk) (λ input. SendsAnswers MayAnswerLive followed_after input (sent disk) (sent d)) in
+    let S : Service _ _ → Type 0 = λ s. end ≡ Done → IfSome (left (shown.pages s).disk) (λ input. SendsAnswers MayAnswerLive followed_after input (sent (shown.pages s).disk) (sent c.disk_of.result)) in
     subst S is_service (subst D (sym same_disk)
-    (λ done. sends_answers MayAnswerLive (left disk) (shown.sessions (its.service start)) (shown.sessions (its.service after)) (sent disk) (sent new) alone (c.serve_live-end.ensures.answers done)))
+    (λ done. sends_answers MayAnswerLive followed_after (left disk) (watched start) (watched after) (sent disk) (sent new) alone c.new-live.ensures.none (c.serve_live-end.ensures.answers done)))

@@ -13,6 +13,7 @@ use Rattle.live_command.proofs.DiskLemmas.{reads_untaken, served_none}
 use Rattle.chart_world.specs.Faults.{CountsFault}
 use Rattle.live_service.specs.Kinds.{MayAnswerLive}
 use Rattle.hosted_lines.specs.Answers.{SendsAnswers}
+use Rattle.live_service.specs.Pushing.{followed_after}
 use Rattle.live_command.proofs.command.serve_store.Goals as goal
 
 pub serve_service-requires-clause-sound : goal.serve_service-requires-clause-sound
@@ -109,5 +110,5 @@ returns-in-Ok-clause-answers g c =
     let made = c.in-Ok.service.store in
     let new = c.serve_service.result.1 in
     let end = c.serve_service.result.0 in
-    let D : g.row.W.Denot → Type 0 = λ d. end ≡ Done → IfSome (left d) (λ input. SendsAnswers MayAnswerLive input (sent d) (sent new)) in
+    let D : g.row.W.Denot → Type 0 = λ d. end ≡ Done → IfSome (left d) (λ input. SendsAnswers MayAnswerLive followed_after input (sent d) (sent new)) in
     subst D (store_disk made store c.in-Ok.ensures.store) c.serve_service.ensures.answers

@@ -24,6 +24,8 @@ use Rattle.store_commands.specs.Faulting.{counts_told}
 use Rattle.live_command.proofs.FaultLemmas.{input_fault_is, input_long_is, same_fault}
 use Rattle.chart_service.specs.Shown as shown
 use Rattle.live_command.proofs.AnswerLemmas.{FarAnswered, answered_far, far_answered_first, far_answered_kept, far_answered_line}
+use Rattle.hosted_lines.specs.Answers.{watched}
+use Rattle.hosted_lines.proofs.AnswersLemmas.{watched_same}
 use Rattle.live_command.proofs.serving.answer_lines.Goals as goal
 
 pub lines-init : goal.lines-init
@@ -48,7 +50,7 @@ lines-init g c =
       faults = refl;
       far = λ total book told stands. far_first o c.args.lines.now total book (view at).image (held_by old) before fresh stands (c.requires.book total book told stands);
       synced = far_synced_first o c.args.lines.now (view at).syncs fresh;
-      answered = far_answered_first o c.args.lines.now (shown.sessions (its.service old)) before fresh;
+      answered = far_answered_first o c.args.lines.now (watched old) before fresh;
       read = λ total book told stands. far_read_first o c.args.lines.now total book (view at).image (held_by old) (view at).reads fresh stands (c.requires.book total book told stands);
       lasts = λ total book told stands. lasts_on_first total book (held_by old) o before (view at) (g.met.P.Pages.rests at c.requires.sound) stands;
     }
@@ -183,10 +185,10 @@ lines-preserved-in-Ok-refuse_line g c =
           let F : Option (List ℕ) → Type 0 = λ l. FarSynced (left first) (unread c.next.new.self l) c.next.new.self.given (view first).syncs (view new).syncs in
           subst F (sym it.left) (far_synced_line (left first) c.lines.lines c.next.new.self (left mid) (left taken) line gives (view first).syncs (view taken).syncs (view new).syncs (none_syncs (edits_of (unless_empty line)) (view taken).syncs (view new).syncs it.syncs) (far_synced_kept (left first) (unread c.lines.lines (left mid)) c.lines.lines.given (view first).syncs (view mid).syncs (view taken).syncs kept.syncs inv.synced));
       answered =
-          let own = shown.sessions (its.service start) in
-          let far = far_answered_kept (left first) (unread c.lines.lines (left mid)) c.lines.lines.given own (shown.sessions (its.service c.lines.live)) (shown.sessions (its.service c.next.new.from)) (sent first) (sent mid) (sent taken) beside.changed.sessions c.next.ensures.sent inv.answered in
-          let F : Option (List ℕ) → Type 0 = λ l. FarAnswered (left first) (unread c.next.new.self l) c.next.new.self.given own (shown.sessions (its.service c.refuse_line.new.live)) (sent first) (sent new) in
-          subst F (sym it.left) (far_answered_line (left first) c.lines.lines c.next.new.self (left mid) (left taken) line gives own (shown.sessions (its.service c.next.new.from)) (shown.sessions (its.service c.refuse_line.new.live)) (sent first) (sent taken) (sent new) it.sends far);
+          let own = watched start in
+          let far = far_answered_kept (left first) (unread c.lines.lines (left mid)) c.lines.lines.given own (watched c.lines.live) (watched c.next.new.from) (sent first) (sent mid) (sent taken) (watched_same (watched c.next.new.from) (watched c.lines.live) beside.changed.sessions beside.followed_same) c.next.ensures.sent inv.answered in
+          let F : Option (List ℕ) → Type 0 = λ l. FarAnswered (left first) (unread c.next.new.self l) c.next.new.self.given own (watched c.refuse_line.new.live) (sent first) (sent new) in
+          subst F (sym it.left) (far_answered_line (left first) c.lines.lines c.next.new.self (left mid) (left taken) line gives own (watched c.next.new.from) (watched c.refuse_line.new.live) (sent first) (sent taken) (sent new) it.sends far);
       read = λ total book told stands.
           let state = its.state start total book in
           let read = far_read_kept (left first) (unread c.lines.lines (left mid)) c.lines.lines.given total state (view mid).image (view taken).image (held_by c.lines.live) (held_by c.next.new.from) (view first).reads (view mid).reads (view taken).reads kept.image same kept.reads (inv.read total book told stands) in
@@ -337,10 +339,10 @@ lines-preserved g c =
           let F : Option (List ℕ) → Type 0 = λ l. FarSynced (left first) (unread c.next.new.self l) c.next.new.self.given (view first).syncs (view new).syncs in
           subst F (sym it.left) (far_synced_line (left first) c.lines.lines c.next.new.self (left mid) (left taken) line gives (view first).syncs (view taken).syncs (view new).syncs (it.syncs) (far_synced_kept (left first) (unread c.lines.lines (left mid)) c.lines.lines.given (view first).syncs (view mid).syncs (view taken).syncs kept.syncs inv.synced));
       answered =
-          let own = shown.sessions (its.service start) in
-          let far = far_answered_kept (left first) (unread c.lines.lines (left mid)) c.lines.lines.given own (shown.sessions (its.service c.lines.live)) (shown.sessions (its.service c.next.new.from)) (sent first) (sent mid) (sent taken) beside.changed.sessions c.next.ensures.sent inv.answered in
-          let F : Option (List ℕ) → Type 0 = λ l. FarAnswered (left first) (unread c.next.new.self l) c.next.new.self.given own (shown.sessions (its.service c.answer_line.new.live)) (sent first) (sent new) in
-          subst F (sym it.left) (far_answered_line (left first) c.lines.lines c.next.new.self (left mid) (left taken) line gives own (shown.sessions (its.service c.next.new.from)) (shown.sessions (its.service c.answer_line.new.live)) (sent first) (sent taken) (sent new) it.sends far);
+          let own = watched start in
+          let far = far_answered_kept (left first) (unread c.lines.lines (left mid)) c.lines.lines.given own (watched c.lines.live) (watched c.next.new.from) (sent first) (sent mid) (sent taken) (watched_same (watched c.next.new.from) (watched c.lines.live) beside.changed.sessions beside.followed_same) c.next.ensures.sent inv.answered in
+          let F : Option (List ℕ) → Type 0 = λ l. FarAnswered (left first) (unread c.next.new.self l) c.next.new.self.given own (watched c.answer_line.new.live) (sent first) (sent new) in
+          subst F (sym it.left) (far_answered_line (left first) c.lines.lines c.next.new.self (left mid) (left taken) line gives own (watched c.next.new.from) (watched c.answer_line.new.live) (sent first) (sent taken) (sent new) it.sends far);
       read = λ total book told stands.
           let state = its.state start total book in
           let read = far_read_kept (left first) (unread c.lines.lines (left mid)) c.lines.lines.given total state (view mid).image (view taken).image (held_by c.lines.live) (held_by c.next.new.from) (view first).reads (view mid).reads (view taken).reads kept.image same kept.reads (inv.read total book told stands) in
@@ -655,7 +657,7 @@ returns-in-End-clause-answers g c =
     let mid = pages c.lines.live in
     let taken = pages c.next.new.from in
     let beside = c.next.ensures.beside in
-    let own = shown.sessions (its.service start) in
-    let now = shown.sessions (its.service c.next.new.from) in
-    let far = far_answered_kept (left first) (unread c.lines.lines (left mid)) c.lines.lines.given own (shown.sessions (its.service c.lines.live)) now (sent first) (sent mid) (sent taken) beside.changed.sessions c.next.ensures.sent c.lines.invariant.answered in
+    let own = watched start in
+    let now = watched c.next.new.from in
+    let far = far_answered_kept (left first) (unread c.lines.lines (left mid)) c.lines.lines.given own (watched c.lines.live) now (sent first) (sent mid) (sent taken) (watched_same (watched c.next.new.from) (watched c.lines.live) beside.changed.sessions beside.followed_same) c.next.ensures.sent c.lines.invariant.answered in
     answered_far (left first) (unread c.lines.lines (left mid)) c.lines.lines.given own now (sent first) (sent taken) (c.in-Ok.ensures.end (ap Ok c.in-End.is)) far

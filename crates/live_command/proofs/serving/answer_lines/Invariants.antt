@@ -11,6 +11,7 @@ use Rattle.chart_service.specs.Shown as shown
 use Rattle.live_command.proofs.RunLemmas.{Far, LastsOn}
 use Rattle.hosted_lines.specs.Doing.{Goes, held_by, side_of}
 use Rattle.hosted_lines.specs.Shown.{pages}
+use Rattle.hosted_lines.specs.Answers.{watched}
 use Rattle.live_command.proofs.serving.answer_lines.Given as goal
 
 -- the lines given so far are answered, and all pushes behind them made
@@ -34,7 +35,7 @@ invariant-lines g l =
       far : its.ForBook first (λ total book. Far (left (pages first)) (unread l.lines (left (pages live))) l.lines.given total (its.state first total book) (its.view live).image (held_by live) (sent (pages first)) (sent (pages live)));
       read : its.ForBook first (λ total book. FarRead (left (pages first)) (unread l.lines (left (pages live))) l.lines.given total (its.state first total book) (its.view live).image (held_by live) (its.view first).reads (its.view live).reads);
       synced : FarSynced (left (pages first)) (unread l.lines (left (pages live))) l.lines.given (its.view first).syncs (its.view live).syncs;
-      answered : FarAnswered (left (pages first)) (unread l.lines (left (pages live))) l.lines.given (shown.sessions (its.service first)) (shown.sessions (its.service live)) (sent (pages first)) (sent (pages live));
+      answered : FarAnswered (left (pages first)) (unread l.lines (left (pages live))) l.lines.given (watched first) (watched live) (sent (pages first)) (sent (pages live));
       lasts : its.ForBook first (λ total book. LastsOn total (its.state first total book) (left (pages first)) (sent (pages first)) (its.view first) (its.view live));
     }
 

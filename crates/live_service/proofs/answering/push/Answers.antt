@@ -3,6 +3,7 @@ use Rattle.chart_service.specs.declared.failure.ServiceError.{ServiceError}
 use Rattle.live_view.specs.Live as follows
 use Rattle.live_view.specs.declared.errors.LiveFault.{LiveFault}
 use Rattle.live_service.proofs.Facts.{pushed, push_failed, none_so, none_failed}
+use Rattle.live_service.proofs.PushLemmas.{push_after}
 use Rattle.live_service.proofs.answering.push.Goals as goal
 
 pub returns-in-Ok : goal.returns-in-Ok
@@ -18,6 +19,8 @@ returns-in-Ok g c =
       reads = facts.reads;
       may = facts.may;
       opens = facts.opens;
+      shows = made.shows;
+      followed = push_after c.in-Ok.pushed c.args.live.now c.push.new.self made.unchanged made.pushes;
       fits = made.fits;
       moments = facts.moments;
       unchanged = facts.unchanged;
@@ -44,6 +47,8 @@ returns-in-Err-Stepper g c =
       reads = facts.reads;
       may = facts.may;
       opens = facts.opens;
+      shows = tt;
+      followed = tt;
       fits = tt;
       moments = facts.moments;
       unchanged = facts.unchanged;

@@ -4,6 +4,7 @@ use Rattle.live_view.specs.Live as follows
 use Rattle.live_view.specs.Lines.{live_line}
 use Rattle.live_view.specs.declared.errors.LiveFault.{LiveFault}
 use Rattle.live_service.proofs.Facts.{line_answered, line_failed, line_lacks}
+use Rattle.live_service.proofs.PushLemmas.{line_after}
 use Rattle.live_service.proofs.answering.step_line.Goals as goal
 
 pub returns-in-Ok : goal.returns-in-Ok
@@ -17,6 +18,7 @@ returns-in-Ok g c =
       reads = facts.reads;
       may = facts.may;
       opens = facts.opens;
+      followed = line_after (live_line c.args.line.now) c.args.line.now c.in-Ok.frame c.args.live.now c.step_line.new.self refl facts.may c.in-Ok.ensures.reply;
       fits = c.in-Ok.ensures.fits;
       unchanged = facts.unchanged;
       idle = facts.idle;
@@ -42,6 +44,7 @@ returns-in-Err-Stepper g c =
       reads = facts.reads;
       may = facts.may;
       opens = facts.opens;
+      followed = tt;
       fits = tt;
       unchanged = facts.unchanged;
       idle = facts.idle;
@@ -67,6 +70,7 @@ returns-in-Err-NoMemory g c =
       reads = facts.reads;
       may = facts.may;
       opens = facts.opens;
+      followed = tt;
       fits = tt;
       unchanged = facts.unchanged;
       idle = facts.idle;

@@ -4,7 +4,7 @@ use Rattle.om3_coeff.specs.declared.coef.Coef.{Coef}
 use Rattle.zoom_session.specs.Sessions.{session_of, viewed, without}
 use Rattle.chart_frames.specs.declared.frame.Frame.TheVariants.{View}
 use Rattle.std.proofs.Common.{Result}
-use Rattle.std.specs.Prelude.{IsSomeAnd, slice_get}
+use Rattle.std.specs.Prelude.{IfErr, IsSomeAnd, slice_get}
 use Rattle.zoom_session.specs.declared.errors.PlanError.{PlanError}
 use Rattle.chart_service.specs.declared.shown.Planned.{Planned}
 use Rattle.chart_service.specs.Looking.{IsGoodPlan}
@@ -16,6 +16,8 @@ use Rattle.chart_service.proofs.Answered.{answered_fits}
 use Rattle.chart_service.proofs.Keeping.{views_after_view}
 use Rattle.chart_service.proofs.Others.{stays_same, stays_viewed, stays_closed}
 use Rattle.chart_service.proofs.PlanLemmas.{replying_too_large, replying_node, replying_want, replying_view, looked_viewed, opens_view}
+use Rattle.chart_service.proofs.RoomLemmas.{never_large, room_same, room_viewed}
+use Rattle.chart_service.specs.Rooms.{IsShortFor}
 use Rattle.chart_service.proofs.service.Service.answer_coefs.Goals as goal
 
 pub returns-in-Err-TooLarge-clause-replying : goal.returns-in-Err-TooLarge-clause-replying
@@ -95,3 +97,22 @@ returns-clause-stays g c =
     let needed : Option (List (Key × Coef)) = (Some c.in-Ok.planned.plan.needed) in
     let kept : c.apply.new.self ≡ viewed c.args.number c.args.spec needed c.plan.new.self.sessions = search rules in
     stays_viewed c.args.number _ c.args.spec needed c.args.self.now.sessions c.plan.new.self.sessions c.apply.new.self kept c.plan.ensures.sessions
+
+pub returns-in-Err-TooLarge-clause-tells : goal.returns-in-Err-TooLarge-clause-tells
+returns-in-Err-TooLarge-clause-tells g c = λ fits.
+    let spec = c.args.spec in
+    let ss = c.args.self.now.sessions in
+    let R : Result Planned PlanError → Type 0 = λ r. IfErr r (IsShortFor (session_of c.args.number ss) spec.grid.w) in
+    absurd (never_large c.args.number spec ss c.in-Err-TooLarge.needed c.in-Err-TooLarge.cache c.in-Err-TooLarge.field-0 c.requires.unfiltered fits c.in-Err-TooLarge.field-0-is (subst R c.in-Err-TooLarge.is c.plan.ensures.large))
+
+pub returns-in-Err-TooLarge-clause-rooms : goal.returns-in-Err-TooLarge-clause-rooms
+returns-in-Err-TooLarge-clause-rooms g c = λ fits has. room_same c.args.number c.args.self.now.sessions c.plan.new.self.sessions c.plan.ensures.sessions has
+
+pub returns-clause-tells : goal.returns-clause-tells
+returns-clause-tells g c = λ fits. c.view_frame.ensures.session
+
+pub returns-clause-rooms : goal.returns-clause-rooms
+returns-clause-rooms g c = λ fits has.
+    let needed : Option (List (Key × Coef)) = Some c.in-Ok.planned.plan.needed in
+    let kept : c.apply.new.self ≡ viewed c.args.number c.args.spec needed c.plan.new.self.sessions = search rules in
+    room_viewed c.args.number c.args.spec needed c.args.self.now.sessions c.plan.new.self.sessions c.apply.new.self kept c.plan.ensures.sessions fits has

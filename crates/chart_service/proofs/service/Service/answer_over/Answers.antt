@@ -8,6 +8,7 @@ use Rattle.chart_service.proofs.Answered.{moves_answered, moves_refused}
 use Rattle.chart_service.proofs.LookLemmas.{replying_so, replying_refused}
 use Rattle.chart_service.proofs.ReadLemmas.{reads_by}
 use Rattle.chart_service.proofs.ViewLemmas.{reads_moved}
+use Rattle.chart_service.proofs.RoomLemmas.{fits_moved, never_bad}
 use Rattle.chart_service.proofs.service.Service.answer_over.Goals as goal
 
 pub returns-in-Ok-clause-replying : goal.returns-in-Ok-clause-replying
@@ -33,3 +34,22 @@ returns-in-Err-clause-replying g c = λ total book t0 t1 told stands moved.
     replying_refused (λ frame old new. Moves last number t0 t1 frame old new) (ReadsBy last.filter last.grid.w t0 t1 (slice_get book last.series)) c.refused.result total book ss view
     (moves_refused last number t0 t1 c.in-Err.field-0 c.refused.result (state_of book total ss) (subst (IsMoved last.grid t0 t1) c.in-Err.is moved) (omega (arith, c.requires.view.there, c.len-count.ensures.count, c.len-count.ensures.books total book c.requires.sound told stands)) c.refused.ensures.frame)
     (reads_by last.filter last.grid.w t0 t1 (slice_get book last.series) view.reads)
+
+pub returns-in-Ok-clause-tells : goal.returns-in-Ok-clause-tells
+returns-in-Ok-clause-tells g c = λ t0 t1 moved window fits.
+    let last = c.args.last in
+    let is : IsMoved last.grid t0 t1 (Ok c.in-Ok.grid) = subst (IsMoved last.grid t0 t1) c.in-Ok.is moved in
+    c.answer.ensures.tells (fits_moved c.args.number last c.in-Ok.grid t0 t1 c.args.self.now.sessions is fits)
+
+pub returns-in-Err-clause-tells : goal.returns-in-Err-clause-tells
+returns-in-Err-clause-tells g c = λ t0 t1 moved window fits.
+    absurd (never_bad c.args.last.grid t0 t1 c.in-Err.field-0 (subst (IsMoved c.args.last.grid t0 t1) c.in-Err.is moved) window)
+
+pub returns-in-Ok-clause-rooms : goal.returns-in-Ok-clause-rooms
+returns-in-Ok-clause-rooms g c = λ t0 t1 moved fits has.
+    let last = c.args.last in
+    let is : IsMoved last.grid t0 t1 (Ok c.in-Ok.grid) = subst (IsMoved last.grid t0 t1) c.in-Ok.is moved in
+    c.answer.ensures.rooms (fits_moved c.args.number last c.in-Ok.grid t0 t1 c.args.self.now.sessions is fits) has
+
+pub returns-in-Err-clause-rooms : goal.returns-in-Err-clause-rooms
+returns-in-Err-clause-rooms g c = λ t0 t1 moved fits has. has

@@ -16,6 +16,7 @@ use Rattle.chart_service.proofs.Filtered.{rows_fit}
 use Rattle.chart_service.proofs.Keeping.{views_after_view}
 use Rattle.chart_service.proofs.Others.{stays_same, stays_viewed, stays_closed}
 use Rattle.chart_service.proofs.PlanLemmas.{replying_scan, replying_rows, replying_want, looked_viewed, opens_rows_of}
+use Rattle.chart_service.proofs.RoomLemmas.{room_viewed}
 use Rattle.chart_service.proofs.service.Service.answer_rows.Goals as goal
 
 pub returns-in-Err-Node-clause-replying : goal.returns-in-Err-Node-clause-replying
@@ -78,3 +79,12 @@ returns-clause-stays g c =
     let needed : Option (List (Key × Coef)) = None in
     let kept : c.apply.new.self ≡ viewed c.args.number c.args.spec needed c.rows.new.self.sessions = search rules in
     stays_viewed c.args.number _ c.args.spec needed c.args.self.now.sessions c.rows.new.self.sessions c.apply.new.self kept c.rows.ensures.sessions
+
+pub returns-clause-tells : goal.returns-clause-tells
+returns-clause-tells g c = λ fits. ap (λ (r : RowsFrame). r.session) c.rows_frame-frame.ensures
+
+pub returns-clause-rooms : goal.returns-clause-rooms
+returns-clause-rooms g c = λ fits has.
+    let needed : Option (List (Key × Coef)) = None in
+    let kept : c.apply.new.self ≡ viewed c.args.number c.args.spec needed c.rows.new.self.sessions = search rules in
+    room_viewed c.args.number c.args.spec needed c.args.self.now.sessions c.rows.new.self.sessions c.apply.new.self kept c.rows.ensures.sessions fits has

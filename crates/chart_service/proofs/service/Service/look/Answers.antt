@@ -11,7 +11,9 @@ use Rattle.chart_service.specs.Stepping.{state_of, series_at, IsStepCause, Reads
 use Rattle.chart_service.specs.Shown as shown
 use Rattle.series_store.specs.Shown as stored
 use Rattle.chart_service.proofs.LookLemmas.{replying_so}
-use Rattle.chart_service.proofs.StepLemmas.{open_outside, open_cause, view_why, zoom_why, pan_why}
+use Rattle.chart_service.proofs.StepLemmas.{on_ok, open_outside, open_cause, view_why, zoom_why, pan_why}
+use Rattle.std.specs.Prelude.{OnOk}
+use Rattle.chart_service.specs.Rooms.{LeavesOpen}
 use Rattle.chart_service.proofs.service.Service.look.Goals as goal
 
 pub returns-in-Open-clause-replying : goal.returns-in-Open-clause-replying
@@ -126,3 +128,28 @@ pub returns-in-Close-clause-may : goal.returns-in-Close-clause-may
 returns-in-Close-clause-may g c =
     let E : Request → Type 0 = λ r. MayAnswer r c.close.result in
     subst E (sym c.in-Close.is) c.close.ensures.may
+
+pub returns-in-Open-clause-leaves : goal.returns-in-Open-clause-leaves
+returns-in-Open-clause-leaves g c =
+    let E : Request → Type 0 = λ r. OnOk c.open.result (LeavesOpen r c.args.self.now.sessions c.open.new.self.sessions) in
+    subst E (sym c.in-Open.is) c.open.ensures.leaves
+
+pub returns-in-View-clause-leaves : goal.returns-in-View-clause-leaves
+returns-in-View-clause-leaves g c =
+    let E : Request → Type 0 = λ r. OnOk c.view_by_text.result (LeavesOpen r c.args.self.now.sessions c.view_by_text.new.self.sessions) in
+    subst E (sym c.in-View.is) (on_ok c.view_by_text.result _ c.view_by_text.ensures.stays.others)
+
+pub returns-in-Zoom-clause-leaves : goal.returns-in-Zoom-clause-leaves
+returns-in-Zoom-clause-leaves g c =
+    let E : Request → Type 0 = λ r. OnOk c.zoom.result (LeavesOpen r c.args.self.now.sessions c.zoom.new.self.sessions) in
+    subst E (sym c.in-Zoom.is) c.zoom.ensures.rooms
+
+pub returns-in-Pan-clause-leaves : goal.returns-in-Pan-clause-leaves
+returns-in-Pan-clause-leaves g c =
+    let E : Request → Type 0 = λ r. OnOk c.pan.result (LeavesOpen r c.args.self.now.sessions c.pan.new.self.sessions) in
+    subst E (sym c.in-Pan.is) c.pan.ensures.rooms
+
+pub returns-in-Close-clause-leaves : goal.returns-in-Close-clause-leaves
+returns-in-Close-clause-leaves g c =
+    let E : Request → Type 0 = λ r. LeavesOpen r c.args.self.now.sessions c.close.new.self.sessions in
+    subst E (sym c.in-Close.is) c.close.ensures.leaves

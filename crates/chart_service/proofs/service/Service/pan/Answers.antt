@@ -11,6 +11,7 @@ use Rattle.series_store.specs.Shown as stored
 use Rattle.chart_service.proofs.Answered.{move_answered}
 use Rattle.chart_service.proofs.LookLemmas.{causes_so, replying_so}
 use Rattle.chart_service.proofs.ViewLemmas.{last_shown, reads_of_last}
+use Rattle.chart_service.proofs.RoomLemmas.{fits_last, keep_rooms}
 use Rattle.chart_service.proofs.service.Service.pan.Goals as goal
 
 pub returns-clause-replying : goal.returns-clause-replying
@@ -43,3 +44,19 @@ returns-clause-cause g c =
     let is : IsLastOf session (Ok last) = subst L (sym c.in_ok-last-in-Ok.ensures) c.in-Ok.ensures.last in
     causes_so (λ id. id ≡ last.series) (IsLastShown (last_of session)) c.answer_over.result (g.P.Pages.told (stored.pages store)) (stored.catalog store) (stored.total store) (g.P.Pages.view (stored.pages store)) (g.P.Pages.view (stored.pages new))
     (last_shown session last is) c.answer_over.ensures.cause
+
+pub returns-in-Err-clause-rooms : goal.returns-in-Err-clause-rooms
+returns-in-Err-clause-rooms g c = λ n has. has
+
+pub returns-clause-rooms : goal.returns-clause-rooms
+returns-clause-rooms g c =
+    let ss = c.args.self.now.sessions in
+    let number = c.args.number in
+    let last = c.in_ok-last-in-Ok.last in
+    let L : ViewSpec → Type 0 = λ l. IsLastOf (session_of number ss) (Ok l) in
+    let is : IsLastOf (session_of number ss) (Ok last) = subst L (sym c.in_ok-last-in-Ok.ensures) c.in-Ok.ensures.last in
+    let by : FitsSigned w128 c.args.by = search rules in
+    let B : ℤ → Type 0 = λ by. IsMoved last.grid (last.grid.t0 +ℤ by) (last.grid.t1 +ℤ by) c.panned-grid.result in
+    let moved : IsMoved last.grid (last.grid.t0 +ℤ c.args.by) (last.grid.t1 +ℤ c.args.by) c.panned-grid.result = subst B (to_z-of_z w128 c.args.by by) c.panned-grid.ensures in
+    keep_rooms c.answer_over.result number ss c.answer_over.new.self.sessions c.answer_over.ensures.stays.others
+    (λ has. c.answer_over.ensures.rooms (last.grid.t0 +ℤ c.args.by) (last.grid.t1 +ℤ c.args.by) moved (fits_last number ss last is has) has)

@@ -9,6 +9,7 @@ use Rattle.chart_service.specs.Looking.{IsPlanCause}
 use Rattle.chart_service.proofs.Answered.{planned_over}
 use Rattle.chart_service.proofs.LookLemmas.{node_cause, disk_alone}
 use Rattle.chart_service.proofs.PlanLemmas.{plan_cause, if_err}
+use Rattle.chart_service.proofs.RoomLemmas.{short_for}
 use Rattle.chart_service.proofs.SelectLemmas.{there, some_there, reads_there}
 use Rattle.chart_service.proofs.service.Service.plan.Goals as goal
 
@@ -51,3 +52,8 @@ returns-clause-reads g c = λ total book told stands.
     let fit = c.requires.sound in
     reads_there spec.grid.w book spec.series c.selected-axis.result.slots (g.P.Pages.view (shown.pages c.args.self.now)).reads (g.P.Pages.view (store.pages after)).reads (c.selected-axis.ensures.there total book fit told stands)
     (λ series at. ap (λ (a : Axis). a.slots) (c.selected-axis.ensures.axis_is total book series fit told stands at)) few
+
+pub returns-clause-large : goal.returns-clause-large
+returns-clause-large g c =
+    let spec = c.args.spec.now in
+    short_for (session_of c.args.number c.args.self.now.sessions) (store.nodes c.selected-axis.new.store) (store.nodes c.plan.new.nodes) spec.grid.w c.selected-axis.result.slots c.plan.result c.plan.ensures.refused c.plan.ensures.large

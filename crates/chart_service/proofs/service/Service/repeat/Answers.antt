@@ -17,6 +17,7 @@ use Rattle.series_store.specs.Shown as stored
 use Rattle.chart_service.proofs.Faulting.{counts_step, view_risen}
 use Rattle.chart_service.proofs.LookLemmas.{unchanged, steps_so}
 use Rattle.chart_service.proofs.StepLemmas.{AreOwn, look_reply, look_bad, on_ok, zoom_why}
+use Rattle.chart_grid.specs.Limits.{IsWindow}
 use Rattle.chart_service.proofs.service.Service.repeat.Goals as goal
 
 pub returns : goal.returns
@@ -67,6 +68,11 @@ returns g c =
       sessions = looked.lost;
       kept = looked.kept;
       may = c.zoom-reply.ensures.may;
+      tells = λ has.
+          let F : ℤ → Type 0 = λ t. IsWindow t last.grid.t1 in
+          let T : ℤ → Type 0 = λ t. IsWindow t0 t in
+          c.zoom-reply.ensures.tells (subst T (sym (to_z-of_z w128 c.from-t1.result to_fits ∙ to_is)) (subst F (sym (to_z-of_z w128 c.from-t0.result from_fits ∙ from_is)) last.grid.window)) has;
+      rooms = c.zoom-reply.ensures.rooms;
       stays = c.zoom-reply.ensures.stays;
       moments = looks.time;
       idle = unchanged _ _ _ _ _ _ _ _ _ _ looks;

@@ -18,6 +18,8 @@ use Rattle.chart_service.proofs.KindLemmas.{kept_same}
 use Rattle.chart_service.proofs.LookLemmas.{unchanged, unchanged_so, steps_so, moments_so}
 use Rattle.chart_service.proofs.StepLemmas.{AreOwn, look_reply, request_bad, edit_bad, on_ok}
 use Rattle.chart_service.proofs.SyncLemmas.{asks_one}
+use Rattle.std.specs.Prelude.{OnOk}
+use Rattle.chart_service.specs.Rooms.{LeavesOpen}
 use Rattle.chart_service.proofs.service.Service.step.Goals as goal
 
 pub returns-in-Edit-clause-reply : goal.returns-in-Edit-clause-reply
@@ -76,6 +78,7 @@ returns-in_default g c =
       sessions = looked.lost;
       kept = looked.kept;
       may = c.look-reply.ensures.may;
+      leaves = c.look-reply.ensures.leaves;
       unchanged = unchanged_so r (g.P.Pages.told (stored.pages store)) (g.P.Pages.view (stored.pages store)) (g.P.Pages.view (stored.pages new)) (unchanged _ _ _ _ _ _ _ _ _ _ looks);
       idle = λ none. unchanged _ _ _ _ _ _ _ _ _ _ looks;
       same_book = λ total book told stands keeps. let kept = unchanged _ _ _ _ _ _ _ _ _ _ looks in (kept.syncs, kept.writes);
@@ -114,3 +117,8 @@ returns-in-Edit-clause-faults g c =
     let old = g.P.Pages.view (stored.pages store) in
     let new = g.P.Pages.view (stored.pages c.edit.new.self.store) in
     counts_step c.edit.result old new c.edit.ensures.steps.beside (step_risen c.edit.result (EditRequest c.in-Edit.edit) (g.P.Pages.told (stored.pages store)) (stored.catalog store) c.args.self.now.sessions (stored.numbers store) old new c.edit.ensures.cause) c.edit.ensures.quiet c.edit.ensures.quiet_err
+
+pub returns-in-Edit-clause-leaves : goal.returns-in-Edit-clause-leaves
+returns-in-Edit-clause-leaves g c =
+    let E : Request → Type 0 = λ r. OnOk c.edit.result (LeavesOpen r c.args.self.now.sessions c.edit.new.self.sessions) in
+    subst E (sym c.in-Edit.is) (on_ok c.edit.result _ c.edit.ensures.sessions)

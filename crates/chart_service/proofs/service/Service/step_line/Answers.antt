@@ -12,6 +12,7 @@ use Rattle.chart_service.proofs.LineLemmas.{long_line}
 use Rattle.chart_service.proofs.StepLemmas.{line_reply, line_moments, bad_line}
 use Rattle.chart_service.proofs.Sending.{text_is}
 use Rattle.chart_service.proofs.SyncLemmas.{no_edit}
+use Rattle.chart_service.proofs.RoomLemmas.{line_leaves, line_same}
 use Rattle.chart_service.proofs.service.Service.step_line.Goals as goal
 
 pub returns-then-line-gt-LONGEST_LINE-clause-reply : goal.returns-then-line-gt-LONGEST_LINE-clause-reply
@@ -90,3 +91,15 @@ returns-in-Err-BadLine-clause-may g c =
     let R : LineError → Type 0 = λ e. ReadsAs (read_line c.args.line.now) (Err e) in
     let is : read_line c.args.line.now ≡ Err c.in-Err-BadLine.at = subst R c.in-Err-BadLine.field-0-is c.in-Err-BadLine.ensures.reading in
     may_bad c.args.line.now c.in-Err-BadLine.at c.refused-in-Err-BadLine.result short is c.refused-in-Err-BadLine.ensures.frame
+
+pub returns-then-line-gt-LONGEST_LINE-clause-leaves : goal.returns-then-line-gt-LONGEST_LINE-clause-leaves
+returns-then-line-gt-LONGEST_LINE-clause-leaves g c = line_same (line_text c.args.line.now) c.args.self.now.sessions
+
+pub returns-in-Ok-clause-leaves : goal.returns-in-Ok-clause-leaves
+returns-in-Ok-clause-leaves g c =
+    let short : length c.args.line.now ≤ 8192 = omega arith in
+    let is : read_line c.args.line.now ≡ Ok c.in-Ok.request = c.in-Ok.ensures.reading in
+    line_leaves c.step.result c.args.line.now c.in-Ok.request c.args.self.now.sessions c.step.new.self.sessions short is c.step.ensures.leaves
+
+pub returns-in-Err-BadLine-clause-leaves : goal.returns-in-Err-BadLine-clause-leaves
+returns-in-Err-BadLine-clause-leaves g c = line_same (line_text c.args.line.now) c.args.self.now.sessions

@@ -11,6 +11,7 @@ use Rattle.series_store.specs.Shown as stored
 use Rattle.chart_service.proofs.Answered.{move_answered}
 use Rattle.chart_service.proofs.LookLemmas.{causes_so, replying_so}
 use Rattle.chart_service.proofs.ViewLemmas.{last_shown, reads_of_last}
+use Rattle.chart_service.proofs.RoomLemmas.{fits_last, keep_rooms, never_none}
 use Rattle.chart_service.proofs.service.Service.zoom.Goals as goal
 
 pub returns-clause-replying : goal.returns-clause-replying
@@ -45,3 +46,38 @@ returns-clause-cause g c =
     let is : IsLastOf session (Ok last) = subst L (sym c.in_ok-last-in-Ok.ensures) c.in-Ok.ensures.last in
     causes_so (λ id. id ≡ last.series) (IsLastShown (last_of session)) c.answer_over.result (g.P.Pages.told (stored.pages store)) (stored.catalog store) (stored.total store) (g.P.Pages.view (stored.pages store)) (g.P.Pages.view (stored.pages new))
     (last_shown session last is) c.answer_over.ensures.cause
+
+pub returns-in-Err-clause-tells : goal.returns-in-Err-clause-tells
+returns-in-Err-clause-tells g c = λ window has. absurd (never_none c.args.number c.args.self.now.sessions c.in-Err.refusal c.in-Err.ensures.last has)
+
+pub returns-clause-tells : goal.returns-clause-tells
+returns-clause-tells g c = λ window has.
+    let ss = c.args.self.now.sessions in
+    let number = c.args.number in
+    let last = c.in_ok-last-in-Ok.last in
+    let L : ViewSpec → Type 0 = λ l. IsLastOf (session_of number ss) (Ok l) in
+    let is : IsLastOf (session_of number ss) (Ok last) = subst L (sym c.in_ok-last-in-Ok.ensures) c.in-Ok.ensures.last in
+    let from : FitsSigned w128 c.args.t0 = search rules in
+    let to : FitsSigned w128 c.args.t1 = search rules in
+    let A : ℤ → Type 0 = λ t0. IsMoved last.grid t0 c.args.t1 c.zoomed-grid.result in
+    let B : ℤ → Type 0 = λ t1. IsMoved last.grid (to_z w128 (of_z w128 c.args.t0)) t1 c.zoomed-grid.result in
+    let moved : IsMoved last.grid c.args.t0 c.args.t1 c.zoomed-grid.result = subst A (to_z-of_z w128 c.args.t0 from) (subst B (to_z-of_z w128 c.args.t1 to) c.zoomed-grid.ensures) in
+    c.answer_over.ensures.tells c.args.t0 c.args.t1 moved window (fits_last number ss last is has)
+
+pub returns-in-Err-clause-rooms : goal.returns-in-Err-clause-rooms
+returns-in-Err-clause-rooms g c = λ n has. has
+
+pub returns-clause-rooms : goal.returns-clause-rooms
+returns-clause-rooms g c =
+    let ss = c.args.self.now.sessions in
+    let number = c.args.number in
+    let last = c.in_ok-last-in-Ok.last in
+    let L : ViewSpec → Type 0 = λ l. IsLastOf (session_of number ss) (Ok l) in
+    let is : IsLastOf (session_of number ss) (Ok last) = subst L (sym c.in_ok-last-in-Ok.ensures) c.in-Ok.ensures.last in
+    let from : FitsSigned w128 c.args.t0 = search rules in
+    let to : FitsSigned w128 c.args.t1 = search rules in
+    let A : ℤ → Type 0 = λ t0. IsMoved last.grid t0 c.args.t1 c.zoomed-grid.result in
+    let B : ℤ → Type 0 = λ t1. IsMoved last.grid (to_z w128 (of_z w128 c.args.t0)) t1 c.zoomed-grid.result in
+    let moved : IsMoved last.grid c.args.t0 c.args.t1 c.zoomed-grid.result = subst A (to_z-of_z w128 c.args.t0 from) (subst B (to_z-of_z w128 c.args.t1 to) c.zoomed-grid.ensures) in
+    keep_rooms c.answer_over.result number ss c.answer_over.new.self.sessions c.answer_over.ensures.stays.others
+    (λ has. c.answer_over.ensures.rooms c.args.t0 c.args.t1 moved (fits_last number ss last is has) has)

@@ -9,7 +9,7 @@ use Rattle.series_book.specs.declared.edits.Edit.{Edit}
 use Rattle.line_runs.specs.Given.{Line}
 use Rattle.live_service.specs.Shown as its
 use Rattle.served_lines.proofs.Steps.{said_some}
-use Rattle.hosted_lines.specs.Answers.{MayAnswerHost}
+use Rattle.hosted_lines.specs.Answers.{MayAnswerHost, followed_behind, watched}
 use Rattle.hosted_lines.specs.Doing.{held_by, held_with}
 use Rattle.hosted_lines.specs.Shown.{pages}
 use Rattle.hosted_lines.proofs.AnswersLemmas.{sends_so}
@@ -103,7 +103,7 @@ returns-else-len-lt-MOST_EDITS-clause-does g c = λ stand stands.
     (sym (said lines)) (e.does (lines ++ line ∷ []) (all lines spell) total book told stands sound))
     (shown.IsTold (its.service new)) e.goes.is_told c.settle.new.turns.edits.items e.none
     (λ lines spell. by_fewer (lines ++ line ∷ []) (lines ++ unless_empty line) 1 1 0 (said lines) (omega arith) (by_many (lines ++ line ∷ []) c.push.new.self.items (all lines spell) many)) e.idle
-    (λ lines spell. sends_so MayAnswerHost c.settle.result (lines ++ line ∷ []) (lines ++ unless_empty line) (shown.sessions (its.service it)) (shown.sessions (its.service new)) (sent (pages it)) (sent (pages new)) (sym (said lines))
+    (λ lines spell. sends_so MayAnswerHost followed_behind c.settle.result (lines ++ line ∷ []) (lines ++ unless_empty line) (watched it) (watched new) (sent (pages it)) (sent (pages new)) (sym (said lines))
     (e.sends (lines ++ line ∷ []) (all lines spell))) stand stands
 
 pub returns-else-len-lt-MOST_EDITS-clause-stops : goal.returns-else-len-lt-MOST_EDITS-clause-stops

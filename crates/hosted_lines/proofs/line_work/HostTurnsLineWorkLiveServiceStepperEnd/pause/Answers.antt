@@ -3,7 +3,7 @@ use Rattle.std.proofs.lemmas.List.{append-nil}
 use Rattle.chart_service.specs.Shown as shown
 use Rattle.line_runs.specs.Given.{Pause}
 use Rattle.live_service.specs.Shown as its
-use Rattle.hosted_lines.specs.Answers.{MayAnswerHost}
+use Rattle.hosted_lines.specs.Answers.{MayAnswerHost, followed_behind, watched}
 use Rattle.hosted_lines.specs.Doing.{held_by, held_with}
 use Rattle.hosted_lines.specs.Shown.{pages}
 use Rattle.hosted_lines.proofs.AnswersLemmas.{sends_so}
@@ -23,7 +23,7 @@ returns-clause-does g c = λ stand stands.
     (λ lines spell total book told stands sound. lines_so 1 lines (lines ++ []) total (held_with total book (held_by it)) c.settle.result (its.view it) (its.view new) (held_by new) (sent (pages it)) (sent (pages new)) (sym (append-nil lines))
     (e.does lines spell total book told stands sound))
     (shown.IsTold (its.service new)) e.goes.is_told c.settle.new.turns.edits.items e.none (λ lines spell. by_pause lines edits spell) e.idle
-    (λ lines spell. sends_so MayAnswerHost c.settle.result lines (lines ++ []) (shown.sessions (its.service it)) (shown.sessions (its.service new)) (sent (pages it)) (sent (pages new)) (sym (append-nil lines)) (e.sends lines spell))
+    (λ lines spell. sends_so MayAnswerHost followed_behind c.settle.result lines (lines ++ []) (watched it) (watched new) (sent (pages it)) (sent (pages new)) (sym (append-nil lines)) (e.sends lines spell))
     stand stands
 
 pub returns-clause-stops : goal.returns-clause-stops

@@ -1,12 +1,16 @@
-use Rattle.std.proofs.Common.{ℕ, ◌≤◌, List, length, arith}
+use Rattle.std.proofs.Common.{ℕ, ◌≤◌, List, None, length, arith}
+use Rattle.std.specs.Prelude.{Contains, IsTrue, nat_eq}
+use Rattle.std.specs.Set.{is_member}
 use Rattle.std.specs.List.Sorted.{IsStrictlyIncreasing}
 use Rattle.std.proofs.lemmas.List.Kept.{IsStrictlyIncreasing-filter}
-use Rattle.std.proofs.lemmas.List.Elements.{All-filter, filter_passes}
+use Rattle.std.proofs.lemmas.List.Elements.{All-contains, All-filter, filter_passes}
 use Rattle.zoom_session.specs.Sessions.{is_open}
 use Rattle.live_view.specs.Numbers.{ArePositive}
 use Rattle.live_view.specs.Sessions.{AreOpen, open_among}
 use Rattle.live_view.proofs.NumberLemmas.{so-too, some-few, rest-rises, rest-all, first-of-all, first_of}
 use Rattle.live_view.proofs.OpenLemmas.{open-alike, views-stay}
+use Rattle.live_view.specs.Following.{AreAble, AreAmong, CanFollow}
+use Rattle.live_view.proofs.CanLemmas.{able-all, among-all, can-all, in-all, open-can, rest-among, still-can}
 use Rattle.live_view.proofs.live.Live.push.Goals as goal
 
 pub invariant_of-self : goal.invariant_of-self
@@ -23,6 +27,8 @@ invariant_of-self g c =
       queue = rest-rises c.remove-session.result c.args.self.now.pending.items rest first c.args.self.now.queue;
       viewed = views-stay old new c.args.self.now.pending.items rest c.remove-session.result c.args.self.now.queue first c.repeat.ensures.others c.args.self.now.viewed;
       queued = rest-all (λ n. 1 ≤ n) c.remove-session.result c.args.self.now.pending.items rest first c.args.self.now.queued;
+      able = able-all new c.args.self.now.followed.items (still-can None c.args.self.now.followed.items old new c.in-Ok.ensures.goes (can-all old c.args.self.now.followed.items c.args.self.now.able));
+      among = rest-all (λ n. IsTrue (is_member nat_eq c.args.self.now.followed.items n)) c.remove-session.result c.args.self.now.pending.items rest first c.args.self.now.among;
     }
 
 pub invariant_of-self-in-Err : goal.invariant_of-self-in-Err
@@ -41,6 +47,10 @@ invariant_of-self-in-Err g c =
       queue = rest-rises c.remove-session.result c.args.self.now.pending.items rest first c.args.self.now.queue;
       viewed = views-stay old new c.args.self.now.pending.items rest c.remove-session.result c.args.self.now.queue first c.repeat.ensures.others c.args.self.now.viewed;
       queued = rest-all (λ n. 1 ≤ n) c.remove-session.result c.args.self.now.pending.items rest first c.args.self.now.queued;
+      able = so-too (AreAble new) left c.keep_open.new.numbers.items c.keep_open.ensures (able-all new left (open-can followed old new c.in-Err.ensures.lost (can-all old followed c.args.self.now.able)));
+      among = so-too (λ l. AreAmong l rest) left c.keep_open.new.numbers.items c.keep_open.ensures
+          (among-all left rest (rest-among old new followed c.args.self.now.pending.items rest c.remove-session.result c.args.self.now.queue first c.repeat.ensures.others
+          (can-all old followed c.args.self.now.able) (in-all followed c.args.self.now.pending.items c.args.self.now.among)));
     }
 
 pub repeat-requires-clause-number : goal.repeat-requires-clause-number
@@ -48,3 +58,12 @@ repeat-requires-clause-number g c =
     let rest : List ℕ = c.remove-session.new.self.items in
     let first = first_of c.args.self.now.pending.items rest c.remove-session.result (omega (arith, c.remove-session.ensures.len)) c.remove-session.ensures.value c.remove-session.ensures.items in
     first-of-all (λ n. 1 ≤ n) c.remove-session.result c.args.self.now.pending.items rest first c.args.self.now.queued
+
+pub returns-in-Ok-clause-shows : goal.returns-in-Ok-clause-shows
+returns-in-Ok-clause-shows g c =
+    let followed : List ℕ = c.args.self.now.followed.items in
+    let old = g.S.Stepper.sessions c.args.self.now.stepper in
+    let rest : List ℕ = c.remove-session.new.self.items in
+    let first = first_of c.args.self.now.pending.items rest c.remove-session.result (omega (arith, c.remove-session.ensures.len)) c.remove-session.ensures.value c.remove-session.ensures.items in
+    let here : Contains followed c.remove-session.result = first-of-all (Contains followed) c.remove-session.result c.args.self.now.pending.items rest first (in-all followed c.args.self.now.pending.items c.args.self.now.among) in
+    record { session = c.remove-session.result; among = here; shows = c.in-Ok.ensures.shows (All-contains (CanFollow old) followed c.remove-session.result (can-all old followed c.args.self.now.able) here) }

@@ -5,6 +5,8 @@ use Rattle.live_view.specs.Replies.{followers}
 use Rattle.live_view.specs.Sessions.{HaveViews}
 use Rattle.live_view.proofs.NumberLemmas.{so-too}
 use Rattle.live_view.proofs.PassingLemmas.{followers-rise, followers-viewed, followers-all}
+use Rattle.live_view.specs.Following.{AreAmong}
+use Rattle.live_view.proofs.CanLemmas.{own-among}
 use Rattle.live_view.proofs.live.Live.push_to.Goals as goal
 
 pub invariant_of-self : goal.invariant_of-self
@@ -23,4 +25,6 @@ invariant_of-self g c =
       queue = so-too IsStrictlyIncreasing pushed c.followers.result.items queued (followers-rise series sessions followed c.args.self.now.rising);
       viewed = so-too (HaveViews sessions) pushed c.followers.result.items queued (followers-viewed series sessions followed);
       queued = so-too ArePositive pushed c.followers.result.items queued (followers-all (λ n. 1 ≤ n) series sessions followed c.args.self.now.named);
+      able = c.args.self.now.able;
+      among = so-too (AreAmong followed) pushed c.followers.result.items queued (own-among series sessions followed);
     }

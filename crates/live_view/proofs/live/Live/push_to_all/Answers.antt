@@ -5,6 +5,8 @@ use Rattle.std.proofs.lemmas.List.Elements.{All-filter, filter_passes}
 use Rattle.live_view.specs.Numbers.{ArePositive}
 use Rattle.live_view.specs.Sessions.{HaveViews, has_view, viewed_among}
 use Rattle.live_view.proofs.NumberLemmas.{so-too}
+use Rattle.live_view.specs.Following.{AreAmong}
+use Rattle.live_view.proofs.CanLemmas.{viewed-among}
 use Rattle.live_view.proofs.live.Live.push_to_all.Goals as goal
 
 pub invariant_of-self : goal.invariant_of-self
@@ -22,4 +24,6 @@ invariant_of-self g c =
       queue = so-too IsStrictlyIncreasing pushed c.viewed_among.result.items queued (IsStrictlyIncreasing-filter (λ n. has_view n sessions) followed c.args.self.now.rising);
       viewed = so-too (HaveViews sessions) pushed c.viewed_among.result.items queued (filter_passes (λ n. has_view n sessions) followed);
       queued = so-too ArePositive pushed c.viewed_among.result.items queued (All-filter (λ n. has_view n sessions) (λ n. 1 ≤ n) followed c.args.self.now.named);
+      able = c.args.self.now.able;
+      among = so-too (AreAmong followed) pushed c.viewed_among.result.items queued (viewed-among sessions followed);
     }

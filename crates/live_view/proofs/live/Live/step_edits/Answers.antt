@@ -7,6 +7,8 @@ use Rattle.live_view.specs.Sessions.{AreOpen, HaveViews}
 use Rattle.live_view.proofs.GroupLemmas.{group-rises, group-viewed, group-all}
 use Rattle.live_view.proofs.NumberLemmas.{so-too}
 use Rattle.live_view.proofs.PassingLemmas.{none-viewed}
+use Rattle.live_view.specs.Following.{AreAble, AreAmong}
+use Rattle.live_view.proofs.CanLemmas.{group-among}
 use Rattle.live_view.proofs.live.Live.step_edits.Goals as goal
 
 pub invariant_of-self-in-Ok : goal.invariant_of-self-in-Ok
@@ -18,6 +20,7 @@ invariant_of-self-in-Ok g c =
     let pushed : List ℕ = followers_of to.series new followed in
     let is : c.in_ok-pushed-in-Ok.pushed.items ≡ pushed = to.pushed_to ∙ ap (followers_of to.series new) c.deref.ensures.value in
     let O : List Session → Type 0 = λ ss. AreOpen ss followed in
+    let C : List Session → Type 0 = λ ss. AreAble ss followed in
     record {
       rising = c.args.self.now.rising;
       few = c.args.self.now.few;
@@ -26,12 +29,15 @@ invariant_of-self-in-Ok g c =
       queue = so-too IsStrictlyIncreasing pushed c.in_ok-pushed-in-Ok.pushed.items is (group-rises to.series new followed c.args.self.now.rising);
       viewed = so-too (HaveViews new) pushed c.in_ok-pushed-in-Ok.pushed.items is (group-viewed to.series new followed);
       queued = so-too ArePositive pushed c.in_ok-pushed-in-Ok.pushed.items is (group-all (λ n. 1 ≤ n) to.series new followed c.args.self.now.named);
+      able = subst C (sym c.step_edits.ensures.same_sessions) c.args.self.now.able;
+      among = so-too (AreAmong followed) pushed c.in_ok-pushed-in-Ok.pushed.items is (group-among to.series new followed);
     }
 
 pub invariant_of-self : goal.invariant_of-self
 invariant_of-self g c =
     let new = g.S.Stepper.sessions c.step_edits.new.self in
     let O : List Session → Type 0 = λ ss. AreOpen ss c.args.self.now.followed.items in
+    let C : List Session → Type 0 = λ ss. AreAble ss c.args.self.now.followed.items in
     record {
       rising = c.args.self.now.rising;
       few = c.args.self.now.few;
@@ -40,4 +46,6 @@ invariant_of-self g c =
       queue = c.args.self.now.queue;
       viewed = so-too (HaveViews new) [] c.args.self.now.pending.items c.requires.idle (none-viewed new);
       queued = c.args.self.now.queued;
+      able = subst C (sym c.step_edits.ensures.same_sessions) c.args.self.now.able;
+      among = c.args.self.now.among;
     }

@@ -8,6 +8,8 @@ use Rattle.live_view.specs.Numbers.{ArePositive}
 use Rattle.live_view.specs.Sessions.{AreOpen, HaveViews, open_among}
 use Rattle.live_view.proofs.NumberLemmas.{so-too, some-few}
 use Rattle.live_view.proofs.PassingLemmas.{still-rises, still-few, still-all, passed-open, followers-rise, followers-viewed, followers-all, none-viewed}
+use Rattle.live_view.specs.Following.{AreAble}
+use Rattle.live_view.proofs.CanLemmas.{able-all, among-so, can-all, followers-among, goes-means, none-among, open-can, still-can}
 use Rattle.live_view.proofs.live.Live.step_other.Goals as goal
 
 pub invariant_of-self : goal.invariant_of-self
@@ -30,10 +32,14 @@ invariant_of-self g c =
       queue = so-too IsStrictlyIncreasing pushed c.followers.result.items queued (followers-rise series new followed c.args.self.now.rising);
       viewed = so-too (HaveViews new) pushed c.followers.result.items queued (followers-viewed series new followed);
       queued = so-too ArePositive pushed c.followers.result.items queued (followers-all (λ n. 1 ≤ n) series new followed c.args.self.now.named);
+      able = so-too (AreAble new) left c.end_following.new.followed.items is
+          (able-all new left (still-can (ended meaning c.in-Ok.frame) followed old new (goes-means meaning _ c.in-Ok.frame old new c.in_ok-meaning.ensures c.in-Ok.ensures.goes) (can-all old followed c.args.self.now.able)));
+      among = among-so left c.end_following.new.followed.items pushed c.followers.result.items is queued (followers-among (g.S.Stepper.names c.step_line.new.self) meaning c.in-Ok.frame series new followed c.changed-series.ensures);
     }
 
 pub invariant_of-self-in-Err : goal.invariant_of-self-in-Err
 invariant_of-self-in-Err g c =
+    let old = g.S.Stepper.sessions c.args.self.now.stepper in
     let new = g.S.Stepper.sessions c.step_line.new.self in
     let followed : List ℕ = c.args.self.now.followed.items in
     let left : List ℕ = open_among new followed in
@@ -45,4 +51,6 @@ invariant_of-self-in-Err g c =
       queue = c.args.self.now.queue;
       viewed = so-too (HaveViews new) [] c.args.self.now.pending.items c.requires.idle (none-viewed new);
       queued = c.args.self.now.queued;
+      able = so-too (AreAble new) left c.keep_open.new.numbers.items c.keep_open.ensures (able-all new left (open-can followed old new c.in-Err.ensures.lost (can-all old followed c.args.self.now.able)));
+      among = none-among c.keep_open.new.numbers.items c.args.self.now.pending.items c.requires.idle;
     }

@@ -6,6 +6,8 @@ use Rattle.zoom_session.specs.Sessions.{is_open}
 use Rattle.live_view.specs.Numbers.{without_number, ArePositive}
 use Rattle.live_view.specs.Sessions.{AreOpen}
 use Rattle.live_view.proofs.NumberLemmas.{so-too, some-few, without-rises}
+use Rattle.live_view.specs.Following.{AreAble, can_follow}
+use Rattle.live_view.proofs.CanLemmas.{none-among}
 use Rattle.live_view.proofs.live.Live.unfollow.Goals as goal
 
 pub invariant_of-self : goal.invariant_of-self
@@ -21,4 +23,6 @@ invariant_of-self g c =
       queue = c.args.self.now.queue;
       viewed = c.args.self.now.viewed;
       queued = c.args.self.now.queued;
+      able = so-too (AreAble sessions) left c.take_out.new.numbers.items c.take_out.ensures (All-filter (λ m. not (m == c.args.session)) (λ n. IsTrue (can_follow n sessions)) followed c.args.self.now.able);
+      among = none-among c.take_out.new.numbers.items c.args.self.now.pending.items c.requires.idle;
     }

@@ -7,7 +7,7 @@ use Rattle.zoom_session.specs.declared.session.Session.{Session}
 use Rattle.zoom_session.specs.Places.{IsPlaceOf}
 use Rattle.zoom_session.specs.Plans.{AreNeeded, AreWanted}
 use Rattle.zoom_session.specs.Sessions.{session_of, fresh_session}
-use Rattle.zoom_session.proofs.Planning.{session_found, of_needed, range_at, plans_in, have_entries, walk_stops, keys_stop, counts_needed, always_ok, always_err}
+use Rattle.zoom_session.proofs.Planning.{session_found, of_needed, range_at, plans_in, have_entries, walk_stops, keys_stop, counts_needed, walk_few, keys_few, always_ok, always_err}
 use Rattle.zoom_session.proofs.sessions.Sessions.plan_view.Goals as goal
 
 pub returns-in_err-needed-clause-refused : goal.returns-in_err-needed-clause-refused
@@ -85,3 +85,12 @@ returns-clause-quiet g c = always_ok c.plan.result c.in_ok-needed.ensures.quiet
 
 pub returns-clause-quiet_err : goal.returns-clause-quiet_err
 returns-clause-quiet_err g c = always_err c.plan.result (λ e other. c.in_ok-needed.ensures.quiet)
+
+pub returns-in_err-needed-clause-large : goal.returns-in_err-needed-clause-large
+returns-in_err-needed-clause-large g c =
+    let few = walk_few (most_needed c.args.spec.now.grid.w c.args.axis.slots) c.in_err-needed.field-0.0 in
+    search rules
+
+pub returns-clause-large : goal.returns-clause-large
+returns-clause-large g c =
+    keys_few c.index.result.now c.in_ok-needed.needed (most_needed c.args.spec.now.grid.w c.args.axis.slots) c.plan.result c.in_ok-needed.ensures.few c.plan.ensures.too_large
