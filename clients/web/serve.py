@@ -21,6 +21,7 @@ import webbrowser
 HERE = os.path.dirname(os.path.realpath(__file__))
 ROOT = os.path.dirname(os.path.dirname(HERE))
 CHART = os.path.join(ROOT, "chart")
+POLL = 0.1  # seconds from one look for the end to the next, where nobody connects
 sys.dont_write_bytecode = True
 sys.path[:0] = [HERE, os.path.join(ROOT, "clients/python")]
 
@@ -129,7 +130,13 @@ def end_by_signal(*_):
 
 
 def serve(server, words):
-    """Answers until it is ended."""
+    """Answers until it is ended. A signal is noted and looked at between requests: what a handler raises is lost where it meets the
+    collection of garbage."""
+
+    def note(*_):
+        server.is_ended = True
+
+    signal.signal(signal.SIGTERM, note)
     query = "?" + urllib.parse.urlencode([("panel", name) for name in words.names]) if words.names else ""
     address = f"{server.origins[0]}/{query}#token={server.token}{'&edit' if words.edit else ''}"
     folder = tempfile.mkdtemp(prefix="chart-page-") if words.open else None
@@ -139,7 +146,7 @@ def serve(server, words):
             threading.Thread(target=feed, args=(server.program, sys.stdin.fileno()), daemon=True).start()
         if words.open:
             threading.Thread(target=open_in_browser, args=(address, folder), daemon=True).start()
-        server.serve_forever()
+        server.serve_forever(POLL)
     except KeyboardInterrupt:
         pass
     finally:

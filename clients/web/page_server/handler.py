@@ -293,10 +293,15 @@ class Handler(http.server.BaseHTTPRequestHandler):
 class Server(http.server.ThreadingHTTPServer):
     daemon_threads = True
     request_queue_size = 128
+    is_ended = False
 
     def __init__(self, *words):
         self.connections = Connections()
         super().__init__(*words)
+
+    def service_actions(self):
+        if self.is_ended:
+            raise SystemExit(0)
 
     def process_request(self, request, client_address):
         if self.connections.enter(request):
