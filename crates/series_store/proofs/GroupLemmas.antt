@@ -245,6 +245,7 @@ closed told told' old new under under' s s' txn is_changed items edits before re
       within = omega arith;
       some = λ some room. absurd (none some room);
       slots = no_slots;
+      reads = omega (arith, commits.reads);
     })
   where
     append_none : {X : Type 0} (xs : List X) → xs ++ [] ≡ xs
@@ -304,9 +305,9 @@ append_none {X} [] = refl
 append_none {X} (x ∷ xs) = ap (λ ys. x ∷ ys) (append_none xs)
 
 pub failed_next : (told told' : Type 0) (old new under under' : View) (s s' : Superblock) (txn txn' : Txn) (items items' : List StoredSeries) (edits : List Edit) (before answers : List (Result Outcome Refusal)) (result : Result (Unit {0}) StoreError) (e : StoreError)
-    → IsErrAnd result (λ cause. cause ≡ e) → IsNext told told' old new under under' s s' txn txn' items items' before answers (Err e) → IsGrouping told told' old new under under' s s' (length (held txn)) items items' edits before answers (drop (length before) answers) result
-failed_next told told' old new under under' s s' txn txn' items items' edits before answers (Ok done) e is next = absurd is
-failed_next told told' old new under under' s s' txn txn' items items' edits before answers (Err cause) e is next =
+    → 0 < length edits → IsErrAnd result (λ cause. cause ≡ e) → IsNext told told' old new under under' s s' txn txn' items items' before answers (Err e) → IsGrouping told told' old new under under' s s' (length (held txn)) items items' edits before answers (drop (length before) answers) result
+failed_next told told' old new under under' s s' txn txn' items items' edits before answers (Ok done) e some is next = absurd is
+failed_next told told' old new under under' s s' txn txn' items items' edits before answers (Err cause) e some is next =
     let A : List (Result Outcome Refusal) → Type 0 = λ added. IsGrouping told told' old new under under' s s' (length (held txn)) items items' edits before answers added (Err cause) in
     let F : StoreError → Type 0 = λ e. IsFailure e old.faults new.faults in
     let U : StoreError → Type 0 = λ e. IsUnchangedFor e told old new in
@@ -335,6 +336,7 @@ failed_next told told' old new under under' s s' txn txn' items items' edits bef
       within = omega arith;
       some = λ some room. tt;
       slots = no_slots;
+      reads = omega (arith, next.reads.reads.high, some);
     })
 
 pub failed_next_by : (told told' : Type 0) (old new : View) (txn txn' : Txn) (image' : Image) (ends is_changed : Bool) (total : ℕ) (book : List Series) (edit : Edit) (rest edits : List Edit) (before answers : List (Result Outcome Refusal)) (result : Result (Unit {0}) StoreError) (e : StoreError) → edits ≡ edit ∷ rest → answers ≡ before
@@ -448,6 +450,7 @@ stepped told told' told'' old mid new under under' under'' s s' s'' txn txn' ite
       within = omega (arith, group.within, ap length are);
       some = λ some room. on_ok result (0 < length (next.answer ∷ drop (length middle) answers)) (omega arith);
       slots = slots_after next.answer (drop (length middle) answers) next.slots group.slots;
+      reads = omega (arith, next.reads.reads.high, group.reads, ap length are);
     })
 
 take_of_none : (n : ℕ) (edits : List Edit) → edits ≡ [] → take n edits ≡ []
@@ -520,6 +523,7 @@ of_more told told' old new under under' s s' held_pages items items' few edits b
       within = omega (arith, group.within, less);
       some = λ any room. group.some some room;
       slots = group.slots;
+      reads = omega (arith, group.reads, less);
     }
 
 pub few_follow : (ends : Bool) (answer : Result Outcome Refusal) (rest behind : List Edit) → Follow ends answer rest behind → length behind ≤ length rest

@@ -75,6 +75,7 @@ pub record IsGrouping (told told' : Type 0) (old new under under' : View) (s s' 
   pub within : length added ≤ length edits
   pub some : 0 < length edits → held_pages ≤ 22 → OnOk result (0 < length added)
   pub slots : HaveFewSlots added
+  pub reads : new.reads ≤ old.reads + 96 * length edits
 
 -- The edits behind the answered one follow it, or, where a refusal ends them and that is one, none does.
 abbrev pub Follow : Bool → Result Outcome Refusal → List Edit → List Edit → Type 0

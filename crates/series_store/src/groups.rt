@@ -171,7 +171,7 @@ impl<P: Pages> Store<P> {
     /// that is done stands in the list, a refusal too.
     ///
     /// It takes as many frames of the stack as there are edits. It reads 96 blocks at most for each edit that it
-    /// does, and syncs four times at most. After `DiskFault` the store may be unsound, and has to be opened again: it
+    /// does, over damaged pages for each that it is given and 96 more, and syncs four times at most. After `DiskFault` the store may be unsound, and has to be opened again: it
     /// has the book from before the edits, or the one behind all that were to be committed. After another error
     /// nothing is changed. Where the pages stand for a book, no page is damaged.
     pub fn edit_group(
@@ -190,6 +190,8 @@ impl<P: Pages> Store<P> {
         ensures whole { shown.ForBook self.old (λ total book. PassesWhole total book edits.now (shown.view self.old) (shown.view self.new)) }
         ensures reads { shown.ForBook self.old (λ total book. (shown.view self.new).reads ≤ (shown.view self.old).reads + 96 * length edits.now) }
         ensures few_reads { shown.ForBook self.old (λ total book. IfOk result (λ answers. (shown.view self.new).reads ≤ (shown.view self.old).reads + 96 * length answers.items)) }
+        // whatever the pages are, each edit is read for once at most, and the first one twice
+        ensures most_reads { (shown.view self.new).reads ≤ (shown.view self.old).reads + 96 * (length edits.now + 1) }
         // edits that change no slot write and sync nothing
         ensures idle { shown.ForBook self.old (λ total book. IfOk result (λ answers. ChangeNone total book (take (length answers.items) edits.now) → shown.WritesNone self.old self.new)) }
         ensures moves { shown.MovesGroup self.old self.new }
@@ -228,6 +230,8 @@ impl<P: Pages> Store<P> {
         ensures whole { shown.ForBook self.old (λ total book. PassesUntil total book edits.now (shown.view self.old) (shown.view self.new)) }
         ensures reads { shown.ForBook self.old (λ total book. (shown.view self.new).reads ≤ (shown.view self.old).reads + 96 * length edits.now) }
         ensures few_reads { shown.ForBook self.old (λ total book. IfOk result (λ answers. (shown.view self.new).reads ≤ (shown.view self.old).reads + 96 * length answers.items)) }
+        // whatever the pages are, each edit is read for once at most, and the first one twice
+        ensures most_reads { (shown.view self.new).reads ≤ (shown.view self.old).reads + 96 * (length edits.now + 1) }
         // edits that change no slot write and sync nothing
         ensures idle { shown.ForBook self.old (λ total book. IfOk result (λ answers. ChangeNone total book (take (length answers.items) edits.now) → shown.WritesNone self.old self.new)) }
         ensures moves { shown.MovesGroup self.old self.new }
@@ -259,6 +263,7 @@ impl<P: Pages> Store<P> {
         requires some { 0 < length edits.now }
         requires are_edits { All IsEdit edits.now }
         ensures did { grouping.DoesGroup edits.now result self.old self.new }
+        ensures most_reads { (shown.view self.new).reads ≤ (shown.view self.old).reads + 96 * (length edits.now + 1) }
         ensures quiet { OnOk result ((shown.view self.new).faults ≡ (shown.view self.old).faults) }
         ensures quiet_err { IfErr result (λ e. e ≢ StoreError.DiskFault → (shown.view self.new).faults ≡ (shown.view self.old).faults) }
         ensures answered { shown.ForBook self.old (λ total book. grouping.AnswersGroup total book edits.now ends result self.old self.new) }
@@ -311,6 +316,7 @@ impl<P: Pages> Store<P> {
         requires idle { shown.SelectsNone self.old }
         requires is_edit { IsEdit edit.now }
         ensures did { grouping.DoesGroup (edit.now ∷ []) result self.old self.new }
+        ensures most_reads { (shown.view self.new).reads ≤ (shown.view self.old).reads + 96 }
         ensures quiet { OnOk result ((shown.view self.new).faults ≡ (shown.view self.old).faults) }
         ensures quiet_err { IfErr result (λ e. e ≢ StoreError.DiskFault → (shown.view self.new).faults ≡ (shown.view self.old).faults) }
         ensures idle { shown.SelectsNone self.new }

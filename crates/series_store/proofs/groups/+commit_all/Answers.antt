@@ -70,7 +70,7 @@ returns-in_err-undo-clause-groups g t c =
     let old = c.args.space.now in
     let next = c.stage_next.new in
     failed_next (told old.pages) (told next.space.pages) (view old.pages) (view next.space.pages) (under old.pages) (under next.space.pages) old.superblock next.space.superblock c.args.txn next.txn c.args.catalog.now.series.items next.catalog.series.items
-    c.args.edits.now c.args.answers.now.items next.answers.items c.from_residual.result c.in_err-undo.field-0.0 c.from_residual.ensures.1 c.in_err-undo.ensures.next
+    c.args.edits.now c.args.answers.now.items next.answers.items c.from_residual.result c.in_err-undo.field-0.0 (omega (arith, ap length c.in-Some.ensures.cases.0)) c.from_residual.ensures.1 c.in_err-undo.ensures.next
 
 pub returns-in_err-undo-clause-grouped : goal.returns-in_err-undo-clause-grouped
 returns-in_err-undo-clause-grouped g t c = λ total book told stands clean.
