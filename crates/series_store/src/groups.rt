@@ -171,9 +171,10 @@ impl<P: Pages> Store<P> {
     /// that is done stands in the list, a refusal too.
     ///
     /// It takes as many frames of the stack as there are edits. It reads 96 blocks at most for each edit that it
-    /// does, over damaged pages for each that it is given and 96 more, and syncs four times at most. After `DiskFault` the store may be unsound, and has to be opened again: it
-    /// has the book from before the edits, or the one behind all that were to be committed. After another error
-    /// nothing is changed. Where the pages stand for a book, no page is damaged.
+    /// does, and over damaged pages for each of the list and once more; it syncs four times at most. After `DiskFault`
+    /// the store may be unsound, and has to be opened again: it has the book from before the edits, or the one behind
+    /// all that were to be committed. After another error nothing is changed. Where the pages stand for a book, no page
+    /// is damaged.
     pub fn edit_group(
         &mut self,
         edits: &[Edit],
