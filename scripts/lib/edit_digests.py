@@ -2,8 +2,8 @@
 
 What decides whether an edit is refused are the crate's own src/, specs/ and must-fail/, what these use of the crates below (the files of
 specs/ that they reach by imports, and of the files of src/ the public signatures with their clauses), and the kit's logic. Proofs don't
-count: a contract is as strong whichever way it was proved. Nor do comments, blank lines, the bodies of the crates below, and names that are
-imported and stand nowhere else in their file.
+count: a contract is as strong whichever way it was proved. Nor do comments, blank lines, the ends of lines in specs/ and in clauses, the
+bodies of the crates below, and names that are imported and stand nowhere else in their file.
 """
 import functools
 import hashlib
@@ -20,6 +20,7 @@ HEAD = """\
 SPECS = re.compile(r"\bRattle\.(\w+)\.specs\.(\w+(?:\.\w+)*)")
 IMPORT = re.compile(r"(\s*(?:ghost )?use [^{;]*\{)([^}]*)(\};?)$")
 ITEM = r"(?m)^\s*pub (?:const |unsafe )*(?:struct|enum|trait|fn|const|type|union) {0}\b"
+CLAUSE = re.compile(r"\s*(requires|ensures|ghost \w+ = \{|ghost \w+: \{)")
 FUNCTION = re.compile(r"(\s*)(pub |pub\([^)]*\) )?(?:const |unsafe )*fn ")
 
 
@@ -41,23 +42,43 @@ def crates():
     return sorted(name for name in os.listdir(os.path.join(ROOT, "crates")) if files(name, "src", ".rt"))
 
 
+def unbroken(text):
+    """A text of specs, or a clause, without what a broken line adds to it."""
+    return re.sub(r"[,;]([)}\]])", r"\1", re.sub(r" ?([(){}\[\],;]) ?", r"\1", " ".join(text.split())))
+
+
+def whole_clauses(lines):
+    """The lines, with each clause and each definition of a ghost in one."""
+    made, is_open = [], False
+    for line in lines:
+        if is_open:
+            made[-1] += f" {line.strip()}"
+        else:
+            made.append(line)
+        is_open = bool(CLAUSE.match(made[-1])) and made[-1].count("{") > made[-1].count("}")
+    return [unbroken(line) if CLAUSE.match(line) else line for line in made]
+
+
 def plain(text):
     """The text without blank lines and lines of comment."""
-    return "\n".join(line for line in text.splitlines() if line.strip() and not line.lstrip().startswith(("//", "--")))
+    return "\n".join(whole_clauses(line for line in text.splitlines() if line.strip() and not line.lstrip().startswith(("//", "--"))))
 
 
 def needed(text):
-    """A plain text without the imported names that stand nowhere else in it."""
-    lines = [(line, IMPORT.match(line)) for line in text.splitlines()]
-    rest = "\n".join(line for line, is_import in lines if not is_import)
-    kept = []
-    for line, found in lines:
+    """A plain text without the imported names that stand nowhere else in it, those of a module in one line."""
+    imports, lines = {}, []
+    for line in text.splitlines():
+        found = IMPORT.match(line)
         if found:
-            names = [name.strip() for name in found[2].split(",")]
-            stand = [name for name in names if all(part in rest for part in name.split(" as ")[-1].split("◌"))]
-            line = found[1] + ", ".join(stand) + found[3] if stand else ""
-        kept += [line] if line else []
-    return "\n".join(kept)
+            imports.setdefault((found[1], found[3]), []).extend(name.strip() for name in found[2].split(","))
+        else:
+            lines.append(line)
+    rest = "\n".join(lines)
+    kept = []
+    for (before, behind), names in sorted(imports.items()):
+        stand = sorted(name for name in names if all(part in rest for part in name.split(" as ")[-1].split("◌")))
+        kept += [before + ", ".join(stand) + behind] if stand else []
+    return "\n".join(kept + lines)
 
 
 @functools.cache
@@ -123,7 +144,7 @@ def digest(crate, logic):
             left += more
     sums = hashlib.sha256(logic.encode())
     for path, text in sorted(texts.items()):
-        sums.update(f"\0{path}\0{text}".encode())
+        sums.update(f"\0{path}\0{unbroken(text) if path.endswith('.antt') else text}".encode())
     return sums.hexdigest()
 
 
