@@ -9,7 +9,7 @@ use Rattle.chart_service.specs.Holding.{IsViewIn, HasViewIn, AreViewsIn}
 use Rattle.chart_service.specs.Planning.{IsLastOf}
 use Rattle.chart_service.proofs.Keeping.{view_of_session}
 
-nobody : (number : ℕ) (ss : List Session) → is_open number ss ≡ false → session_of number ss ≡ None
+pub nobody : (number : ℕ) (ss : List Session) → is_open number ss ≡ false → session_of number ss ≡ None
 nobody number [] none = refl
 nobody number (s ∷ ss) none = (elim (s.number == number) as (λ b. (b || is_open number ss) ≡ false → (if b then Some s else session_of number ss) ≡ None) [
   | true ↦ λ h. cc

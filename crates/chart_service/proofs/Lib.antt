@@ -32,6 +32,8 @@ pub mod GatherLemmas
 pub mod GroupReplies
 pub mod Keeping
 pub mod Lasts
+pub mod LastLemmas
+pub mod Blaming
 pub mod Showing
 pub mod Openings
 pub mod Others

@@ -59,7 +59,7 @@ pub name_joined : (frames more : List Frame) (a : ℕ → Bool) → NameOpen a f
 name_joined [] more a named next = next
 name_joined (f ∷ fs) more a named next = (named.0, name_joined fs more (λ n. opens f n (a n)) named.1 next)
 
-opens_joined : (frames more : List Frame) (n : ℕ) (was : Bool) → opens_all (frames ++ more) n was ≡ opens_all more n (opens_all frames n was)
+pub opens_joined : (frames more : List Frame) (n : ℕ) (was : Bool) → opens_all (frames ++ more) n was ≡ opens_all more n (opens_all frames n was)
 opens_joined [] more n was = refl
 opens_joined (f ∷ fs) more n was = opens_joined fs more n (opens f n was)
 
@@ -125,15 +125,15 @@ named_opened frames named = λ front behind frame split.
 
 -- ---- frames that tell what edits gave
 
-abbrev Each : (Frame → Type 0) → List Frame → Type 0
+abbrev pub Each : (Frame → Type 0) → List Frame → Type 0
 Each P [] = Unit {0}
 Each P (f ∷ fs) = P f × Each P fs
 
-each_of : (P : Frame → Type 0) (frames : List Frame) → All P frames → Each P frames
+pub each_of : (P : Frame → Type 0) (frames : List Frame) → All P frames → Each P frames
 each_of P [] all = tt
 each_of P (f ∷ fs) all = (all 0 f (omega arith), each_of P fs (All-tail P f fs all))
 
-all_of : (P : Frame → Type 0) (frames : List Frame) → Each P frames → All P frames
+pub all_of : (P : Frame → Type 0) (frames : List Frame) → Each P frames → All P frames
 all_of P [] all = All-nil P
 all_of P (f ∷ fs) all = All-cons P f fs all.0 (all_of P fs all.1)
 
@@ -166,11 +166,11 @@ edit_keeps (Rows rows) n was is = absurd is
 edit_keeps (Live session on) n was is = absurd is
 edit_keeps (Report report) n was is = absurd is
 
-edits_name : (frames : List Frame) (a : ℕ → Bool) → Each IsEditReply frames → NameOpen a frames
+pub edits_name : (frames : List Frame) (a : ℕ → Bool) → Each IsEditReply frames → NameOpen a frames
 edits_name [] a all = tt
 edits_name (f ∷ fs) a all = (edit_known f a all.0, edits_name fs (λ n. opens f n (a n)) all.1)
 
-edits_keep : (frames : List Frame) (n : ℕ) (was : Bool) → Each IsEditReply frames → opens_all frames n was ≡ was
+pub edits_keep : (frames : List Frame) (n : ℕ) (was : Bool) → Each IsEditReply frames → opens_all frames n was ≡ was
 edits_keep [] n was all = refl
 edits_keep (f ∷ fs) n was all = edits_keep fs n (opens f n was) all.1 ∙ edit_keeps f n was all.0
 
@@ -178,7 +178,7 @@ edits_keep (f ∷ fs) n was all = edits_keep fs n (opens f n was) all.1 ∙ edit
 
 -- ---- frames that may answer lines
 
-may_joined : (lines more : List (Option (List ℕ))) (frames later : List Frame) → MayAnswerAll lines frames → MayAnswerAll more later → MayAnswerAll (lines ++ more) (frames ++ later)
+pub may_joined : (lines more : List (Option (List ℕ))) (frames later : List Frame) → MayAnswerAll lines frames → MayAnswerAll more later → MayAnswerAll (lines ++ more) (frames ++ later)
 may_joined [] more [] later may next = next
 may_joined [] more (f ∷ fs) later may next = absurd may
 may_joined (l ∷ ls) more [] later may next = absurd may
@@ -215,7 +215,7 @@ text_may_all text frame short some may =
     line_may_all text frame (λ none. omega (arith, some, ap length none)) (subst L (text_is text short) may)
 
 module _ {S F : Type 0} (makes : Makes S F) where
-  pub gives_none : (v : S) (a : ℕ → Bool) (before : Option (List ℕ)) → Gives makes [] v v a a before before
+  unfoldable pub gives_none : (v : S) (a : ℕ → Bool) (before : Option (List ℕ)) → Gives makes [] v v a a before before
   gives_none v a before = record { frames = []; fits = All-nil Fits; answers = tt; named = tt; open_now = λ n. refl; text = []; made = (refl, refl); sent = sent_none before }
 
   -- an empty line is given nothing
@@ -227,7 +227,7 @@ module _ {S F : Type 0} (makes : Makes S F) where
   gives_kept lines v w a b c before now later same same_now g =
       record { frames = g.frames; fits = g.fits; answers = g.answers; named = g.named; open_now = λ n. same n ∙ g.open_now n; text = g.text; made = g.made; sent = same_now ∙ g.sent }
 
-  pub gives_joined : (lines more : List (Option (List ℕ))) (u v w : S) (a b c : ℕ → Bool) (before mid now : Option (List ℕ)) → Gives makes lines u v a b before mid → Gives makes more v w b c mid now → Gives makes (lines ++ more) u w a c before now
+  unfoldable pub gives_joined : (lines more : List (Option (List ℕ))) (u v w : S) (a b c : ℕ → Bool) (before mid now : Option (List ℕ)) → Gives makes lines u v a b before mid → Gives makes more v w b c mid now → Gives makes (lines ++ more) u w a c before now
   gives_joined lines more u v w a b c before mid now one two = record {
     frames = one.frames ++ two.frames;
     fits = All-append Fits one.frames two.frames one.fits two.fits;
@@ -239,7 +239,7 @@ module _ {S F : Type 0} (makes : Makes S F) where
     sent = sent_more one.text two.text before mid now one.sent two.sent;
   }
 
-  gives_one : (lines : List (Option (List ℕ))) (v w : S) (frame : Frame) (a b : ℕ → Bool) (before now : Option (List ℕ)) → Fits frame → MayAnswerAll lines (frame ∷ []) → NamesKnown frame a → ((n : ℕ) → b n ≡ opens frame n (a n)) → FrameSent makes frame v w before now → Gives makes lines v w a b before now
+  unfoldable pub gives_one : (lines : List (Option (List ℕ))) (v w : S) (frame : Frame) (a b : ℕ → Bool) (before now : Option (List ℕ)) → Fits frame → MayAnswerAll lines (frame ∷ []) → NamesKnown frame a → ((n : ℕ) → b n ≡ opens frame n (a n)) → FrameSent makes frame v w before now → Gives makes lines v w a b before now
   gives_one lines v w frame a b before now fits may named after s =
       record { frames = frame ∷ []; fits = All-cons Fits frame [] fits (All-nil Fits); answers = may; named = (named, tt); open_now = after; text = s.0; made = made_one makes v w [] frame s.0 s.1; sent = s.2 }
 
@@ -302,7 +302,7 @@ module _ {S F : Type 0} (makes : Makes S F) where
       (error_so r (FrameStops makes frame v w before now) (GivesFirst makes v w (λ n. is_open n old) before now) (λ end why. first_one v w frame (λ n. is_open n old) before now end fits named why) (subst N same bad))
 
   -- frames that tell what edits gave
-  gives_edits : (lines : List (Option (List ℕ))) (v w : S) (frames : List Frame) (a : ℕ → Bool) (before now : Option (List ℕ)) → Each Fits frames → MayAnswerAll lines frames → Each IsEditReply frames → FramesSent makes frames v w before now → Gives makes lines v w a a before now
+  unfoldable pub gives_edits : (lines : List (Option (List ℕ))) (v w : S) (frames : List Frame) (a : ℕ → Bool) (before now : Option (List ℕ)) → Each Fits frames → MayAnswerAll lines frames → Each IsEditReply frames → FramesSent makes frames v w before now → Gives makes lines v w a a before now
   gives_edits lines v w frames a before now fits may all s =
       record { frames = frames; fits = all_of Fits frames fits; answers = may; named = edits_name frames a all; open_now = λ n. sym (edits_keep frames n (a n) all); text = s.0; made = s.1; sent = s.2 }
 

@@ -1,9 +1,8 @@
 -- What replies leave of the sessions, and of the room of their clients.
-use Rattle.std.proofs.Common.{◌≡◌, ◌≢◌, ◌∙◌, ℕ, ℤ, ◌+◌, ◌*◌, ◌<◌, ◌≤◌, ◌≤ℤ◌, ◌<ℤ◌, Bool, true, false, ◌==◌, if◌then◌else◌, List, [], ◌∷◌, ◌++◌, length, Option, None, Some, Result, Ok, Err, refl, sym, ap, subst, inl, inr, arith}
-use Rattle.std.specs.Prelude.{IfErr, IfOk, OnOk, unsigned_abs}
+use Rattle.std.proofs.Common.{◌≡◌, ◌∙◌, ℕ, ℤ, ◌+◌, ◌*◌, ◌≤◌, Bool, true, false, ◌==◌, if◌then◌else◌, List, [], ◌∷◌, ◌++◌, length, Option, None, Some, Result, Ok, Err, refl, sym, ap, subst, arith}
+use Rattle.std.specs.Prelude.{IfErr, OnOk}
 use Rattle.std.proofs.Math.Nat.{mul-le-mul_left}
 use Rattle.std.proofs.lemmas.Bool.{eqb-true, eqb-false, ne_eqb}
-use Rattle.chart_frames.specs.declared.frame.Frame.{Frame}
 use Rattle.chart_grid.specs.Limits.{IsWindow}
 use Rattle.chart_grid.specs.declared.grid.Grid.{Grid}
 use Rattle.chart_grid.specs.declared.grid_error.GridError.{GridError}
@@ -18,21 +17,18 @@ use Rattle.request_lines.specs.Requests.{read_line}
 use Rattle.request_lines.specs.declared.requests.Request.{Request}
 use Rattle.request_lines.specs.declared.requests.Request.TheVariants.{Edit as EditRequest, Open, View as ViewRequest, Zoom, Pan, Close}
 use Rattle.series_book.specs.declared.refusals.Refusal.{Refusal}
-use Rattle.value_filter.specs.declared.steps.Step.{Step}
 use Rattle.zoom_session.specs.Plans.{NeedsAtMost}
 use Rattle.zoom_session.specs.Sessions.{session_of, without, viewed, after_view, list_after, fresh_session}
 use Rattle.zoom_session.specs.declared.errors.PlanError.{PlanError}
 use Rattle.zoom_session.specs.declared.errors.PlanError.TheVariants.{TooLarge, Node, NoMemory}
 use Rattle.zoom_session.specs.declared.session.Session.{Session}
-use Rattle.zoom_session.specs.declared.view_spec.RangeSpec.{RangeSpec}
 use Rattle.zoom_session.specs.declared.view_spec.ViewSpec.{ViewSpec}
-use Rattle.chart_service.specs.Opening.{StaysIn}
 use Rattle.chart_service.specs.Planning.{IsLast, IsLastOf, IsMoved, RefusesView}
 use Rattle.chart_service.specs.Replies.{line_text}
 use Rattle.chart_service.specs.Rooms.{FitsIn, HasRoom, IsRoomFor, IsShortFor, KeepRooms, LeavesLine, LeavesOpen, LeavesRead, OthersStay, most_coefs}
 use Rattle.chart_service.specs.ViewingLaws.{no_window}
 use Rattle.chart_service.specs.declared.shown.Planned.{Planned}
-use Rattle.chart_service.proofs.Others.{viewed_others, without_others}
+use Rattle.chart_service.proofs.Others.{without_others}
 use Rattle.chart_service.proofs.Sending.{text_is}
 
 abbrev Needed : Type 0
@@ -74,7 +70,7 @@ own_at n spec needed x xs s later true e is =
 own_at n spec needed x xs s later false e is =
     ap (λ b. if b then Some x else session_of n (viewed n spec needed xs)) e ∙ later (sym (ap (λ b. if b then Some x else session_of n xs) e) ∙ is)
 
-own_viewed : (n : ℕ) (spec : ViewSpec) (needed : Needed) (ss : List Session) (s : Session) → session_of n ss ≡ Some s → session_of n (viewed n spec needed ss) ≡ Some (after_view spec needed s)
+pub own_viewed : (n : ℕ) (spec : ViewSpec) (needed : Needed) (ss : List Session) (s : Session) → session_of n ss ≡ Some s → session_of n (viewed n spec needed ss) ≡ Some (after_view spec needed s)
 own_viewed n spec needed [] s is = cc
 own_viewed n spec needed (x ∷ xs) s is = own_at n spec needed x xs s (own_viewed n spec needed xs s) (x.number == n) refl is
 

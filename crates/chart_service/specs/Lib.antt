@@ -8,6 +8,7 @@ pub mod Rooms
 pub mod Planning
 pub mod Alone
 pub mod Stepping
+pub mod LastShown
 pub mod Looking
 pub mod Serving
 pub mod Syncing
@@ -20,6 +21,7 @@ pub mod EditGroups
 pub mod EditDamage
 pub mod Knowing
 pub mod Naming
+pub mod Blaming
 pub mod Answering
 pub mod Telling
 pub mod Faulting

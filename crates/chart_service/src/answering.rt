@@ -4,6 +4,7 @@ ghost use Rattle.block_disk.specs.View.{View};
 ghost use Rattle.zoom_session.specs.Sessions.{is_open, session_of};
 ghost use Rattle.chart_service.specs.Holding.{IsViewIn};
 ghost use Rattle.chart_service.specs.Kinds.{MayShow};
+ghost use Rattle.chart_service.specs.LastShown.{TellsSeries};
 ghost use Rattle.chart_service.specs.Looking.{IsPlanCause, IsScanCause, IsOfPages, IsGoodPlan, error_of};
 ghost use Rattle.chart_service.specs.Opening.{StaysIn};
 ghost use Rattle.chart_service.specs.Planning.{PlansOrStops, ShowsOrStops, FitInFrame};
@@ -48,6 +49,7 @@ impl<P: Pages> Service<P> {
         ensures looked { LooksIn (Some number) result self.old self.new }
         ensures cause { IfErr result (IsCauseOfView (λ id. id ≡ spec.series) self.old self.new) }
         ensures may { IfOk result (λ frame. MayShow number frame) }
+        ensures last { IfOk result (TellsSeries number (λ id. id ≡ spec.series) self.new.sessions) }
         ensures quiet { OnOk result ((shown.view self.new).faults ≡ (shown.view self.old).faults) }
         ensures quiet_err { IfErr result (λ e. e ≢ ServiceError.DiskFault → (shown.view self.new).faults ≡ (shown.view self.old).faults) }
         ensures stays { StaysIn number result self.old.sessions self.new.sessions }
@@ -98,6 +100,7 @@ impl<P: Pages> Service<P> {
         ensures looked { LooksIn (Some number) result self.old self.new }
         ensures cause { IfErr result (IsCauseOfView (λ id. id ≡ spec.series) self.old self.new) }
         ensures may { IfOk result (λ frame. MayShow number frame) }
+        ensures last { IfOk result (TellsSeries number (λ id. id ≡ spec.series) self.new.sessions) }
         ensures quiet { OnOk result ((shown.view self.new).faults ≡ (shown.view self.old).faults) }
         ensures quiet_err { IfErr result (λ e. e ≢ ServiceError.DiskFault → (shown.view self.new).faults ≡ (shown.view self.old).faults) }
         ensures stays { StaysIn number result self.old.sessions self.new.sessions }

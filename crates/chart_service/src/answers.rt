@@ -9,6 +9,7 @@ ghost use Rattle.series_book.specs.EditLists.{after_edits};
 ghost use Rattle.series_store.specs.Results.{IsUnchanged};
 ghost use Rattle.stored_book.specs.Standing.{StandsForBook};
 ghost use Rattle.chart_service.specs.Answering.{EndsAtBad, AnswersOn, StopsOn, LeavesBy, LeavesTold, ReadsAsFirst};
+ghost use Rattle.chart_service.specs.Blaming.{BlamesSo};
 ghost use Rattle.chart_service.specs.Knowing.{Follows, KnowsOpen, EndsKnown};
 ghost use Rattle.chart_service.specs.EditGroups.{IsEditReply, SpelledBy};
 ghost use Rattle.chart_service.specs.Faulting.{answer_fault};
@@ -48,6 +49,8 @@ pub fn answer_edits<P: PageWorld, S, F, R: Reply<S, F>>(
     ensures known { (knows : S → ℕ → Bool) → Follows R.makes knows → KnowsOpen knows kept.old service.old.sessions → OnOk result (KnowsOpen knows kept.new service.new.sessions) }
     ensures named { (knows : S → ℕ → Bool) → Follows R.makes knows → KnowsOpen knows kept.old service.old.sessions → IfErr result (EndsKnown R.makes knows) }
     ensures gives { SpelledBy edits.now (λ lines. GivesBy R.makes lines kept.old kept.new service.old.sessions service.new.sessions (P.sent (shown.pages service.old)) (P.sent (shown.pages service.new)) result) }
+    // a page is called damaged by one of the lines
+    ensures blames { SpelledBy edits.now (λ lines. BlamesSo P.sent R.makes lines kept.old kept.new service.old service.new result) }
     ensures send { result ≡ Err (AnswerEnd.Serve ServeEnd.SendFault) → HasRisen (P.send_faults (shown.pages service.old)) (P.send_faults (shown.pages service.new)) }
     ensures disk { result ≡ Err (AnswerEnd.Serve ServeEnd.DiskFault) → HasRisen (shown.view service.old).faults (shown.view service.new).faults }
     ensures faults { CountsFault (fault_in answer_fault result) (shown.view service.old) (shown.view service.new) }
@@ -119,6 +122,7 @@ pub fn answer_line<P: PageWorld, S, F, R: Reply<S, F>>(
     ensures known { (knows : S → ℕ → Bool) → Follows R.makes knows → KnowsOpen knows kept.old service.old.sessions → OnOk result (KnowsOpen knows kept.new service.new.sessions) }
     ensures named { (knows : S → ℕ → Bool) → Follows R.makes knows → KnowsOpen knows kept.old service.old.sessions → IfErr result (EndsKnown R.makes knows) }
     ensures gives { GivesBy R.makes (unless_empty (Some line.now)) kept.old kept.new service.old.sessions service.new.sessions (P.sent (shown.pages service.old)) (P.sent (shown.pages service.new)) result }
+    ensures blames { BlamesSo P.sent R.makes (unless_empty (Some line.now)) kept.old kept.new service.old service.new result }
     ensures send { result ≡ Err (AnswerEnd.Serve ServeEnd.SendFault) → HasRisen (P.send_faults (shown.pages service.old)) (P.send_faults (shown.pages service.new)) }
     ensures disk { result ≡ Err (AnswerEnd.Serve ServeEnd.DiskFault) → HasRisen (shown.view service.old).faults (shown.view service.new).faults }
     ensures faults { CountsFault (fault_in answer_fault result) (shown.view service.old) (shown.view service.new) }
@@ -154,6 +158,7 @@ pub fn answer_long_line<P: PageWorld, S, F, R: Reply<S, F>>(
     ensures known { (knows : S → ℕ → Bool) → Follows R.makes knows → KnowsOpen knows kept.old service.old.sessions → OnOk result (KnowsOpen knows kept.new service.new.sessions) }
     ensures named { (knows : S → ℕ → Bool) → Follows R.makes knows → KnowsOpen knows kept.old service.old.sessions → IfErr result (EndsKnown R.makes knows) }
     ensures gives { GivesBy R.makes (unless_empty None) kept.old kept.new service.old.sessions service.new.sessions (P.sent (shown.pages service.old)) (P.sent (shown.pages service.new)) result }
+    ensures blames { BlamesSo P.sent R.makes (unless_empty None) kept.old kept.new service.old service.new result }
     ensures ends { IfErr result IsReplyEnd }
     ensures send { result ≡ Err (AnswerEnd.Serve ServeEnd.SendFault) → HasRisen (P.send_faults (shown.pages service.old)) (P.send_faults (shown.pages service.new)) }
     ensures faults { CountsFault (fault_in answer_fault result) (shown.view service.old) (shown.view service.new) }

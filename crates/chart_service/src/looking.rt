@@ -7,6 +7,7 @@ ghost use Rattle.series_book.specs.declared.one_series.Series.{Series};
 ghost use Rattle.zoom_session.specs.Sessions.{is_open};
 ghost use Rattle.chart_service.specs.Alone.{session_in};
 ghost use Rattle.chart_service.specs.Kinds.{IsRefusal, KeepsSessions, MayAnswer, MayClose, MayOpen};
+ghost use Rattle.chart_service.specs.LastShown.{LastsBy, OfRows};
 ghost use Rattle.chart_service.specs.Looking.{IsNoEdit};
 ghost use Rattle.chart_service.specs.Opening.{OpensBy};
 ghost use Rattle.chart_service.specs.Replies.{Closes, Replies, cache_of};
@@ -35,6 +36,7 @@ impl<P: Pages> Service<P> {
         ensures looked { LooksIn (session_in request.now) result self.old self.new }
         ensures may { IfOk result (λ frame. MayAnswer request.now frame) }
         ensures leaves { OnOk result (LeavesOpen request.now self.old.sessions self.new.sessions) }
+        ensures lasts { IfOk result (λ frame. LastsBy (OfRows request.now) frame self.old.sessions self.new.sessions) }
         ensures quiet { OnOk result ((shown.view self.new).faults ≡ (shown.view self.old).faults) }
         ensures quiet_err { IfErr result (λ e. e ≢ ServiceError.DiskFault → (shown.view self.new).faults ≡ (shown.view self.old).faults) }
     {

@@ -11,6 +11,7 @@ ghost use Rattle.series_store.specs.Results.{IsUnchanged, KeepsBook, CommitsNone
 ghost use Rattle.chart_service.specs.Alone.{session_in, session_named};
 ghost use Rattle.chart_service.specs.Faulting.{step_fault};
 ghost use Rattle.chart_service.specs.Kinds.{KeepsSessions, MayAnswer, MayAnswerLine, MayShow};
+ghost use Rattle.chart_service.specs.LastShown.{LastsBy, OfRows, OfRowsLine};
 ghost use Rattle.chart_service.specs.Opening.{OpensBy, LosesAtMost, StaysIn};
 ghost use Rattle.zoom_session.specs.Sessions.{session_of, last_of};
 ghost use Rattle.chart_service.specs.Replies.{Replied, line_text, own_zoom};
@@ -55,6 +56,8 @@ impl<P: Pages> Service<P> {
         ensures may { IfOk result (λ frame. MayAnswer request.now frame) }
         // a client with room for its session's last view keeps it, unless the session is opened, closed or viewed anew
         ensures leaves { OnOk result (LeavesOpen request.now self.old.sessions self.new.sessions) }
+        // a session's last view is of the series that frames tell, behind rows of one that their request may show
+        ensures lasts { IfOk result (λ frame. LastsBy (OfRows request.now) frame self.old.sessions self.new.sessions) }
         ensures unchanged { CommitsOnly result self.old self.new }
         // a request that is no edit commits nothing
         ensures idle { edit_asked request.now ≡ [] → IsUnchanged (shown.IsTold self.old) (shown.view self.old) (shown.view self.new) }
@@ -94,6 +97,7 @@ impl<P: Pages> Service<P> {
         ensures kept { KeepsSessions result self.old.sessions self.new.sessions }
         ensures may { IfOk result (λ frame. MayAnswerLine (line_text line.now) frame) }
         ensures leaves { OnOk result (LeavesLine (line_text line.now) self.old.sessions self.new.sessions) }
+        ensures lasts { IfOk result (λ frame. LastsBy (OfRowsLine (line_text line.now)) frame self.old.sessions self.new.sessions) }
         ensures unchanged { CommitsOnly result self.old self.new }
         ensures idle { edit_of (line_text line.now) ≡ [] → IsUnchanged (shown.IsTold self.old) (shown.view self.old) (shown.view self.new) }
         ensures cause { IfErr result (IsCauseOfLine (line_text line.now) self.old self.new) }
@@ -134,6 +138,7 @@ impl<P: Pages> Service<P> {
         // a view for which there is room is told, and not refused
         ensures tells { HasRoom self.old.sessions session → IfOk result (TellsIn session) }
         ensures rooms { OnOk result (KeepRooms self.old.sessions self.new.sessions) }
+        ensures lasts { IfOk result (λ frame. LastsBy (λ was. was) frame self.old.sessions self.new.sessions) }
         ensures stays { StaysIn session result self.old.sessions self.new.sessions }
         // a crash leaves what it might have left before
         ensures moments { shown.PassesTo (Now (shown.view self.old)) self.old self.new }

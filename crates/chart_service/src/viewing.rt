@@ -1,5 +1,5 @@
 //! A service answers views.
-ghost use Rattle.std.specs.Prelude.{◌≡◌, ◌≢◌, ◌≤◌, ◌+ℤ◌, ℕ, ℤ, List, None, Some, length, slice_get, IfOk, IfErr, IfSome, OnOk, IsTrue, MatchResult, Ok, Err};
+ghost use Rattle.std.specs.Prelude.{◌≡◌, ◌≢◌, ◌≤◌, ◌+ℤ◌, ℕ, ℤ, List, None, Some, length, slice_get, IfOk, IfErr, IfSome, OnOk, IsTrue, MatchResult, Ok, Err, ⊤};
 ghost use Rattle.series_book.specs.declared.one_series.Series.{Series};
 ghost use Rattle.series_store.specs.Asking.{IsNamedAt};
 ghost use Rattle.stored_book.specs.Standing.{StandsForBook};
@@ -7,6 +7,7 @@ ghost use Rattle.zoom_session.specs.Sessions.{is_open, last_of, session_of};
 ghost use Rattle.zoom_session.specs.Views.{IsRangeSpec};
 ghost use Rattle.chart_service.specs.Holding.{IsViewIn};
 ghost use Rattle.chart_service.specs.Kinds.{MayShow};
+ghost use Rattle.chart_service.specs.LastShown.{IsLastIn, TellsSeries};
 ghost use Rattle.chart_service.specs.Looking.{Replying};
 ghost use Rattle.chart_service.specs.Opening.{StaysIn};
 ghost use Rattle.chart_service.specs.Planning.{IsSpecFor, IsLastOf, IsMoved, IsGridFor};
@@ -49,6 +50,7 @@ impl<P: Pages> Service<P> {
         ensures looked { LooksIn (Some number) result self.old self.new }
         ensures cause { IfErr result (IsCauseOfView (IsNamedAt (shown.catalog self.old) name.now) self.old self.new) }
         ensures may { IfOk result (λ frame. MayShow number frame) }
+        ensures last { IfOk result (TellsSeries number (λ id. ⊤) self.new.sessions) }
         ensures quiet { OnOk result ((shown.view self.new).faults ≡ (shown.view self.old).faults) }
         ensures quiet_err { IfErr result (λ e. e ≢ ServiceError.DiskFault → (shown.view self.new).faults ≡ (shown.view self.old).faults) }
         ensures stays { StaysIn number result self.old.sessions self.new.sessions }
@@ -75,6 +77,7 @@ impl<P: Pages> Service<P> {
         ensures looked { LooksIn (Some number) result self.old self.new }
         ensures cause { IfErr result (IsCauseOfView (IsNamedAt (shown.catalog self.old) name.now) self.old self.new) }
         ensures may { IfOk result (λ frame. MayShow number frame) }
+        ensures last { IfOk result (TellsSeries number (λ id. ⊤) self.new.sessions) }
         ensures quiet { OnOk result ((shown.view self.new).faults ≡ (shown.view self.old).faults) }
         ensures quiet_err { IfErr result (λ e. e ≢ ServiceError.DiskFault → (shown.view self.new).faults ≡ (shown.view self.old).faults) }
         ensures stays { StaysIn number result self.old.sessions self.new.sessions }
@@ -101,6 +104,7 @@ impl<P: Pages> Service<P> {
         ensures looked { LooksIn (Some number) result self.old self.new }
         ensures cause { IfErr result (IsCauseOfView (IsLastShown (last_of (session_of number self.old.sessions))) self.old self.new) }
         ensures may { IfOk result (λ frame. MayShow number frame) }
+        ensures last { IfOk result (TellsSeries number (λ id. IsLastIn self.old.sessions number id) self.new.sessions) }
         ensures quiet { OnOk result ((shown.view self.new).faults ≡ (shown.view self.old).faults) }
         ensures quiet_err { IfErr result (λ e. e ≢ ServiceError.DiskFault → (shown.view self.new).faults ≡ (shown.view self.old).faults) }
         ensures stays { StaysIn number result self.old.sessions self.new.sessions }
@@ -123,6 +127,7 @@ impl<P: Pages> Service<P> {
         ensures looked { LooksIn (Some number) result self.old self.new }
         ensures cause { IfErr result (IsCauseOfView (IsLastShown (last_of (session_of number self.old.sessions))) self.old self.new) }
         ensures may { IfOk result (λ frame. MayShow number frame) }
+        ensures last { IfOk result (TellsSeries number (λ id. IsLastIn self.old.sessions number id) self.new.sessions) }
         ensures quiet { OnOk result ((shown.view self.new).faults ≡ (shown.view self.old).faults) }
         ensures quiet_err { IfErr result (λ e. e ≢ ServiceError.DiskFault → (shown.view self.new).faults ≡ (shown.view self.old).faults) }
         ensures stays { StaysIn number result self.old.sessions self.new.sessions }
@@ -152,6 +157,7 @@ impl<P: Pages> Service<P> {
         ensures looked { LooksIn (Some number) result self.old self.new }
         ensures cause { IfErr result (IsCauseOfView (λ id. id ≡ last.series) self.old self.new) }
         ensures may { IfOk result (λ frame. MayShow number frame) }
+        ensures last { IfOk result (TellsSeries number (λ id. id ≡ last.series) self.new.sessions) }
         ensures quiet { OnOk result ((shown.view self.new).faults ≡ (shown.view self.old).faults) }
         ensures quiet_err { IfErr result (λ e. e ≢ ServiceError.DiskFault → (shown.view self.new).faults ≡ (shown.view self.old).faults) }
         ensures stays { StaysIn number result self.old.sessions self.new.sessions }
@@ -200,6 +206,7 @@ impl<P: Pages> Service<P> {
         ensures looked { LooksIn (Some number) result self.old self.new }
         ensures cause { IfErr result (IsCauseOfView (λ id. id ≡ spec.series) self.old self.new) }
         ensures may { IfOk result (λ frame. MayShow number frame) }
+        ensures last { IfOk result (TellsSeries number (λ id. id ≡ spec.series) self.new.sessions) }
         ensures quiet { OnOk result ((shown.view self.new).faults ≡ (shown.view self.old).faults) }
         ensures quiet_err { IfErr result (λ e. e ≢ ServiceError.DiskFault → (shown.view self.new).faults ≡ (shown.view self.old).faults) }
         ensures stays { StaysIn number result self.old.sessions self.new.sessions }

@@ -20,6 +20,7 @@ use Rattle.chart_service.specs.Shown as shown
 use Rattle.chart_service.specs.Stepping.{StandsAfter, state_of}
 use Rattle.chart_service.specs.declared.failure.AnswerEnd.TheVariants.{Serve}
 use Rattle.gate_pages.specs.GateLaws.{goes_then}
+use Rattle.chart_service.proofs.Blaming.{blames_error, edits_blame, group_blamed}
 use Rattle.chart_service.proofs.DiskKept.{serves_group, serves_kept, serves_then}
 use Rattle.chart_service.proofs.Ends.{err_is, error_is, on_err, step_short, step_unread, step_unsent, step_fault, step_bad, reply_bad, not_of_disk, not_of_input, not_of_length, stays}
 use Rattle.chart_service.proofs.Faulting.{step_goes}
@@ -64,6 +65,8 @@ returns-in_err-frames g c =
       named = λ knows follows known. error_goes (EndsKnown g.R.Reply.makes knows) result (Serve (end_of_step e)) residual tt;
       gives = λ lines spells. gives_error g.R.Reply.makes lines c.args.kept.now c.args.kept.now own c.step_edits.new.self.sessions (g.P.Streams.sent pages) (g.P.Streams.sent pages') result (Serve (end_of_step e)) residual
           (first_step g.R.Reply.makes c.args.kept.now (λ n. is_open n own) (g.P.Streams.sent pages) (g.P.Streams.sent pages') e sent);
+      blames = λ lines spells. blames_error g.R.Reply.makes lines c.args.kept.now c.args.kept.now own c.step_edits.new.self.sessions (g.P.Streams.sent pages) (g.P.Streams.sent pages') (told_in pages') (view pages').size image result (Serve (end_of_step e)) residual
+          (group_blamed g.R.Reply.makes lines c.args.edits.now c.args.kept.now (g.P.Streams.sent pages) (g.P.Streams.sent pages') (told_in pages') (view pages').size image own e spells c.requires.some sent no.blames);
       send = λ fault. step_unsent e (sym is ∙ fault);
       disk = λ fault. no.disk (ap Err (step_fault e (sym is ∙ fault)));
       faults = step_goes result e (view pages) (view pages') residual no.faults;
@@ -136,6 +139,8 @@ returns g c =
       named = λ knows follows known. rest.named knows follows (known_kept knows kept own c.step_edits.new.self.sessions made.sessions known);
       gives = λ lines spells. edits_give g.R.Reply.makes lines kept kept' result frames own c.send_replies.new.service.sessions (g.P.Streams.sent pages) (g.P.Streams.sent mid) (g.P.Streams.sent new)
           (subst A (sym c.as_slice.ensures.value) yes.fits) (edits_may lines edits frames spells (ap length c.as_slice.ensures.value ∙ yes.each) (subst E (sym c.as_slice.ensures.value) yes.replies)) (subst E (sym c.as_slice.ensures.value) yes.replies) (rest.sessions ∙ made.sessions) sent rest.done rest.stops;
+      blames = λ lines spells. edits_blame g.R.Reply.makes lines kept kept' result frames own c.send_replies.new.service.sessions (g.P.Streams.sent pages) (g.P.Streams.sent mid) (g.P.Streams.sent new) (told_in new) (view new).size (view new).image
+          (subst A (sym c.as_slice.ensures.value) yes.fits) (edits_may lines edits frames spells (ap length c.as_slice.ensures.value ∙ yes.each) (subst E (sym c.as_slice.ensures.value) yes.replies)) (subst E (sym c.as_slice.ensures.value) yes.replies) (rest.sessions ∙ made.sessions) sent rest.done rest.ends;
       send = λ fault. subst Risen same (rest.send fault);
       disk = λ fault. absurd (not_of_disk result rest.ends fault);
       faults = counts_then (fault_in answer_fault result) (view pages) (view mid) (view new) yes.faults rest.faults;

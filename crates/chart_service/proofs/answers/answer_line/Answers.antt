@@ -17,7 +17,10 @@ use Rattle.chart_service.specs.Stepping.{state_of}
 use Rattle.chart_service.specs.MomentLaws.{through_none}
 use Rattle.chart_service.specs.Syncing.{edit_of}
 use Rattle.chart_service.specs.declared.failure.AnswerEnd.TheVariants.{Serve}
+use Rattle.chart_service.proofs.Blaming.{answer_blames, blames_error, last_empty, step_blames, text_lasts}
 use Rattle.chart_service.proofs.DiskKept.{serves_none, serves_then, serves_kept, serves_step}
+use Rattle.series_store.specs.Shown as stored
+use Rattle.chart_service.proofs.StepLemmas.{AreOwn}
 use Rattle.chart_service.proofs.Ends.{differ, error_is, on_err, step_short, step_unread, step_unsent, step_fault, step_bad, step_sound, reply_bad, not_of_disk, not_of_input, not_of_length, stays}
 use Rattle.chart_service.proofs.Faulting.{step_goes}
 use Rattle.chart_service.proofs.Known.{known_next, named_known, ends_known, same_opens}
@@ -59,6 +62,20 @@ returns-in_err-frame g c =
           let sent : now ≡ before = sym (g.met.P.PageWorld.beside_sent pages') ∙ ap (λ b. b.sent) c.step_line.ensures.steps.beside ∙ g.met.P.PageWorld.beside_sent pages in
           gives_error g.R.Reply.makes (unless_empty (Some c.args.line.now)) c.args.kept.now c.args.kept.now c.args.service.now.sessions c.step_line.new.self.sessions before now c.from_residual.result (Serve (end_of_step c.in_err-frame.field-0.0)) c.from_residual.ensures.1
           (first_step g.R.Reply.makes c.args.kept.now (λ n. is_open n c.args.service.now.sessions) before now c.in_err-frame.field-0.0 sent);
+      blames =
+          let before = g.P.Streams.sent pages in
+          let now = g.P.Streams.sent pages' in
+          let sent : now ≡ before = sym (g.met.P.PageWorld.beside_sent pages') ∙ ap (λ b. b.sent) c.step_line.ensures.steps.beside ∙ g.met.P.PageWorld.beside_sent pages in
+          let store = c.args.service.now.store in
+          let own : AreOwn (g.P.Pages.told pages) (g.P.Pages.view pages) (stored.numbers store) (stored.catalog store) = record {
+            within = store.space.rules.total_high;
+            keeps = λ t. record { spelled = store.space.spelled c.requires.sound t; rules = store.space.rules };
+            count = store.count;
+            says = λ t. store.told c.requires.sound t;
+          } in
+          blames_error g.R.Reply.makes (unless_empty (Some c.args.line.now)) c.args.kept.now c.args.kept.now c.args.service.now.sessions c.step_line.new.self.sessions before now told (g.P.Pages.view pages').size image c.from_residual.result (Serve (end_of_step c.in_err-frame.field-0.0)) c.from_residual.ensures.1
+          (step_blames g.R.Reply.makes c.args.line.now c.args.kept.now before now (g.P.Pages.told pages) told (g.P.Pages.view pages) (g.P.Pages.view pages') (stored.numbers store) (stored.catalog store) c.args.service.now.sessions c.in_err-frame.field-0.0 c.requires.short some sent own
+          c.step_line.ensures.steps.was_told c.step_line.ensures.steps.size c.in_err-frame.ensures.unchanged c.in_err-frame.ensures.cause);
       send = λ fault. step_unsent c.in_err-frame.field-0.0 (sym (error_is c.from_residual.result (Serve (end_of_step c.in_err-frame.field-0.0)) c.from_residual.ensures.1) ∙ fault);
       disk = λ fault. c.in_err-frame.ensures.disk (ap Err (step_fault c.in_err-frame.field-0.0 (sym (error_is c.from_residual.result (Serve (end_of_step c.in_err-frame.field-0.0)) c.from_residual.ensures.1) ∙ fault)));
       read = λ fault. step_unread c.in_err-frame.field-0.0 (sym (error_is c.from_residual.result (Serve (end_of_step c.in_err-frame.field-0.0)) c.from_residual.ensures.1) ∙ fault);
@@ -132,6 +149,9 @@ returns g c =
       gives =
           answer_gives g.R.Reply.makes (unless_empty (Some c.args.line.now)) c.args.kept.now c.send_reply.new.kept c.send_reply.result frame c.args.service.now.sessions c.send_reply.new.service.sessions (g.P.Streams.sent pages) (g.P.Streams.sent mid) (g.P.Streams.sent pages') yes.fits (text_may_all c.args.line.now frame c.requires.short some yes.may) (names_open frame c.args.service.now.sessions yes.opens.named)
           (same_opens c.args.service.now.sessions c.step_line.new.self.sessions c.send_reply.new.service.sessions frame c.send_reply.ensures.sessions yes.opens.after) sent made.done made.stops;
+      blames =
+          answer_blames g.R.Reply.makes (unless_empty (Some c.args.line.now)) c.args.kept.now c.send_reply.new.kept c.send_reply.result frame c.args.service.now.sessions c.step_line.new.self.sessions c.send_reply.new.service.sessions (g.P.Streams.sent pages) (g.P.Streams.sent mid) (g.P.Streams.sent pages') told (view pages').size image
+          yes.fits (text_may_all c.args.line.now frame c.requires.short some yes.may) (names_open frame c.args.service.now.sessions yes.opens.named) yes.opens.after (text_lasts c.args.line.now frame c.args.service.now.sessions c.step_line.new.self.sessions c.requires.short some yes.lasts) made.sessions sent made.done made.ends;
       send = λ fault. subst P same (c.send_reply.ensures.send fault);
       disk = λ fault. absurd (not_of_disk c.send_reply.result c.send_reply.ensures.ends fault);
       read = not_of_input c.send_reply.result c.send_reply.ensures.ends;
@@ -167,6 +187,7 @@ returns-then-is_empty g c =
       known = λ knows follows known. known;
       named = λ knows follows known. tt;
       gives = gives_empty g.R.Reply.makes c.args.line.now none c.args.kept.now (λ n. is_open n it.sessions) (g.P.Streams.sent at);
+      blames = last_empty g.R.Reply.makes c.args.line.now none c.args.kept.now it.sessions (g.P.Streams.sent at);
       send = λ fault. differ fault refl;
       disk = λ fault. differ fault refl;
       read = λ fault. differ fault refl;

@@ -10,6 +10,10 @@ use Rattle.chart_service.proofs.Known.{known_next, ends_known, same_opens, refus
 use Rattle.chart_service.specs.Serving.{unless_empty}
 use Rattle.chart_service.proofs.Naming.{answer_gives}
 use Rattle.chart_service.proofs.Sending.{ok_so, error_so, answer_done, answer_stops, long_replied, long_after, reply_moments}
+use Rattle.std.proofs.Common.{ℕ, List, Option}
+use Rattle.chart_service.specs.LastShown.{OfRowsLine}
+use Rattle.chart_service.proofs.Blaming.{answer_blames}
+use Rattle.chart_service.proofs.LastLemmas.{lasts_refused}
 use Rattle.chart_service.proofs.answers.answer_long_line.Goals as goal
 
 pub returns-clause-done : goal.returns-clause-done
@@ -74,3 +78,14 @@ returns-clause-gives g c =
     let new = c.send_reply.new.service in
     answer_gives g.R.Reply.makes (unless_empty None) c.args.kept.now c.send_reply.new.kept c.send_reply.result frame own new.sessions before before (g.P.Streams.sent (shown.pages new)) c.refused.ensures.fits (c.refused.ensures.frame, tt) (refused_names frame LineTooLong c.refused.ensures.frame (λ n. is_open n own))
     (same_opens own own new.sessions frame c.send_reply.ensures.sessions (refused_opens frame LineTooLong c.refused.ensures.frame own)) refl c.send_reply.ensures.done c.send_reply.ensures.stops
+
+pub returns-clause-blames : goal.returns-clause-blames
+returns-clause-blames g c =
+    let frame = c.refused.result in
+    let own = c.args.service.now.sessions in
+    let before = g.P.Streams.sent (shown.pages c.args.service.now) in
+    let new = c.send_reply.new.service in
+    let view = g.P.Pages.view (shown.pages new) in
+    let none : Option (List ℕ) = None in
+    answer_blames g.R.Reply.makes (unless_empty None) c.args.kept.now c.send_reply.new.kept c.send_reply.result frame own own new.sessions before before (g.P.Streams.sent (shown.pages new)) (g.P.Pages.told (shown.pages new)) view.size view.image c.refused.ensures.fits (c.refused.ensures.frame, tt) (refused_names frame LineTooLong c.refused.ensures.frame (λ n. is_open n own))
+    (refused_opens frame LineTooLong c.refused.ensures.frame own) (lasts_refused (OfRowsLine none) frame LineTooLong own own c.refused.ensures.frame refl) c.send_reply.ensures.sessions refl c.send_reply.ensures.done c.send_reply.ensures.ends

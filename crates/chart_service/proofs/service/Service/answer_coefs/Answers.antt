@@ -18,6 +18,9 @@ use Rattle.chart_service.proofs.Others.{stays_same, stays_viewed, stays_closed}
 use Rattle.chart_service.proofs.PlanLemmas.{replying_too_large, replying_node, replying_want, replying_view, looked_viewed, opens_view}
 use Rattle.chart_service.proofs.RoomLemmas.{never_large, room_same, room_viewed}
 use Rattle.chart_service.specs.Rooms.{IsShortFor}
+use Rattle.chart_service.proofs.LastLemmas.{last_viewed}
+use Rattle.std.proofs.Common.{◌∙◌, sym, ap}
+use Rattle.chart_frames.specs.declared.frame.ViewFrame.{ViewFrame}
 use Rattle.chart_service.proofs.service.Service.answer_coefs.Goals as goal
 
 pub returns-in-Err-TooLarge-clause-replying : goal.returns-in-Err-TooLarge-clause-replying
@@ -116,3 +119,10 @@ returns-clause-rooms g c = λ fits has.
     let needed : Option (List (Key × Coef)) = Some c.in-Ok.planned.plan.needed in
     let kept : c.apply.new.self ≡ viewed c.args.number c.args.spec needed c.plan.new.self.sessions = search rules in
     room_viewed c.args.number c.args.spec needed c.args.self.now.sessions c.plan.new.self.sessions c.apply.new.self kept c.plan.ensures.sessions fits has
+
+pub returns-clause-last : goal.returns-clause-last
+returns-clause-last g c = λ id last.
+    let needed : Option (List (Key × Coef)) = Some c.in-Ok.planned.plan.needed in
+    let kept : c.apply.new.self ≡ viewed c.args.number c.args.spec needed c.plan.new.self.sessions = search rules in
+    last_viewed c.args.number c.args.spec needed c.args.self.now.sessions c.plan.new.self.sessions c.apply.new.self c.requires.opened c.plan.ensures.sessions kept id last
+    ∙ sym (ap (λ (v : ViewFrame). v.series) c.view_frame.ensures.fields)

@@ -17,6 +17,7 @@ use Rattle.chart_service.proofs.Keeping.{views_after_view}
 use Rattle.chart_service.proofs.Others.{stays_same, stays_viewed, stays_closed}
 use Rattle.chart_service.proofs.PlanLemmas.{replying_scan, replying_rows, replying_want, looked_viewed, opens_rows_of}
 use Rattle.chart_service.proofs.RoomLemmas.{room_viewed}
+use Rattle.chart_service.proofs.LastLemmas.{last_viewed}
 use Rattle.chart_service.proofs.service.Service.answer_rows.Goals as goal
 
 pub returns-in-Err-Node-clause-replying : goal.returns-in-Err-Node-clause-replying
@@ -88,3 +89,9 @@ returns-clause-rooms g c = λ fits has.
     let needed : Option (List (Key × Coef)) = None in
     let kept : c.apply.new.self ≡ viewed c.args.number c.args.spec needed c.rows.new.self.sessions = search rules in
     room_viewed c.args.number c.args.spec needed c.args.self.now.sessions c.rows.new.self.sessions c.apply.new.self kept c.rows.ensures.sessions fits has
+
+pub returns-clause-last : goal.returns-clause-last
+returns-clause-last g c = λ id last.
+    let needed : Option (List (Key × Coef)) = None in
+    let kept : c.apply.new.self ≡ viewed c.args.number c.args.spec needed c.rows.new.self.sessions = search rules in
+    last_viewed c.args.number c.args.spec needed c.args.self.now.sessions c.rows.new.self.sessions c.apply.new.self c.requires.opened c.rows.ensures.sessions kept id last

@@ -14,6 +14,10 @@ use Rattle.chart_service.proofs.LookLemmas.{replying_so}
 use Rattle.chart_service.proofs.StepLemmas.{on_ok, open_outside, open_cause, view_why, zoom_why, pan_why}
 use Rattle.std.specs.Prelude.{OnOk}
 use Rattle.chart_service.specs.Rooms.{LeavesOpen}
+use Rattle.chart_service.proofs.LastLemmas.{lasts_closed, lasts_opened, lasts_shown}
+use Rattle.chart_service.specs.LastShown.{LastsBy, OfRows}
+use Rattle.std.proofs.Common.{[]}
+use Rattle.request_lines.specs.declared.requests.Request.TheVariants.{Open, Close}
 use Rattle.chart_service.proofs.service.Service.look.Goals as goal
 
 pub returns-in-Open-clause-replying : goal.returns-in-Open-clause-replying
@@ -153,3 +157,44 @@ pub returns-in-Close-clause-leaves : goal.returns-in-Close-clause-leaves
 returns-in-Close-clause-leaves g c =
     let E : Request → Type 0 = λ r. LeavesOpen r c.args.self.now.sessions c.close.new.self.sessions in
     subst E (sym c.in-Close.is) c.close.ensures.leaves
+
+pub returns-in-Open-clause-lasts : goal.returns-in-Open-clause-lasts
+returns-in-Open-clause-lasts g c =
+    let ss = c.args.self.now.sessions in
+    let ss' = c.open.new.self.sessions in
+    let E : Request → Type 0 = λ r. IfOk c.open.result (λ frame. LastsBy (OfRows r) frame ss ss') in
+    subst E (sym c.in-Open.is) (lasts_opened c.open.result (open_refusal ss c.in-Open.session c.cache_of.result) c.in-Open.session c.cache_of.result (OfRows (Open c.in-Open.session c.in-Open.cache)) (state_of [] 0 ss) (state_of [] 0 ss')
+    (c.open.ensures.reply 0 []))
+
+pub returns-in-View-clause-lasts : goal.returns-in-View-clause-lasts
+returns-in-View-clause-lasts g c =
+    let ss = c.args.self.now.sessions in
+    let ss' = c.view_by_text.new.self.sessions in
+    let r = c.view_by_text.result in
+    let made = c.view_by_text.ensures in
+    let E : Request → Type 0 = λ q. IfOk r (λ frame. LastsBy (OfRows q) frame ss ss') in
+    subst E (sym c.in-View.is) (lasts_shown r c.in-View.session (OfRows (View c.in-View.session c.in-View.name c.in-View.w c.in-View.h c.in-View.t0 c.in-View.t1 c.in-View.range c.in-View.filter)) ss ss' made.may made.stays.others made.looked.kept made.last)
+
+pub returns-in-Zoom-clause-lasts : goal.returns-in-Zoom-clause-lasts
+returns-in-Zoom-clause-lasts g c =
+    let ss = c.args.self.now.sessions in
+    let ss' = c.zoom.new.self.sessions in
+    let made = c.zoom.ensures in
+    let E : Request → Type 0 = λ q. IfOk c.zoom.result (λ frame. LastsBy (OfRows q) frame ss ss') in
+    subst E (sym c.in-Zoom.is) (lasts_shown c.zoom.result c.in-Zoom.session (OfRows (Zoom c.in-Zoom.session c.in-Zoom.t0 c.in-Zoom.t1)) ss ss' made.may made.stays.others made.looked.kept made.last)
+
+pub returns-in-Pan-clause-lasts : goal.returns-in-Pan-clause-lasts
+returns-in-Pan-clause-lasts g c =
+    let ss = c.args.self.now.sessions in
+    let ss' = c.pan.new.self.sessions in
+    let made = c.pan.ensures in
+    let E : Request → Type 0 = λ q. IfOk c.pan.result (λ frame. LastsBy (OfRows q) frame ss ss') in
+    subst E (sym c.in-Pan.is) (lasts_shown c.pan.result c.in-Pan.session (OfRows (Pan c.in-Pan.session c.in-Pan.by)) ss ss' made.may made.stays.others made.looked.kept made.last)
+
+pub returns-in-Close-clause-lasts : goal.returns-in-Close-clause-lasts
+returns-in-Close-clause-lasts g c =
+    let ss = c.args.self.now.sessions in
+    let ss' = c.close.new.self.sessions in
+    let made = c.close.ensures in
+    let E : Request → Type 0 = λ q. LastsBy (OfRows q) c.close.result ss ss' in
+    subst E (sym c.in-Close.is) (lasts_closed c.in-Close.session (OfRows (Close c.in-Close.session)) c.close.result ss ss' made.may made.leaves made.opens made.stays)

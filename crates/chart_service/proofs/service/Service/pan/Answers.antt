@@ -12,6 +12,8 @@ use Rattle.chart_service.proofs.Answered.{move_answered}
 use Rattle.chart_service.proofs.LookLemmas.{causes_so, replying_so}
 use Rattle.chart_service.proofs.ViewLemmas.{last_shown, reads_of_last}
 use Rattle.chart_service.proofs.RoomLemmas.{fits_last, keep_rooms}
+use Rattle.chart_service.proofs.LastLemmas.{of_last, tells_more}
+use Rattle.chart_service.specs.LastShown.{IsLastIn}
 use Rattle.chart_service.proofs.service.Service.pan.Goals as goal
 
 pub returns-clause-replying : goal.returns-clause-replying
@@ -60,3 +62,12 @@ returns-clause-rooms g c =
     let moved : IsMoved last.grid (last.grid.t0 +ℤ c.args.by) (last.grid.t1 +ℤ c.args.by) c.panned-grid.result = subst B (to_z-of_z w128 c.args.by by) c.panned-grid.ensures in
     keep_rooms c.answer_over.result number ss c.answer_over.new.self.sessions c.answer_over.ensures.stays.others
     (λ has. c.answer_over.ensures.rooms (last.grid.t0 +ℤ c.args.by) (last.grid.t1 +ℤ c.args.by) moved (fits_last number ss last is has) has)
+
+pub returns-clause-last : goal.returns-clause-last
+returns-clause-last g c =
+    let ss = c.args.self.now.sessions in
+    let number = c.args.number in
+    let last = c.in_ok-last-in-Ok.last in
+    let L : ViewSpec → Type 0 = λ l. IsLastOf (session_of number ss) (Ok l) in
+    let is : IsLastOf (session_of number ss) (Ok last) = subst L (sym c.in_ok-last-in-Ok.ensures) c.in-Ok.ensures.last in
+    tells_more c.answer_over.result number (λ id. id ≡ last.series) (IsLastIn ss number) c.answer_over.new.self.sessions (of_last number ss last is) c.answer_over.ensures.last

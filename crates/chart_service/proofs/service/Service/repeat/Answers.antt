@@ -15,6 +15,7 @@ use Rattle.chart_service.specs.Stepping.{IsLastShown, RepliedTo, ReadsFew}
 use Rattle.chart_service.specs.Shown as shown
 use Rattle.series_store.specs.Shown as stored
 use Rattle.chart_service.proofs.Faulting.{counts_step, view_risen}
+use Rattle.chart_service.proofs.LastLemmas.{lasts_shown}
 use Rattle.chart_service.proofs.LookLemmas.{unchanged, steps_so}
 use Rattle.chart_service.proofs.StepLemmas.{AreOwn, look_reply, look_bad, on_ok, zoom_why}
 use Rattle.chart_grid.specs.Limits.{IsWindow}
@@ -73,6 +74,7 @@ returns g c =
           let T : ℤ → Type 0 = λ t. IsWindow t0 t in
           c.zoom-reply.ensures.tells (subst T (sym (to_z-of_z w128 c.from-t1.result to_fits ∙ to_is)) (subst F (sym (to_z-of_z w128 c.from-t0.result from_fits ∙ from_is)) last.grid.window)) has;
       rooms = c.zoom-reply.ensures.rooms;
+      lasts = lasts_shown r number (λ was. was) ss ss' c.zoom-reply.ensures.may c.zoom-reply.ensures.stays.others looked.kept c.zoom-reply.ensures.last;
       stays = c.zoom-reply.ensures.stays;
       moments = looks.time;
       idle = unchanged _ _ _ _ _ _ _ _ _ _ looks;

@@ -20,6 +20,8 @@ use Rattle.chart_service.proofs.StepLemmas.{AreOwn, look_reply, request_bad, edi
 use Rattle.chart_service.proofs.SyncLemmas.{asks_one}
 use Rattle.std.specs.Prelude.{OnOk}
 use Rattle.chart_service.specs.Rooms.{LeavesOpen}
+use Rattle.chart_service.proofs.LastLemmas.{lasts_edited}
+use Rattle.chart_service.specs.LastShown.{OfRows}
 use Rattle.chart_service.proofs.service.Service.step.Goals as goal
 
 pub returns-in-Edit-clause-reply : goal.returns-in-Edit-clause-reply
@@ -79,6 +81,7 @@ returns-in_default g c =
       kept = looked.kept;
       may = c.look-reply.ensures.may;
       leaves = c.look-reply.ensures.leaves;
+      lasts = c.look-reply.ensures.lasts;
       unchanged = unchanged_so r (g.P.Pages.told (stored.pages store)) (g.P.Pages.view (stored.pages store)) (g.P.Pages.view (stored.pages new)) (unchanged _ _ _ _ _ _ _ _ _ _ looks);
       idle = λ none. unchanged _ _ _ _ _ _ _ _ _ _ looks;
       same_book = λ total book told stands keeps. let kept = unchanged _ _ _ _ _ _ _ _ _ _ looks in (kept.syncs, kept.writes);
@@ -122,3 +125,6 @@ pub returns-in-Edit-clause-leaves : goal.returns-in-Edit-clause-leaves
 returns-in-Edit-clause-leaves g c =
     let E : Request → Type 0 = λ r. OnOk c.edit.result (LeavesOpen r c.args.self.now.sessions c.edit.new.self.sessions) in
     subst E (sym c.in-Edit.is) (on_ok c.edit.result _ c.edit.ensures.sessions)
+
+pub returns-in-Edit-clause-lasts : goal.returns-in-Edit-clause-lasts
+returns-in-Edit-clause-lasts g c = lasts_edited c.edit.result (OfRows c.args.request.now) c.args.self.now.sessions c.edit.new.self.sessions c.edit.ensures.may c.edit.ensures.sessions

@@ -13,6 +13,10 @@ use Rattle.chart_service.proofs.StepLemmas.{line_reply, line_moments, bad_line}
 use Rattle.chart_service.proofs.Sending.{text_is}
 use Rattle.chart_service.proofs.SyncLemmas.{no_edit}
 use Rattle.chart_service.proofs.RoomLemmas.{line_leaves, line_same}
+use Rattle.chart_service.proofs.LastLemmas.{lasts_line, lasts_refused}
+use Rattle.chart_service.specs.LastShown.{OfRowsLine}
+use Rattle.series_book.specs.declared.refusals.Refusal.TheVariants.{BadLine, LineTooLong}
+use Rattle.std.proofs.Common.{refl}
 use Rattle.chart_service.proofs.service.Service.step_line.Goals as goal
 
 pub returns-then-line-gt-LONGEST_LINE-clause-reply : goal.returns-then-line-gt-LONGEST_LINE-clause-reply
@@ -103,3 +107,15 @@ returns-in-Ok-clause-leaves g c =
 
 pub returns-in-Err-BadLine-clause-leaves : goal.returns-in-Err-BadLine-clause-leaves
 returns-in-Err-BadLine-clause-leaves g c = line_same (line_text c.args.line.now) c.args.self.now.sessions
+
+pub returns-then-line-gt-LONGEST_LINE-clause-lasts : goal.returns-then-line-gt-LONGEST_LINE-clause-lasts
+returns-then-line-gt-LONGEST_LINE-clause-lasts g c = lasts_refused (OfRowsLine (line_text c.args.line.now)) c.refused.result LineTooLong c.args.self.now.sessions c.args.self.now.sessions c.refused.ensures.frame refl
+
+pub returns-in-Ok-clause-lasts : goal.returns-in-Ok-clause-lasts
+returns-in-Ok-clause-lasts g c =
+    let short : length c.args.line.now ≤ 8192 = omega arith in
+    let is : read_line c.args.line.now ≡ Ok c.in-Ok.request = c.in-Ok.ensures.reading in
+    lasts_line c.step.result c.args.line.now c.in-Ok.request c.args.self.now.sessions c.step.new.self.sessions short is c.step.ensures.lasts
+
+pub returns-in-Err-BadLine-clause-lasts : goal.returns-in-Err-BadLine-clause-lasts
+returns-in-Err-BadLine-clause-lasts g c = lasts_refused (OfRowsLine (line_text c.args.line.now)) c.refused-in-Err-BadLine.result (BadLine c.in-Err-BadLine.at) c.args.self.now.sessions c.args.self.now.sessions c.refused-in-Err-BadLine.ensures.frame refl

@@ -12,6 +12,7 @@ use Rattle.chart_service.proofs.Answered.{replies_to_view, views_id, refuses_id}
 use Rattle.chart_service.proofs.LookLemmas.{causes_so, replying_so, replying_refused, looked_refused}
 use Rattle.chart_service.proofs.ReadLemmas.{reads_by}
 use Rattle.chart_service.proofs.ViewLemmas.{replies_unknown, reads_named}
+use Rattle.chart_service.proofs.LastLemmas.{tells_more}
 use Rattle.chart_service.proofs.service.Service.view.Goals as goal
 
 pub returns-in_default-clause-replying : goal.returns-in_default-clause-replying
@@ -85,3 +86,6 @@ returns-in-Ok-clause-cause g c =
     let N : ℕ → Type 0 = IsNamedAt catalog name in
     causes_so (λ id. id ≡ spec.series) (IsNamedAt catalog name) c.answer.result (g.P.Pages.told (stored.pages store)) catalog (stored.total store) (g.P.Pages.view (stored.pages store)) (g.P.Pages.view (stored.pages new))
     (λ id same. subst N (sym (same ∙ is.of)) named) c.answer.ensures.cause
+
+pub returns-in-Ok-clause-last : goal.returns-in-Ok-clause-last
+returns-in-Ok-clause-last g c = tells_more c.answer.result c.args.number (λ id. id ≡ c.in-Ok.spec.series) (λ id. Unit {0}) c.answer.new.self.sessions (λ id is. tt) c.answer.ensures.last
