@@ -127,7 +127,7 @@ module _ {S F : Type 0} (makes : Makes S F) (v w : S) (total : ℕ) (book : List
   StandsNow stand = StandsSo stand name w edits told_now new sessions now
 
   abbrev Stops : Stand S → Given → AnswerEnd F → Option (List ℕ) → Type 0
-  Stops stand it end sent = StopsBy makes stand it name w new.image sessions sent now new.reads new.syncs end
+  Stops stand it end sent = StopsBy makes stand it name w told_now new.size new.image sessions sent now new.reads new.syncs end
 
   abbrev RunStops : Option (List ℕ) → Option (List ℕ) → ℕ → ℕ → LinesStop (AnswerEnd F) → Type 0
   RunStops o left pieces pieces' why = runs.StopsSo (Does makes) Stops StandsNow (Over start) o left before now pieces pieces' why

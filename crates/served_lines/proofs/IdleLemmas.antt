@@ -8,10 +8,9 @@ use Rattle.line_runs.specs.Carried.{DoesOne}
 use Rattle.line_runs.specs.Given.{End, Line}
 use Rattle.series_book.specs.declared.edits.Edit.{Edit}
 use Rattle.zoom_session.specs.declared.session.Session.{Session}
-use Rattle.zoom_session.specs.Sessions.{is_open}
 use Rattle.chart_service.specs.Making.{Makes}
 use Rattle.chart_service.specs.Serving.{unless_empty}
-use Rattle.chart_service.proofs.Naming.{gives_none}
+use Rattle.chart_service.proofs.Blaming.{last_none}
 use Rattle.served_lines.specs.Standing.{StandsSo}
 use Rattle.served_lines.specs.Turning.{Any, Does, Over, Stand, Turn}
 use Rattle.served_lines.proofs.Giving.{gives_does}
@@ -29,7 +28,7 @@ module _ {S F : Type 0} (makes : Makes S F) (name : GName) (kept : S) (edits : L
   empty_does (Any named) position bytes none is =
       gives_does makes named name name kept kept own own before before edits is refl (Line position (Some bytes)) edits told at [] named.ahead
       (ap (λ (l : List (Option (List ℕ))). named.ahead ++ l) (none_said bytes none) ∙ append-nil named.ahead) is.spells tt
-      (gives_none makes kept (λ n. is_open n own) before)
+      (last_none makes kept own before)
   empty_does (Over held) position bytes none is =
       let T : List (Option (List ℕ)) → Type 0 = λ l. Turn makes held held l 0 [] in
       record {
@@ -45,6 +44,6 @@ module _ {S F : Type 0} (makes : Makes S F) (name : GName) (kept : S) (edits : L
       → DoesOne (Does makes) (λ s. StandsSo s name kept edits told at own before) stand End before before
   end_does (Any named) is =
       gives_does makes named name name kept kept own own before before edits is refl End edits told at [] named.ahead (append-nil named.ahead) is.spells tt
-      (gives_none makes kept (λ n. is_open n own) before)
+      (last_none makes kept own before)
   end_does (Over held) is =
       record { text = []; behind = Over held; done = (turn_none makes held, tt); stands = is; sent = sent_none before }

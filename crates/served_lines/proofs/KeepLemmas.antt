@@ -15,6 +15,7 @@ use Rattle.request_lines.specs.declared.requests.Request.TheVariants.{Edit as Ed
 use Rattle.series_book.specs.declared.edits.Edit.{Edit}
 use Rattle.zoom_session.specs.declared.session.Session.{Session}
 use Rattle.zoom_session.specs.Sessions.{is_open}
+use Rattle.chart_service.specs.Blaming.{BlamesBy, BlamesEnd, GivesLast}
 use Rattle.chart_service.specs.EditGroups.{SpelledBy, SpellEdits, SpellsEdit}
 use Rattle.chart_service.specs.Making.{Makes, LinesMoments}
 use Rattle.chart_service.specs.Moments.{Through}
@@ -24,6 +25,7 @@ use Rattle.chart_service.specs.Syncing.{edit_asked, edit_of, edit_read, edits_of
 use Rattle.chart_service.specs.declared.failure.AnswerEnd.{AnswerEnd}
 use Rattle.chart_service.specs.declared.failure.AnswerEnd.TheVariants.{Serve}
 use Rattle.chart_service.specs.declared.failure.ServeEnd.TheVariants.{NoMemory}
+use Rattle.chart_service.proofs.Blaming.{last_none}
 use Rattle.chart_service.proofs.GatherLemmas.{spells_more}
 use Rattle.chart_service.proofs.Naming.{first_memory, gives_none}
 use Rattle.chart_service.proofs.Sending.{error_so, ok_so}
@@ -31,6 +33,7 @@ use Rattle.chart_service.proofs.SyncLemmas.{spelled_edits}
 use Rattle.served_lines.specs.Standing.{IsHeld, StandsSo}
 use Rattle.served_lines.specs.Shown.{SettlesTo, StopsBy, Unsettled}
 use Rattle.served_lines.specs.Turning.{Any, AreTold, Does, Held, Lasting, Leaves, LeavesSo, Over, Stand}
+use Rattle.served_lines.proofs.BlameLemmas.{last_ok}
 use Rattle.served_lines.proofs.Giving.{gives_does, gives_stops}
 use Rattle.served_lines.proofs.Steps.{IsSaid, ahead_leaves, ahead_stopped, full_turn, group_costs, kept_turn, spelled_line}
 use Rattle.served_lines.proofs.TurnLemmas.{answered_none, behind}
@@ -66,18 +69,21 @@ none_given makes [] (edit ∷ edits) none spells v a before = absurd spells
 none_given makes (line ∷ lines) [] none spells v a before = absurd spells
 none_given makes (line ∷ lines) (edit ∷ edits) none spells v a before = absurd (omega (arith, none))
 
-pub gives_ok : {T S F : Type 0} (makes : Makes S F) (lines : List (Option (List ℕ))) (kept kept' : S) (own sessions : List Session) (before now : Option (List ℕ)) (r :
-    Result T (AnswerEnd F))
-    → GivesBy makes lines kept kept' own sessions before now r
-    → OnOk r (Gives makes lines kept kept' (λ n. is_open n own) (λ n. is_open n sessions) before now)
-gives_ok makes lines kept kept' own sessions before now (Ok done) gives = gives
-gives_ok makes lines kept kept' own sessions before now (Err end) gives = tt
-
 pub gives_err : {T S F : Type 0} (makes : Makes S F) (lines : List (Option (List ℕ))) (kept kept' : S) (own sessions : List Session) (before now : Option (List ℕ)) (r :
     Result T (AnswerEnd F))
     → GivesBy makes lines kept kept' own sessions before now r → IfErr r (GivesFirst makes kept kept' (λ n. is_open n own) before now)
 gives_err makes lines kept kept' own sessions before now (Ok done) gives = tt
 gives_err makes lines kept kept' own sessions before now (Err end) gives = gives
+
+pub blame_err : {T S F : Type 0} (makes : Makes S F) (lines : List (Option (List ℕ))) (kept kept' : S) (own sessions : List Session) (before now : Option (List ℕ)) (told : Type 0) (count : ℕ) (image : Image) (r :
+    Result T (AnswerEnd F))
+    → BlamesBy makes lines kept kept' own sessions before now told count image r → IfErr r (BlamesEnd makes lines kept kept' own before now told count image)
+blame_err makes lines kept kept' own sessions before now told count image (Ok done) blames = tt
+blame_err makes lines kept kept' own sessions before now told count image (Err end) blames = blames
+
+pub error_both : {T E : Type 0} (r : Result T E) (P Q R : E → Type 0) → ((e : E) → P e → Q e → R e) → IfErr r P → IfErr r Q → IfErr r R
+error_both (Ok done) P Q R both one other = tt
+error_both (Err e) P Q R both one other = both e one other
 
 -- the same moments, by the names of runs
 pub run_through : (old new : View) (IsSo : Image → ℕ → Type 0) → Through old new IsSo → moments.Through old new IsSo
@@ -88,11 +94,11 @@ module _ {S F : Type 0} (makes : Makes S F) (name : GName) (kept : S) (edits : L
   -- there is no memory
   pub memory_stops : (stand : Stand S) (position : ℕ) (line : Option (List ℕ)) → IsSaid line
       → StandsSo stand name kept edits told at own before
-      → StopsBy makes stand (Line position line) name kept at.image own before before at.reads at.syncs (Serve NoMemory)
+      → StopsBy makes stand (Line position line) name kept told at.size at.image own before before at.reads at.syncs (Serve NoMemory)
   memory_stops (Any named) position line said is =
-      gives_stops makes named name name kept kept own own before before edits is refl (Serve NoMemory)
+      gives_stops makes named name name kept kept own own before before edits is refl (Line position line) told at.size at.image (Serve NoMemory)
       (first_memory makes [] kept kept (λ n. is_open n own) (λ n. is_open n own) before before (gives_none makes kept (λ n. is_open n own)
-      before))
+      before)) tt
   memory_stops (Over held) position line said is =
       let lines = unless_empty line in
       let some : 1 ≤ length (held.ahead ++ lines) = omega (arith, ap length said, length-append held.ahead lines) in
@@ -150,7 +156,7 @@ module _ {S F : Type 0} (makes : Makes S F) (name : GName) (kept : S) (edits : L
         let P : List Edit → Type 0 = λ e. SpellEdits (named.ahead ++ line ∷ []) e in
         gives_does makes named name name kept kept own own before before edits is refl (Line position line) edits' told at [] (named.ahead ++ line ∷ [])
         (ap (λ (l : List (Option (List ℕ))). named.ahead ++ l) (spelled_line line edit spells)) (subst P (sym pushed) (spells_more named.ahead edits line edit is.spells spells)) tt
-        (gives_none makes kept (λ n. is_open n own) before)
+        (last_none makes kept own before)
     kept_does (Over held) position is = record {
       text = [];
       behind = Over (behind makes held (line ∷ []));
@@ -165,7 +171,7 @@ module _ {S F : Type 0} (makes : Makes S F) (name : GName) (kept : S) (edits : L
         (List ℕ)) (none : List Edit) where
       pub full_does : {T : Type 0} (r : Result T (AnswerEnd F)) (stand : Stand S) (position : ℕ) → 64 ≤ length edits'
           → StandsSo stand name kept edits told at own before → SpellEdits [] none
-          → SpelledBy edits' (λ lines. GivesBy makes lines kept kept' own sessions before now r)
+          → SpelledBy edits' (λ lines. BlamesBy makes lines kept kept' own sessions before now told' new.size new.image r)
           → ((held : Held S) → IsHeld held kept edits' told at own before
           → OnOk r (SettlesTo makes held (λ h. IsHeld h kept' none told' new sessions now) before now))
           → OnOk r (DoesOne (Does makes) (λ s. StandsSo s name' kept' none told' new sessions now) stand (Line position line) before now)
@@ -173,11 +179,11 @@ module _ {S F : Type 0} (makes : Makes S F) (name : GName) (kept : S) (edits : L
           let P : List Edit → Type 0 = λ e. SpellEdits (named.ahead ++ line ∷ []) e in
           let ahead = named.ahead ++ line ∷ [] in
           let spelt = subst P (sym pushed) (spells_more named.ahead edits line edit is.spells spells) in
-          ok_so r (Gives makes ahead kept kept' (λ n. is_open n own) (λ n. is_open n sessions) before now)
+          ok_so r (GivesLast makes ahead kept kept' own sessions before now)
           (DoesOne (Does makes) (λ s. StandsSo s name' kept' none told' new sessions now) (Any named) (Line position line) before now)
           (λ given. gives_does makes named name name' kept kept' own sessions before now edits is same_name (Line position line) none told' new
           ahead [] (ap (λ (l : List (Option (List ℕ))). named.ahead ++ l) (spelled_line line edit spells) ∙ sym (append-nil ahead)) none_left tt given)
-          (gives_ok makes ahead kept kept' own sessions before now r (gives ahead spelt))
+          (last_ok makes ahead kept kept' own sessions before now told' new.size new.image r (gives ahead spelt))
       full_does r (Over held) position full is none_left gives settles =
           let mid = behind makes held (line ∷ []) in
           let here = pushed_held held is in
@@ -203,22 +209,30 @@ module _ {S F : Type 0} (makes : Makes S F) (name : GName) (kept : S) (edits : L
       pub full_stops : {T : Type 0} (r : Result T (AnswerEnd F)) (stand : Stand S) (position : ℕ) → 64 ≤ length edits'
           → length edits' ≤ most_ahead → StandsSo stand name kept edits told at own before
           → SpelledBy edits' (λ lines. GivesBy makes lines kept kept' own sessions before now r)
+          → SpelledBy edits' (λ lines. BlamesBy makes lines kept kept' own sessions before now told' new.size new.image r)
           → ((held : Held S) → IsHeld held kept edits' told at own before
           → IfErr r (Unsettled makes held kept' edits' new.image sessions now new.reads new.syncs))
-          → IfErr r (λ end. StopsBy makes stand (Line position line) name' kept' new.image sessions before now new.reads new.syncs end)
-      full_stops r (Any named) position full few is gives unsettled =
+          → IfErr r (λ end. StopsBy makes stand (Line position line) name' kept' told' new.size new.image sessions before now new.reads new.syncs end)
+      full_stops r (Any named) position full few is gives blames unsettled =
           let P : List Edit → Type 0 = λ e. SpellEdits (named.ahead ++ line ∷ []) e in
           let ahead = named.ahead ++ line ∷ [] in
           let spelt = subst P (sym pushed) (spells_more named.ahead edits line edit is.spells spells) in
-          error_so r (GivesFirst makes kept kept' (λ n. is_open n own) before now)
-          (λ end. StopsBy makes (Any named) (Line position line) name' kept' new.image sessions before now new.reads new.syncs end)
-          (λ end given. gives_stops makes named name name' kept kept' own sessions before now edits is same_name end given)
+          let lines_are : ahead ≡ named.ahead ++ unless_empty line =
+          ap (λ (l : List (Option (List ℕ))). named.ahead ++ l) (sym (spelled_line line edit spells)) in
+          error_both r (GivesFirst makes kept kept' (λ n. is_open n own) before now)
+          (BlamesEnd makes ahead kept kept' own before now told' new.size new.image)
+          (λ end. StopsBy makes (Any named) (Line position line) name' kept' told' new.size new.image sessions before now new.reads new.syncs end)
+          (λ end given blamed.
+          let B : List (Option (List ℕ)) → Type 0 = λ l. BlamesEnd makes l kept kept' own before now told' new.size new.image end in
+          gives_stops makes named name name' kept kept' own sessions before now edits is same_name (Line position line) told' new.size new.image end given
+          (subst B lines_are blamed))
           (gives_err makes ahead kept kept' own sessions before now r (gives ahead spelt))
-      full_stops r (Over held) position full few is gives unsettled =
+          (blame_err makes ahead kept kept' own sessions before now told' new.size new.image r (blames ahead spelt))
+      full_stops r (Over held) position full few is gives blames unsettled =
           let mid = behind makes held (line ∷ []) in
           let here = pushed_held held is in
           error_so r (Unsettled makes mid kept' edits' new.image sessions now new.reads new.syncs)
-          (λ end. StopsBy makes (Over held) (Line position line) name' kept' new.image sessions before now new.reads new.syncs end)
+          (λ end. StopsBy makes (Over held) (Line position line) name' kept' told' new.size new.image sessions before now new.reads new.syncs end)
           (λ end u. ahead_stopped makes held (Line position line) edits' mid.ahead [] kept' new.image sessions now new.reads new.syncs end
           next_are u.some here.spells few u.why u.reads_few
           (group_costs held.state (edits_of mid.ahead) (unless_empty line) 0 0 1 held.syncs new.syncs counted (omega arith)

@@ -1,6 +1,7 @@
 pub mod TurnLemmas
 pub mod SettleLemmas
 pub mod Steps
+pub mod BlameLemmas
 pub mod Giving
 pub mod KeepLemmas
 pub mod OtherLemmas

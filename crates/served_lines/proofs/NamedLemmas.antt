@@ -1,7 +1,8 @@
 -- What a run of the loop over lines gave, whatever the pages are.
-use Rattle.std.proofs.Common.{◌≡◌, ◌∙◌, ℕ, Bool, true, false, List, [], ◌∷◌, ◌++◌, All, IsTrue, Option, None, Some, Result, Ok, Err, IfErr, IfSome, refl, ap, sym, subst}
+use Rattle.std.proofs.Common.{◌≡◌, ◌∙◌, ◌⊎◌, ◌^◌, inl, inr, length, ℕ, Bool, true, false, List, [], ◌∷◌, ◌++◌, All, IsTrue, Option, None, Some, Result, Ok, Err, IfErr, IfSome, refl, ap, sym, subst}
 use Rattle.std.specs.Prelude.{OnOk, ◌==◌, ◌&&◌, ◌||◌, not}
 use Rattle.std.specs.Borrow.{GName}
+use Rattle.std.specs.List.{filter}
 use Rattle.std.proofs.lemmas.List.{append_assoc, append-nil}
 use Rattle.std.proofs.lemmas.List.Elements.{All-head, All-tail}
 use Rattle.block_disk.specs.SentLaws.{sent_more, sent_none}
@@ -11,28 +12,36 @@ use Rattle.chart_frames.specs.Frames.{Fits}
 use Rattle.chart_frames.specs.Opened.{opens}
 use Rattle.chart_frames.specs.declared.frame.Frame.{Frame}
 use Rattle.chart_frames.specs.declared.frame.Frame.TheVariants.{Done, Refused, Opened, Closed, View as ViewFrame, Rows, Live, Report}
+use Rattle.chart_world.specs.Fronts.{IsWhole, says}
+use Rattle.chart_world.specs.LineLaws.{lines_none, told_behind}
 use Rattle.chart_world.specs.declared.line_answer.LineFault.TheVariants as fault
 use Rattle.line_runs.specs.Carried.{Carries}
 use Rattle.line_runs.specs.CarriedLaws.{carries_both}
-use Rattle.line_runs.specs.Given.{End, EndsPaused, Given, Pause}
+use Rattle.line_runs.specs.Given.{AreBeforeWithin, End, EndsPaused, Given, IsNextWithin, Line, Pause}
 use Rattle.line_runs.specs.Runs as runs
 use Rattle.line_runs.specs.declared.lines_stop.LinesStop.{LinesStop}
 use Rattle.line_runs.specs.declared.lines_stop.LinesStop.TheVariants as stop
 use Rattle.series_book.specs.declared.edits.Edit.{Edit}
 use Rattle.zoom_session.specs.declared.session.Session.{Session}
 use Rattle.zoom_session.specs.Sessions.{is_open}
+use Rattle.chart_service.specs.Blaming.{BlamesEnd, GivesLast}
+use Rattle.chart_service.specs.LastShown.{IsLastIn, LastShown}
 use Rattle.chart_service.specs.Knowing.{EndsKnown, Follows, KnowsOpen, NamesKnown}
 use Rattle.chart_service.specs.Making.{Makes, AreMade}
-use Rattle.chart_service.specs.Naming.{Gives, GivesBy, GivesFirst, GivesTold, StopsBehind, opens_all}
+use Rattle.chart_service.specs.Naming.{GivesBy, GivesFirst, GivesTold, StopsBehind, opens_all}
 use Rattle.chart_service.specs.Serving.{told}
 use Rattle.chart_service.specs.declared.failure.AnswerEnd.{AnswerEnd}
 use Rattle.chart_service.specs.declared.failure.AnswerEnd.TheVariants.{Serve, Reply}
-use Rattle.chart_service.proofs.Naming.{first_behind, first_fault, gives_joined, gives_none}
+use Rattle.chart_service.specs.declared.failure.ServeEnd.TheVariants.{ReadFault, SendFault, DiskFault, Damaged, InputTooLong, NoMemory}
+use Rattle.chart_service.proofs.Blaming.{last_none, last_then}
+use Rattle.served_lines.proofs.BlameLemmas.{blames_behind, more_blamed}
+use Rattle.served_lines.specs.Blaming.{BlamesTold}
+use Rattle.chart_service.proofs.Naming.{first_behind, first_fault}
 use Rattle.served_lines.specs.Ending.{answer_of}
 use Rattle.served_lines.specs.Shown.{StopsBy}
 use Rattle.served_lines.specs.Standing.{IsNamed, StandsSo}
 use Rattle.served_lines.specs.Turning.{Any, Does, GivesSome, Named, Over, Stand, StopsAt, lines_of}
-use Rattle.served_lines.proofs.Carried.{all_ended, lines_all, told_are}
+use Rattle.served_lines.proofs.Carried.{all_ended, lines_all, said_first, told_are}
 
 module _ {S F : Type 0} (makes : Makes S F) where
   -- what was given by all that was done, and to which lines
@@ -57,10 +66,8 @@ module _ {S F : Type 0} (makes : Makes S F) where
       front = [];
       split = append-nil old.ahead;
       gives = λ before now sent.
-          let G : Option (List ℕ) → Type 0 = λ n. Gives makes [] old.kept old.kept (λ n. is_open n old.sessions) (λ n. is_open n old.sessions)
-          before n in
-          subst G (sent_none before ∙ sym (sent ∙ ap (λ t. sent_after t before) all.0)) (gives_none makes old.kept (λ n. is_open n
-          old.sessions) before);
+          let G : Option (List ℕ) → Type 0 = λ n. GivesLast makes [] old.kept old.kept old.sessions old.sessions before n in
+          subst G (sent_none before ∙ sym (sent ∙ ap (λ t. sent_after t before) all.0)) (last_none makes old.kept old.sessions before);
     };
   }
   given (it ∷ later) old text stand all =
@@ -85,8 +92,8 @@ module _ {S F : Type 0} (makes : Makes S F) where
                   let both : now ≡ sent_after all.more mid_sent =
                   sent ∙ ap (λ t. sent_after t before) all.texts
                   ∙ sym (sent_more all.first all.more before mid_sent (sent_after all.more mid_sent) refl refl) in
-                  gives_joined makes does.0.front rest.gives.front old.kept mid.kept rest.new.kept (λ n. is_open n old.sessions) (λ n. is_open n mid.sessions)
-                  (λ n. is_open n rest.new.sessions) before mid_sent now (does.0.gives before mid_sent refl) (rest.gives.gives mid_sent now both);
+                  last_then makes does.0.front rest.gives.front old.kept mid.kept rest.new.kept old.sessions mid.sessions rest.new.sessions
+                  before mid_sent now (does.0.gives before mid_sent refl) (rest.gives.gives mid_sent now both);
             };
           }
 
@@ -148,21 +155,21 @@ module _ {S F : Type 0} (makes : Makes S F) (v w : S) (own sessions : List Sessi
   StandsNow stand = StandsSo stand name' w edits told_now new sessions now
 
   abbrev Stops : Stand S → Given → AnswerEnd F → Option (List ℕ) → Type 0
-  Stops stand it end sent = StopsBy makes stand it name' w new.image sessions sent now new.reads new.syncs end
+  Stops stand it end sent = StopsBy makes stand it name' w told_now new.size new.image sessions sent now new.reads new.syncs end
 
   abbrev RunStops : Option (List ℕ) → Option (List ℕ) → ℕ → ℕ → LinesStop (AnswerEnd F) → Type 0
   RunStops o left pieces pieces' why = runs.StopsSo (Does makes) Stops StandsNow (Any start) o left before now pieces pieces' why
 
   -- to these lines
   abbrev GivesLines : List (Option (List ℕ)) → Type 0
-  GivesLines lines = Gives makes lines v w (λ n. is_open n own) (λ n. is_open n sessions) before now
+  GivesLines lines = GivesLast makes lines v w own sessions before now
 
   gives_to : (all : List Given) (text : List ℕ) (stand : Stand S) (t : GivesTo makes start all text stand) → StandsNow stand
       → now ≡ sent_after text before → GivesLines t.gives.front × (name' ≡ name)
   gives_to all text stand t stands sent =
       let h : IsNamed t.new name' w edits sessions = subst StandsNow t.is stands in
-      let K : S → Type 0 = λ k. Gives makes t.gives.front v k (λ n. is_open n own) (λ n. is_open n sessions) before now in
-      let O : List Session → Type 0 = λ o. Gives makes t.gives.front v t.new.kept (λ n. is_open n own) (λ n. is_open n o) before now in
+      let K : S → Type 0 = λ k. GivesLast makes t.gives.front v k own sessions before now in
+      let O : List Session → Type 0 = λ o. GivesLast makes t.gives.front v t.new.kept own o before now in
       (subst K h.kept_is (subst O h.sessions_are (t.gives.gives before now sent)), sym h.name_is ∙ t.gives.same_reference)
 
   -- those of the input, where all was done
@@ -185,29 +192,103 @@ module _ {S F : Type 0} (makes : Makes S F) (v w : S) (own sessions : List Sessi
       → GivesTold makes o v w own sessions before now (answer_of r) × (name' ≡ name)
   gives_so o left pieces pieces' (Ok done) all why =
       let is = lines_told pieces pieces' o all in
-      (record { lines = is.0; gives = is.1; are_told = is.3 }, is.2)
+      (record { lines = is.0; gives = is.1.gives; are_told = is.3 }, is.2)
   gives_so o left pieces pieces' (Err (stop.Fault fault.ReadFault)) all why =
       let t = given makes why.done.given start why.done.text why.done.behind why.done.carries in
       let g = gives_to why.done.given why.done.text why.done.behind t why.stands why.sent in
-      (record { lines = []; gives = first_fault makes t.gives.front v w (λ n. is_open n own) (λ n. is_open n sessions) before now fault.ReadFault g.0; are_told = tt }, g.1)
+      (record { lines = []; gives = first_fault makes t.gives.front v w (λ n. is_open n own) (λ n. is_open n sessions) before now fault.ReadFault g.0.gives; are_told = tt }, g.1)
   gives_so o left pieces pieces' (Err (stop.Fault fault.InputTooLong)) all why =
       let t = given makes why.done.given start why.done.text why.done.behind why.done.carries in
       let g = gives_to why.done.given why.done.text why.done.behind t why.stands why.sent in
-      (record { lines = []; gives = first_fault makes t.gives.front v w (λ n. is_open n own) (λ n. is_open n sessions) before now fault.InputTooLong g.0; are_told = tt }, g.1)
+      (record { lines = []; gives = first_fault makes t.gives.front v w (λ n. is_open n own) (λ n. is_open n sessions) before now fault.InputTooLong g.0.gives; are_told = tt }, g.1)
   gives_so o left pieces pieces' (Err (stop.Work end)) all why =
       let d = why.done in
       let t = given makes d.given start d.text d.behind d.carries in
       let mid = sent_after d.text before in
       let P : Stand S → Type 0 = λ s. Stops s why.next end mid in
-      let s : StopsAt makes t.new name' w mid now end = subst P t.is why.why in (
+      let s : StopsAt makes t.new why.next name' w told_now new.size new.image mid now end = subst P t.is why.why in (
         record {
           lines = [];
           gives = first_behind makes t.gives.front v t.new.kept w (λ n. is_open n own) (λ n. is_open n t.new.sessions) before mid now end (t.gives.gives before mid
-              refl) s.gives;
+              refl).gives s.gives;
           are_told = tt;
         },
         s.same_reference ∙ t.gives.same_reference,
       )
+
+  -- ---- a page that is called damaged
+
+  -- the lines given, and the one that is given next, are some first lines of the input
+  pub first_told : (input : List ℕ) (all : List Given) (next : Given) → AreBeforeWithin (2 ^ 32) input all next
+      → (behind : List (Option (List ℕ))) × (told input ≡ (lines_all all ++ lines_of next) ++ behind)
+  first_told input all next are =
+      let first = are.first in
+      let front_is : lines_all all ≡ told first.front = told_are all first.front first.given_are in
+      let split : told input ≡ told first.front ++ told first.rest = ap told first.begins.split ∙ told_both first.front first.rest first.begins.whole in
+      let rest = next_told next first.rest are.next_is in (
+        rest.0,
+        split ∙ ap (λ (l : List (Option (List ℕ))). l ++ told first.rest) (sym front_is) ∙ ap (λ (l : List (Option (List ℕ))). lines_all all ++ l) rest.1
+            ∙ sym (append_assoc (lines_all all) (lines_of next) rest.0),
+      )
+    where
+      told_both : (front rest : List ℕ) → IsWhole front ⊎ (rest ≡ []) → told (front ++ rest) ≡ told front ++ told rest
+      told_both front rest (inl whole) = told_behind front rest whole
+      told_both front rest (inr none) =
+          ap (λ (r : List ℕ). told (front ++ r)) none ∙ ap told (append-nil front) ∙ sym (append-nil (told front))
+          ∙ ap (λ (l : List (Option (List ℕ))). told front ++ l) (sym (ap (filter says) lines_none)) ∙ ap (λ (r : List ℕ). told front ++ told r) (sym none)
+
+      next_told : (next : Given) (rest : List ℕ) → IsNextWithin (2 ^ 32) (length are.first.front) rest next
+          → (behind : List (Option (List ℕ))) × (told rest ≡ lines_of next ++ behind)
+      next_told (Line at line) rest is = (filter says is.1.later, ap (filter says) is.1.lines_are ∙ sym (said_first line is.1.later))
+      next_told Pause rest is = (told rest, refl)
+      next_told End rest is = (told rest, refl)
+
+  -- the line behind the answered ones blames it
+  pub blames_so : {T : Type 0} (o left : Option (List ℕ)) (pieces pieces' : ℕ) (r : Result T (LinesStop (AnswerEnd F)))
+      → IfErr r (RunStops o left pieces pieces')
+      → IfErr (answer_of r) (BlamesTold makes v w own o before now told_now new.size new.image)
+  blames_so o left pieces pieces' (Ok done) why = tt
+  blames_so o left pieces pieces' (Err (stop.Fault fault.ReadFault)) why = tt
+  blames_so o left pieces pieces' (Err (stop.Fault fault.InputTooLong)) why = tt
+  blames_so o left pieces pieces' (Err (stop.Work end)) why =
+      let d = why.done in
+      let t = given makes d.given start d.text d.behind d.carries in
+      let mid = sent_after d.text before in
+      let P : Stand S → Type 0 = λ s. Stops s why.next end mid in
+      let s : StopsAt makes t.new why.next name' w told_now new.size new.image mid now end = subst P t.is why.why in
+      let blamed = blames_behind makes v w own before now told_now new.size new.image t.new.kept t.new.sessions mid t.gives.front (t.new.ahead ++ lines_of why.next) end
+      (t.gives.gives before mid refl) s.blames in
+      let lines_are : t.gives.front ++ (t.new.ahead ++ lines_of why.next) ≡ lines_all d.given ++ lines_of why.next =
+      sym (append_assoc t.gives.front t.new.ahead (lines_of why.next)) ∙ ap (λ (l : List (Option (List ℕ))). l ++ lines_of why.next) (sym t.gives.split) in
+      by o end why.are (let B : List (Option (List ℕ)) → Type 0 = λ l. BlamesEnd makes l v w own before now told_now new.size new.image end in subst B lines_are blamed)
+    where
+      by : (o : Option (List ℕ)) (end : AnswerEnd F) → IfSome o (λ bytes. AreBeforeWithin (2 ^ 32) bytes why.done.given why.next)
+          → BlamesEnd makes (lines_all why.done.given ++ lines_of why.next) v w own before now told_now new.size new.image end
+          → BlamesTold makes v w own o before now told_now new.size new.image end
+      by o (Serve ReadFault) are is = tt
+      by o (Serve SendFault) are is = tt
+      by o (Serve DiskFault) are is = tt
+      by None (Serve (Damaged page)) are is = tt
+      by (Some input) (Serve (Damaged page)) are is =
+          let rest = first_told input why.done.given why.next are in
+          let g = is.gives.gives in
+          record {
+            front = is.front;
+            line = is.line;
+            behind = is.behind ++ rest.0;
+            lines_are = rest.1 ∙ ap (λ (l : List (Option (List ℕ))). l ++ rest.0) is.split ∙ append_assoc is.front (is.line ∷ is.behind) rest.0;
+            frames = g.frames;
+            fits = g.fits;
+            answers = g.answers;
+            named = g.named;
+            text = g.text;
+            made = g.made;
+            sent = g.sent;
+            blames = more_blamed is.line (IsLastIn is.sessions) (LastShown (IsLastIn own) is.front g.frames) told_now new.size new.image page is.gives.lasts is.blames;
+          }
+      by o (Serve InputTooLong) are is = tt
+      by o (Serve NoMemory) are is = tt
+      by o (Reply e) are is = tt
 
 -- ---- what is known of open sessions
 

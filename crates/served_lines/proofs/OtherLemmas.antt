@@ -15,22 +15,25 @@ use Rattle.series_book.specs.declared.one_series.Series.{Series}
 use Rattle.stored_book.specs.Standing.{StandsForBook}
 use Rattle.zoom_session.specs.declared.session.Session.{Session}
 use Rattle.zoom_session.specs.Sessions.{is_open}
+use Rattle.chart_service.specs.Blaming.{BlamesBy, BlamesEnd, GivesLast}
 use Rattle.chart_service.specs.EditGroups.{SpelledBy, SpellEdits}
 use Rattle.chart_service.specs.Making.{Makes, LinesDone, LinesMoments, LinesStop}
 use Rattle.chart_service.specs.Moments.{Through}
-use Rattle.chart_service.specs.Naming.{Gives, GivesBy, GivesFirst}
+use Rattle.chart_service.specs.Naming.{GivesBy, GivesFirst}
 use Rattle.chart_service.specs.ReadingBlocks.{ReadsFirst}
 use Rattle.chart_service.specs.Serving.{most_ahead, unless_empty}
 use Rattle.chart_service.specs.Stepping.{StandsAfter, state_of}
 use Rattle.chart_service.specs.Syncing.{edit_of, edits_of}
 use Rattle.chart_service.specs.declared.failure.AnswerEnd.{AnswerEnd}
-use Rattle.chart_service.proofs.Naming.{first_behind, gives_joined}
+use Rattle.chart_service.proofs.Blaming.{last_then}
+use Rattle.chart_service.proofs.Naming.{first_behind}
 use Rattle.chart_service.proofs.Sending.{error_so, ok_so}
 use Rattle.served_lines.specs.Standing.{IsHeld, StandsSo}
 use Rattle.served_lines.specs.Shown.{SettlesTo, StopsBy, Unsettled}
 use Rattle.served_lines.specs.Turning.{Any, AreTold, Does, Held, Lasting, Leaves, LeavesSo, Over, Stand, lines_of, pauses_of}
 use Rattle.served_lines.proofs.Giving.{gives_does, gives_stops}
-use Rattle.served_lines.proofs.KeepLemmas.{gives_err, gives_ok, run_through}
+use Rattle.served_lines.proofs.BlameLemmas.{blames_behind, blames_more, last_ok}
+use Rattle.served_lines.proofs.KeepLemmas.{blame_err, error_both, gives_err, run_through}
 use Rattle.served_lines.proofs.Steps.{IsSaid, ahead_leaves, ahead_stopped, group_costs, none_spelt, other_answered, other_leaves, other_stopped, settled_turn}
 
 -- another line is counted
@@ -57,15 +60,15 @@ module _ {S F : Type 0} (makes : Makes S F) (name : GName) (kept : S) (edits : L
 
     -- at a pause all are done
     pub pause_does : {T : Type 0} (r : Result T (AnswerEnd F)) (stand : Stand S) → StandsSo stand name kept edits told at own before
-        → SpellEdits [] none → SpelledBy edits (λ lines. GivesBy makes lines kept kept' own sessions before now r)
+        → SpellEdits [] none → SpelledBy edits (λ lines. BlamesBy makes lines kept kept' own sessions before now told' mid.size mid.image r)
         → ((held : Held S) → IsHeld held kept edits told at own before
         → OnOk r (SettlesTo makes held (λ h. IsHeld h kept' none told' mid sessions now) before now))
         → OnOk r (DoesOne (Does makes) (λ s. StandsSo s name' kept' none told' mid sessions now) stand Pause before now)
     pause_does r (Any named) is none_left gives settles =
-        ok_so r (Gives makes named.ahead kept kept' (λ n. is_open n own) (λ n. is_open n sessions) before now)
+        ok_so r (GivesLast makes named.ahead kept kept' own sessions before now)
         (DoesOne (Does makes) (λ s. StandsSo s name' kept' none told' mid sessions now) (Any named) Pause before now)
         (λ given. gives_does makes named name name' kept kept' own sessions before now edits is same_name Pause none told' mid named.ahead [] refl none_left refl given)
-        (gives_ok makes named.ahead kept kept' own sessions before now r (gives named.ahead is.spells))
+        (last_ok makes named.ahead kept kept' own sessions before now told' mid.size mid.image r (gives named.ahead is.spells))
     pause_does r (Over held) is none_left gives settles =
         ok_so r (SettlesTo makes held (λ h. IsHeld h kept' none told' mid sessions now) before now)
         (DoesOne (Does makes) (λ s. StandsSo s name' kept' none told' mid sessions now) (Over held) Pause before now)
@@ -82,17 +85,21 @@ module _ {S F : Type 0} (makes : Makes S F) (name : GName) (kept : S) (edits : L
     pub group_stops : {T : Type 0} (r : Result T (AnswerEnd F)) (stand : Stand S) (it : Given) (others : ℕ)
         → length (lines_of it) ≡ others + length (edits_of (lines_of it)) → 1 ≤ others + pauses_of it → length edits ≤ most_ahead
         → StandsSo stand name kept edits told at own before → SpelledBy edits (λ lines. GivesBy makes lines kept kept' own sessions before now r)
+        → SpelledBy edits (λ lines. BlamesBy makes lines kept kept' own sessions before now told' mid.size mid.image r)
         → ((held : Held S) → IsHeld held kept edits told at own before
         → IfErr r (Unsettled makes held kept' edits mid.image sessions now mid.reads mid.syncs))
-        → IfErr r (λ end. StopsBy makes stand it name' kept' mid.image sessions before now mid.reads mid.syncs end)
-    group_stops r (Any named) it others counted paid few is gives unsettled =
-        error_so r (GivesFirst makes kept kept' (λ n. is_open n own) before now)
-        (λ end. StopsBy makes (Any named) it name' kept' mid.image sessions before now mid.reads mid.syncs end)
-        (λ end given. gives_stops makes named name name' kept kept' own sessions before now edits is same_name end given)
+        → IfErr r (λ end. StopsBy makes stand it name' kept' told' mid.size mid.image sessions before now mid.reads mid.syncs end)
+    group_stops r (Any named) it others counted paid few is gives blames unsettled =
+        error_both r (GivesFirst makes kept kept' (λ n. is_open n own) before now)
+        (BlamesEnd makes named.ahead kept kept' own before now told' mid.size mid.image)
+        (λ end. StopsBy makes (Any named) it name' kept' told' mid.size mid.image sessions before now mid.reads mid.syncs end)
+        (λ end given blamed. gives_stops makes named name name' kept kept' own sessions before now edits is same_name it told' mid.size mid.image end given
+        (blames_more makes kept kept' own before now told' mid.size mid.image named.ahead (lines_of it) end blamed))
         (gives_err makes named.ahead kept kept' own sessions before now r (gives named.ahead is.spells))
-    group_stops r (Over held) it others counted paid few is gives unsettled =
+        (blame_err makes named.ahead kept kept' own sessions before now told' mid.size mid.image r (blames named.ahead is.spells))
+    group_stops r (Over held) it others counted paid few is gives blames unsettled =
         error_so r (Unsettled makes held kept' edits mid.image sessions now mid.reads mid.syncs)
-        (λ end. StopsBy makes (Over held) it name' kept' mid.image sessions before now mid.reads mid.syncs end)
+        (λ end. StopsBy makes (Over held) it name' kept' told' mid.size mid.image sessions before now mid.reads mid.syncs end)
         (λ end u. ahead_stopped makes held it edits held.ahead (lines_of it) kept' mid.image sessions now mid.reads mid.syncs end refl
         u.some is.spells few u.why u.reads_few
         (group_costs held.state (edits_of held.ahead) (lines_of it) (pauses_of it) others 0 held.syncs mid.syncs counted (omega (
@@ -118,7 +125,7 @@ module _ {S F : Type 0} (makes : Makes S F) (name : GName) (kept : S) (edits : L
 
     -- ---- and a line behind it
 
-    module _ (none_left : SpellEdits [] none) (gives_mid : SpelledBy edits (λ lines. Gives makes lines kept kept' (λ n. is_open n own) (λ n. is_open n sessions) before now))
+    module _ (none_left : SpellEdits [] none) (gives_mid : SpelledBy edits (λ lines. GivesLast makes lines kept kept' own sessions before now))
         (settles : (held : Held S) → IsHeld held kept edits told at own before
         → SettlesTo makes held (λ h. IsHeld h kept' none told' mid sessions now) before now)
         (line : Option (List ℕ)) (said : IsSaid line) (idle : edit_of line ≡ [])
@@ -130,7 +137,7 @@ module _ {S F : Type 0} (makes : Makes S F) (name : GName) (kept : S) (edits : L
 
       pub line_does : {T : Type 0} (r : Result T (AnswerEnd F)) (stand : Stand S) (position : ℕ)
           → StandsSo stand name kept edits told at own before
-          → GivesBy makes (unless_empty line) kept' kept'' sessions sessions' now later r
+          → BlamesBy makes (unless_empty line) kept' kept'' sessions sessions' now later told'' new.size new.image r
           → ((total : ℕ) (book : List Series) → told' → StandsForBook mid.image total book
           → OnOk r (StandsAfter total new.image sessions' (λ s. LinesDone makes (unless_empty line) kept' kept'' (state_of book total
           sessions) s now later)))
@@ -138,14 +145,14 @@ module _ {S F : Type 0} (makes : Makes S F) (name : GName) (kept : S) (edits : L
           → OnOk r (DoesOne (Does makes) (λ s. StandsSo s name'' kept'' none told'' new sessions' later) stand (Line position line) before
           later)
       line_does r (Any named) position is gives done more same reads synced =
-          ok_so r (Gives makes (unless_empty line) kept' kept'' (λ n. is_open n sessions) (λ n. is_open n sessions') now later)
+          ok_so r (GivesLast makes (unless_empty line) kept' kept'' sessions sessions' now later)
           (DoesOne (Does makes) (λ s. StandsSo s name'' kept'' none told'' new sessions' later) (Any named) (Line position line) before
           later)
           (λ given. gives_does makes named name name'' kept kept'' own sessions' before later edits is (same_later
           ∙ same_name) (Line position line) none told'' new (named.ahead ++ unless_empty line) [] (sym (append-nil (named.ahead ++ unless_empty line))) none_left tt
-          (gives_joined makes named.ahead (unless_empty line) kept kept' kept'' (λ n. is_open n own) (λ n. is_open n sessions) (λ n. is_open n sessions') before now later
+          (last_then makes named.ahead (unless_empty line) kept kept' kept'' own sessions sessions' before now later
           (gives_mid named.ahead is.spells) given))
-          (gives_ok makes (unless_empty line) kept' kept'' sessions sessions' now later r gives)
+          (last_ok makes (unless_empty line) kept' kept'' sessions sessions' now later told'' new.size new.image r gives)
       line_does r (Over held) position is gives done more same reads synced =
           let s = settles held is in
           let state = s.new.state in
@@ -170,22 +177,28 @@ module _ {S F : Type 0} (makes : Makes S F) (name : GName) (kept : S) (edits : L
       pub line_stops : {T : Type 0} (r : Result T (AnswerEnd F)) (stand : Stand S) (position : ℕ)
           → StandsSo stand name kept edits told at own before
           → GivesBy makes (unless_empty line) kept' kept'' sessions sessions' now later r
+          → BlamesBy makes (unless_empty line) kept' kept'' sessions sessions' now later told'' new.size new.image r
           → ((total : ℕ) (book : List Series) → told' → StandsForBook mid.image total book
           → IfErr r (LinesStop makes (unless_empty line) kept' kept'' (state_of book total sessions) new.image sessions' now later))
           → ReadsSo → new.syncs ≡ mid.syncs
-          → IfErr r (λ end. StopsBy makes stand (Line position line) name'' kept'' new.image sessions' before later new.reads new.syncs end)
-      line_stops r (Any named) position is gives stops reads synced =
-          error_so r (GivesFirst makes kept' kept'' (λ n. is_open n sessions) now later)
-          (λ end. StopsBy makes (Any named) (Line position line) name'' kept'' new.image sessions' before later new.reads new.syncs end)
-          (λ end given. gives_stops makes named name name'' kept kept'' own sessions' before later edits is (same_later ∙ same_name) end
-          (first_behind makes named.ahead kept kept' kept'' (λ n. is_open n own) (λ n. is_open n sessions) before now later end (gives_mid named.ahead is.spells) given))
+          → IfErr r (λ end. StopsBy makes stand (Line position line) name'' kept'' told'' new.size new.image sessions' before later new.reads new.syncs end)
+      line_stops r (Any named) position is gives blames stops reads synced =
+          error_both r (GivesFirst makes kept' kept'' (λ n. is_open n sessions) now later)
+          (BlamesEnd makes (unless_empty line) kept' kept'' sessions now later told'' new.size new.image)
+          (λ end. StopsBy makes (Any named) (Line position line) name'' kept'' told'' new.size new.image sessions' before later new.reads new.syncs end)
+          (λ end given blamed.
+          let mid_gives = gives_mid named.ahead is.spells in
+          gives_stops makes named name name'' kept kept'' own sessions' before later edits is (same_later ∙ same_name) (Line position line) told'' new.size new.image end
+          (first_behind makes named.ahead kept kept' kept'' (λ n. is_open n own) (λ n. is_open n sessions) before now later end mid_gives.gives given)
+          (blames_behind makes kept kept'' own before later told'' new.size new.image kept' sessions now named.ahead (unless_empty line) end mid_gives blamed))
           (gives_err makes (unless_empty line) kept' kept'' sessions sessions' now later r gives)
-      line_stops r (Over held) position is gives stops reads synced =
+          (blame_err makes (unless_empty line) kept' kept'' sessions sessions' now later told'' new.size new.image r blames)
+      line_stops r (Over held) position is gives blames stops reads synced =
           let s = settles held is in
           let state = s.new.state in
           let first = state_of state.book state.total sessions in
           error_so r (LinesStop makes (unless_empty line) kept' kept'' first new.image sessions' now later)
-          (λ end. StopsBy makes (Over held) (Line position line) name'' kept'' new.image sessions' before later new.reads new.syncs end)
+          (λ end. StopsBy makes (Over held) (Line position line) name'' kept'' told'' new.size new.image sessions' before later new.reads new.syncs end)
           (λ end why. other_stopped makes held s.new s.text s.settles line said idle none told' told'' mid new sessions sessions' kept'
           kept'' now later s.stands
           end position why (reads state.total state.book s.stands.told_so s.stands.stands) synced)

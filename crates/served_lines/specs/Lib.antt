@@ -4,3 +4,4 @@ pub mod Shown
 pub mod Going
 pub mod Ending
 pub mod WorkLaws
+pub mod Blaming

@@ -22,10 +22,11 @@ use Rattle.served_lines.specs.Turning.{Answered, Does, Held, Leaves, Stand, Any,
 use Rattle.served_lines.specs.declared.turns.Turns.{Turns}
 
 -- why what was given stopped the answering
-abbrev pub StopsBy : {S F : Type 0} → Makes S F → Stand S → Given → GName → S → Image → List Session → Option (List ℕ)
+abbrev pub StopsBy : {S F : Type 0} → Makes S F → Stand S → Given → GName → S → Type 0 → ℕ → Image → List Session → Option (List ℕ)
     → Option (List ℕ) → ℕ → ℕ → AnswerEnd F → Type 0
-StopsBy makes (Any named) it name kept image sessions before now reads syncs end = StopsAt makes named name kept before now end
-StopsBy makes (Over held) it name kept image sessions before now reads syncs end =
+StopsBy makes (Any named) it name kept told count image sessions before now reads syncs end =
+    StopsAt makes named it name kept told count image before now end
+StopsBy makes (Over held) it name kept told count image sessions before now reads syncs end =
     StopsSo makes held it kept image sessions now reads syncs end
 
 -- the edits kept back were done, all of them, in one group
@@ -71,7 +72,7 @@ module _ {P R S F Z : Type 0} {g : Ghosts P} (sent : P → Option (List ℕ)) (m
 
   abbrev pub StopsIn : Stand S → Given → AnswerEnd F → Turns R S (Vec Edit Z) → Service P g → Option (List ℕ) → Type 0
   StopsIn stand it end turns new before =
-      StopsBy makes stand it turns.kept.ghost_name turns.kept.now (shown.image new) (shown.sessions new) before
+      StopsBy makes stand it turns.kept.ghost_name turns.kept.now (shown.IsTold new) (shown.view new).size (shown.image new) (shown.sessions new) before
       (sent (shown.pages new)) (shown.view new).reads (shown.view new).syncs end
 
   -- the same, by the service from before

@@ -12,8 +12,9 @@ use Rattle.stored_book.specs.Standing.{StandsForBook}
 use Rattle.zoom_session.specs.declared.session.Session.{Session}
 use Rattle.zoom_session.specs.Sessions.{is_open}
 use Rattle.chart_service.specs.EditGroups.{SpellEdits}
+use Rattle.chart_service.specs.Blaming.{BlamesEnd, GivesLast}
 use Rattle.chart_service.specs.Making.{Makes, AreMade, LinesStop, LinesMoments}
-use Rattle.chart_service.specs.Naming.{Gives, GivesFirst}
+use Rattle.chart_service.specs.Naming.{GivesFirst}
 use Rattle.chart_service.specs.ReadingBlocks.{ReadsLine, ReadsInTurn}
 use Rattle.chart_service.specs.Serving.{RepliesToAll, most_ahead, unless_empty}
 use Rattle.chart_service.specs.State.{State}
@@ -94,7 +95,7 @@ KeepsNone End ahead = ⊤
 abbrev pub GivesText : {S F : Type 0} → Makes S F → Named S → Named S → List (Option (List ℕ)) → List ℕ → Type 0
 GivesText makes old new front text =
     (before now : Option (List ℕ)) → now ≡ sent_after text before
-    → Gives makes front old.kept new.kept (λ n. is_open n old.sessions) (λ n. is_open n new.sessions) before now
+    → GivesLast makes front old.kept new.kept old.sessions new.sessions before now
 
 -- of the lines kept back and these behind them some first were given frames, and the others are kept back
 pub record GivesSome {S F : Type 0} (makes : Makes S F) (old new : Named S) (lines : List (Option (List ℕ))) (text : List ℕ) : Type 0 where
@@ -145,11 +146,12 @@ pub record StopsSo {S F : Type 0} (makes : Makes S F) (old : Held S) (it : Given
   pub reads_next : ReadsNext begun.between.ahead (lines_of it) begun.next begun.between.state begun.between.reads reads
   pub costs : CostsSome old.state (old.ahead ++ lines_of it) (lines_of it) (pauses_of it) old.syncs syncs
 
--- Frames were given, and it stopped behind some first of them.
-pub record StopsAt {S F : Type 0} (makes : Makes S F) (old : Named S) (name : GName) (kept : S) (before now : Option (List ℕ))
-    (end : AnswerEnd F) : Type 0 where
+-- Frames were given, and it stopped behind some first of them. A page is called damaged by the line behind the answered ones.
+pub record StopsAt {S F : Type 0} (makes : Makes S F) (old : Named S) (it : Given) (name : GName) (kept : S) (told : Type 0) (count : ℕ)
+    (image : Image) (before now : Option (List ℕ)) (end : AnswerEnd F) : Type 0 where
   pub same_reference : name ≡ old.name
   pub gives : GivesFirst makes old.kept kept (λ n. is_open n old.sessions) before now end
+  pub blames : BlamesEnd makes (old.ahead ++ lines_of it) old.kept kept old.sessions before now told count image end
 
 -- what a crash leaves meanwhile, where lines began after so many bytes
 pub record LeavesSo {S F : Type 0} (makes : Makes S F) (old : Held S) (it : Given) (from : ℕ) (image : Image) (count : ℕ) : Type 0 where

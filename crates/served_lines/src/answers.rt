@@ -12,6 +12,7 @@ ghost use Rattle.chart_service.specs.Making.{AreMade, AreMadeFrom};
 ghost use Rattle.chart_service.specs.Naming.{GivesTold};
 ghost use Rattle.chart_service.specs.Serving.{Serves};
 ghost use Rattle.chart_service.specs.Shown as shown;
+ghost use Rattle.served_lines.specs.Blaming.{BlamesOf};
 ghost use Rattle.served_lines.specs.Ending.{answer_of};
 
 use crate::turns::Turns;
@@ -55,6 +56,8 @@ pub fn answer_lines<P: PageWorld, S, F, R: Reply<S, F>>(
     ensures known { (knows : S → ℕ → Bool) → Follows R.makes knows → KnowsOpen knows kept.old service.old.sessions → IfErr result (EndsKnown R.makes knows) }
     // each frame may answer its line, and names a session that is open by those before it; after `Ok` there is one a line
     ensures gives { GivesTold R.makes (P.left (shown.pages service.old)) kept.old kept.new service.old.sessions service.new.sessions (P.sent (shown.pages service.old)) (P.sent (shown.pages service.new)) result }
+    // a page is called damaged by the line behind the answered ones
+    ensures blames { IfErr result (BlamesOf P.left P.sent R.makes kept.old kept.new service.old service.new) }
     ensures bad { IfErr result (EndsAtBad (shown.IsTold service.new) (shown.view service.new).size (shown.image service.new)) }
     ensures serves { Serves (shown.IsTold service.old) (shown.IsTold service.new) (shown.view service.old) (shown.view service.new) }
     ensures goes_on { GoesOn (shown.under service.old) (shown.under service.new) }
@@ -101,6 +104,7 @@ fn answer_turns<P: PageWorld, S, F, R: Reply<S, F>>(
     ensures faults { CountsFault (fault_in answer_fault result) (shown.view service.old) (shown.view service.new) }
     ensures known { (knows : S → ℕ → Bool) → Follows R.makes knows → KnowsOpen knows turns.old.kept.now service.old.sessions → IfErr result (EndsKnown R.makes knows) }
     ensures gives { GivesTold R.makes (P.left (shown.pages service.old)) turns.old.kept.now turns.new.kept.now service.old.sessions service.new.sessions (P.sent (shown.pages service.old)) (P.sent (shown.pages service.new)) result }
+    ensures blames { IfErr result (BlamesOf P.left P.sent R.makes turns.old.kept.now turns.new.kept.now service.old service.new) }
     ensures bad { IfErr result (EndsAtBad (shown.IsTold service.new) (shown.view service.new).size (shown.image service.new)) }
     ensures serves { Serves (shown.IsTold service.old) (shown.IsTold service.new) (shown.view service.old) (shown.view service.new) }
     ensures goes_on { GoesOn (shown.under service.old) (shown.under service.new) }

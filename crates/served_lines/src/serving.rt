@@ -12,6 +12,7 @@ ghost use Rattle.chart_service.specs.Naming.{SendsAnswers, SendsNamed};
 ghost use Rattle.chart_service.specs.Serving.{AreSpelled, EndsAtBad, Serves};
 ghost use Rattle.chart_service.specs.Shown as shown;
 ghost use Rattle.chart_service.specs.Spelled.{serve_end};
+ghost use Rattle.served_lines.specs.Blaming.{ServeBlamesOf};
 
 use crate::answers::answer_lines;
 use chart_frames::{Frame, encode};
@@ -60,6 +61,8 @@ pub fn serve<P: PageWorld>(alloc: Global, service: &mut Service<P>) -> Result<()
     ensures send { result ≡ Err ServeEnd.SendFault → HasRisen (P.send_faults (shown.pages service.old)) (P.send_faults (shown.pages service.new)) }
     ensures disk { result ≡ Err ServeEnd.DiskFault → HasRisen (shown.view service.old).faults (shown.view service.new).faults }
     ensures faults { CountsFault (fault_in serve_fault result) (shown.view service.old) (shown.view service.new) }
+    // a page is called damaged by the line behind the answered ones
+    ensures blames { IfErr result (ServeBlamesOf P.left P.sent service.old service.new) }
     ensures bad { IfErr result (EndsAtBad (shown.IsTold service.new) (shown.view service.new).size (shown.image service.new)) }
     ensures serves { Serves (shown.IsTold service.old) (shown.IsTold service.new) (shown.view service.old) (shown.view service.new) }
     ensures goes_on { GoesOn (shown.under service.old) (shown.under service.new) }

@@ -1,6 +1,7 @@
 //! The edits that are kept back are done together.
 ghost use Rattle.std.specs.Prelude.{◌≡◌, ◌≤◌, [], All, length, IfErr, OnOk};
 ghost use Rattle.chart_world.specs.Faults.{CountsFault, fault_in};
+ghost use Rattle.chart_service.specs.Blaming.{BlamesSo};
 ghost use Rattle.chart_service.specs.EditGroups.{SpelledBy};
 ghost use Rattle.chart_service.specs.Faulting.{answer_fault};
 ghost use Rattle.chart_service.specs.Naming.{GivesBy};
@@ -28,6 +29,7 @@ pub(crate) fn settle<P: PageWorld, S, F, R: Reply<S, F>>(
     ensures stops { (held : Held S) → HeldIn P.sent held turns.old service.old → IfErr result (UnsettledIn P.sent R.makes held turns.old.edits.items turns.new service.new) }
     ensures moments { (held : Held S) → HeldIn P.sent held turns.old service.old → AreTold held.sent → LeavesAhead R.makes held service.old service.new }
     ensures gives { SpelledBy turns.old.edits.items (λ lines. GivesBy R.makes lines turns.old.kept.now turns.new.kept.now service.old.sessions service.new.sessions (P.sent (shown.pages service.old)) (P.sent (shown.pages service.new)) result) }
+    ensures blames { SpelledBy turns.old.edits.items (λ lines. BlamesSo P.sent R.makes lines turns.old.kept.now turns.new.kept.now service.old service.new result) }
     ensures same_reference { turns.new.kept.ghost_name ≡ turns.old.kept.ghost_name }
     ensures none { turns.new.edits.items ≡ [] }
     ensures sound { OnOk result (shown.view service.new).fit }

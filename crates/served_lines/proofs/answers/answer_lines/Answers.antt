@@ -12,6 +12,8 @@ use Rattle.chart_service.proofs.Naming.{first_memory, gives_none}
 use Rattle.chart_service.proofs.Stands.{far_first, lasts_first, no_memory_first}
 use Rattle.chart_service.proofs.SyncLemmas.{sync_none}
 use Rattle.chart_service.proofs.TurnLemmas.{no_line_read}
+use Rattle.std.proofs.Common.{IfErr}
+use Rattle.served_lines.specs.Blaming.{BlamesOf}
 use Rattle.served_lines.proofs.answers.answer_lines.Goals as goal
 
 pub returns-in-Err-clause-ends : goal.returns-in-Err-clause-ends
@@ -66,3 +68,11 @@ pub returns-clause-ends : goal.returns-clause-ends
 returns-clause-ends g c = λ total book told stands.
     let ends = c.answer_turns-answer.ensures.ends total book told stands in
     search rules
+
+pub returns-clause-blames : goal.returns-clause-blames
+returns-clause-blames g c =
+    let it = c.args.service.now in
+    let new = c.answer_turns-answer.new.service in
+    let K : g.row.S.Denot → Type 0 = λ k.
+    IfErr c.answer_turns-answer.result (BlamesOf g.P.Streams.left g.P.Streams.sent g.R.Reply.makes c.args.kept.now k it new) in
+    subst K (search rules) c.answer_turns-answer.ensures.blames

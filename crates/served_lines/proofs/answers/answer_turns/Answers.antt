@@ -13,6 +13,8 @@ use Rattle.served_lines.proofs.Concluding.{first_held}
 use Rattle.served_lines.proofs.Finishing.{crash_told, done_so, ends_so, first_stands, reads_so, syncs_so}
 use Rattle.served_lines.proofs.KeepLemmas.{none_spelled}
 use Rattle.served_lines.proofs.NamedLemmas.{gives_so, known_by}
+use Rattle.served_lines.proofs.NamedLemmas.{blames_so}
+use Rattle.served_lines.specs.Blaming.{BlamesOf}
 use Rattle.served_lines.proofs.answers.answer_turns.Goals as goal
 
 pub returns-clause-same_reference : goal.returns-clause-same_reference
@@ -207,3 +209,29 @@ returns-clause-gives g c =
     let P : Result (Unit {0}) (AnswerEnd g.row.F.Denot)
     → Type 0 = λ x. GivesTold makes (left pages) turns.kept.now work.kept.now it.sessions new.sessions (sent pages) (sent pages') x in
     subst P (sym c.answer_of.ensures) all.0
+
+pub returns-clause-blames : goal.returns-clause-blames
+returns-clause-blames g c =
+    let it = c.args.service.now in
+    let turns = c.args.turns.now in
+    let new = c.run_lines.new.from in
+    let work = c.run_lines.new.work in
+    let pages = shown.pages it in
+    let pages' = shown.pages new in
+    let sent = g.P.Streams.sent in
+    let left = g.P.Streams.left in
+    let pieces = g.P.Streams.pieces in
+    let makes = g.R.Reply.makes in
+    let r = c.run_lines.result in
+    let named : Named g.row.S.Denot = record { name = turns.kept.ghost_name; kept = turns.kept.now; ahead = []; sessions = it.sessions } in
+    let here : IsNamed named turns.kept.ghost_name turns.kept.now turns.edits.items it.sessions = record {
+      name_is = refl;
+      kept_is = refl;
+      spells = none_spelled turns.edits.items c.requires.none;
+      sessions_are = refl;
+    } in
+    let P : Result (Unit {0}) (AnswerEnd g.row.F.Denot) → Type 0 = λ x. IfErr x (BlamesOf left sent makes turns.kept.now work.kept.now it new) in
+    subst P (sym c.answer_of.ensures)
+    (blames_so makes turns.kept.now work.kept.now it.sessions new.sessions (sent pages) (sent pages') turns.kept.ghost_name
+    work.kept.ghost_name work.edits.items (shown.IsTold new) (shown.view new) (left pages) (left pages') (pieces pages) (pieces
+    pages') r (c.run_lines.ensures.stops (Any named) here))

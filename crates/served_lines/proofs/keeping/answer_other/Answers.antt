@@ -20,7 +20,7 @@ returns-in-Err-clause-stops g c = λ stand at stands.
     new)
     (shown.view new) (shown.sessions new) (g.P.Streams.sent (shown.pages new)) failed stand (Line at (Some c.args.line.now)) 1
     (other_counted (Some c.args.line.now) (said_some c.args.line.now c.requires.some) c.requires.other) (omega arith) few stands
-    c.in-Err.ensures.gives c.in-Err.ensures.stops
+    c.in-Err.ensures.gives c.in-Err.ensures.blames c.in-Err.ensures.stops
 
 pub returns-in-Err-clause-leaves : goal.returns-in-Err-clause-leaves
 returns-in-Err-clause-leaves g c = λ stand at stands lasting.
@@ -47,11 +47,11 @@ returns-clause-does g c = λ stand at stands.
     line_does g.R.Reply.makes turns.kept.ghost_name turns.kept.now turns.edits.items (shown.IsTold it) (shown.view it) (shown.sessions it)
     (g.P.Streams.sent (shown.pages it)) next.kept.ghost_name c.settle.ensures.same_reference next.kept.now next.edits.items (shown.IsTold
     mid)
-    (shown.view mid) (shown.sessions mid) (g.P.Streams.sent (shown.pages mid)) (none_spelled next.edits.items c.settle.ensures.none) c.in-Ok.ensures.gives c.in-Ok.ensures.done (Some
+    (shown.view mid) (shown.sessions mid) (g.P.Streams.sent (shown.pages mid)) (none_spelled next.edits.items c.settle.ensures.none) c.in-Ok.ensures.blames c.in-Ok.ensures.done (Some
     c.args.line.now) (said_some c.args.line.now c.requires.some) c.requires.other
     next.kept.ghost_name refl c.answer_line.new.kept (shown.IsTold new) (shown.view new) (shown.sessions new) (g.P.Streams.sent
     (shown.pages new))
-    c.answer_line.result stand at stands e.gives e.done e.serves.told (e.idle c.requires.other).image e.reads (e.idle
+    c.answer_line.result stand at stands e.blames e.done e.serves.told (e.idle c.requires.other).image e.reads (e.idle
     c.requires.other).syncs
 
 pub returns-clause-stops : goal.returns-clause-stops
@@ -65,11 +65,11 @@ returns-clause-stops g c = λ stand at stands.
     line_stops g.R.Reply.makes turns.kept.ghost_name turns.kept.now turns.edits.items (shown.IsTold it) (shown.view it) (shown.sessions it)
     (g.P.Streams.sent (shown.pages it)) next.kept.ghost_name c.settle.ensures.same_reference next.kept.now next.edits.items (shown.IsTold
     mid)
-    (shown.view mid) (shown.sessions mid) (g.P.Streams.sent (shown.pages mid)) (none_spelled next.edits.items c.settle.ensures.none) c.in-Ok.ensures.gives c.in-Ok.ensures.done (Some
+    (shown.view mid) (shown.sessions mid) (g.P.Streams.sent (shown.pages mid)) (none_spelled next.edits.items c.settle.ensures.none) c.in-Ok.ensures.blames c.in-Ok.ensures.done (Some
     c.args.line.now) (said_some c.args.line.now c.requires.some) c.requires.other
     next.kept.ghost_name refl c.answer_line.new.kept (shown.IsTold new) (shown.view new) (shown.sessions new) (g.P.Streams.sent
     (shown.pages new))
-    c.answer_line.result stand at stands e.gives e.stops e.reads (e.idle c.requires.other).syncs
+    c.answer_line.result stand at stands e.gives e.blames e.stops e.reads (e.idle c.requires.other).syncs
 
 pub returns-clause-leaves : goal.returns-clause-leaves
 returns-clause-leaves g c = λ stand at stands lasting.
@@ -83,7 +83,7 @@ returns-clause-leaves g c = λ stand at stands lasting.
     line_leaves g.R.Reply.makes turns.kept.ghost_name turns.kept.now turns.edits.items (shown.IsTold it) (shown.view it) (shown.sessions it)
     (g.P.Streams.sent (shown.pages it)) next.kept.ghost_name c.settle.ensures.same_reference next.kept.now next.edits.items (shown.IsTold
     mid)
-    (shown.view mid) (shown.sessions mid) (g.P.Streams.sent (shown.pages mid)) (none_spelled next.edits.items c.settle.ensures.none) c.in-Ok.ensures.gives c.in-Ok.ensures.done (Some
+    (shown.view mid) (shown.sessions mid) (g.P.Streams.sent (shown.pages mid)) (none_spelled next.edits.items c.settle.ensures.none) c.in-Ok.ensures.blames c.in-Ok.ensures.done (Some
     c.args.line.now) (said_some c.args.line.now c.requires.some) c.requires.other
     next.kept.ghost_name refl c.answer_line.new.kept (shown.IsTold new) (shown.view new) (shown.sessions new) (g.P.Streams.sent
     (shown.pages new))

@@ -33,7 +33,7 @@ returns-clause-does g c = λ stand at line spells stands.
     (g.P.Streams.sent (shown.pages it)) line c.args.edit spells c.push.new.self.items pushed next.kept.ghost_name
     c.settle.ensures.same_reference
     next.kept.now (shown.IsTold new) (shown.view new) (shown.sessions new) (g.P.Streams.sent (shown.pages new)) next.edits.items
-    c.settle.result stand at full stands (none_spelled next.edits.items c.settle.ensures.none) c.settle.ensures.gives c.settle.ensures.done
+    c.settle.result stand at full stands (none_spelled next.edits.items c.settle.ensures.none) c.settle.ensures.blames c.settle.ensures.done
 
 pub returns-clause-stops : goal.returns-clause-stops
 returns-clause-stops g c = λ stand at line spells stands.
@@ -48,7 +48,7 @@ returns-clause-stops g c = λ stand at line spells stands.
     (g.P.Streams.sent (shown.pages it)) line c.args.edit spells c.push.new.self.items pushed next.kept.ghost_name
     c.settle.ensures.same_reference
     next.kept.now (shown.IsTold new) (shown.view new) (shown.sessions new) (g.P.Streams.sent (shown.pages new)) next.edits.items
-    c.settle.result stand at full few stands c.settle.ensures.gives c.settle.ensures.stops
+    c.settle.result stand at full few stands c.settle.ensures.gives c.settle.ensures.blames c.settle.ensures.stops
 
 pub returns-clause-leaves : goal.returns-clause-leaves
 returns-clause-leaves g c = λ stand at line spells stands lasting.

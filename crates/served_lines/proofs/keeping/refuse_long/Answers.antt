@@ -18,7 +18,7 @@ returns-in-Err-clause-stops g c = λ stand at stands.
     (g.P.Streams.sent (shown.pages it)) next.kept.ghost_name c.settle.ensures.same_reference next.kept.now next.edits.items (shown.IsTold
     new)
     (shown.view new) (shown.sessions new) (g.P.Streams.sent (shown.pages new)) failed stand (Line at None) 1
-    (other_counted None refl refl) (omega arith) few stands c.in-Err.ensures.gives c.in-Err.ensures.stops
+    (other_counted None refl refl) (omega arith) few stands c.in-Err.ensures.gives c.in-Err.ensures.blames c.in-Err.ensures.stops
 
 pub returns-in-Err-clause-leaves : goal.returns-in-Err-clause-leaves
 returns-in-Err-clause-leaves g c = λ stand at stands lasting.
@@ -45,10 +45,10 @@ returns-clause-does g c = λ stand at stands.
     line_does g.R.Reply.makes turns.kept.ghost_name turns.kept.now turns.edits.items (shown.IsTold it) (shown.view it) (shown.sessions it)
     (g.P.Streams.sent (shown.pages it)) next.kept.ghost_name c.settle.ensures.same_reference next.kept.now next.edits.items (shown.IsTold
     mid)
-    (shown.view mid) (shown.sessions mid) (g.P.Streams.sent (shown.pages mid)) (none_spelled next.edits.items c.settle.ensures.none) c.in-Ok.ensures.gives c.in-Ok.ensures.done None refl refl
+    (shown.view mid) (shown.sessions mid) (g.P.Streams.sent (shown.pages mid)) (none_spelled next.edits.items c.settle.ensures.none) c.in-Ok.ensures.blames c.in-Ok.ensures.done None refl refl
     next.kept.ghost_name refl c.answer_long_line.new.kept (shown.IsTold new) (shown.view new) (shown.sessions new) (g.P.Streams.sent
     (shown.pages new))
-    c.answer_long_line.result stand at stands e.gives e.done e.keeps.told (λ told. e.keeps.disk.image) (λ total book told stands.
+    c.answer_long_line.result stand at stands e.blames e.done e.keeps.told (λ told. e.keeps.disk.image) (λ total book told stands.
     e.keeps.disk.reads) e.keeps.disk.syncs
 
 pub returns-clause-stops : goal.returns-clause-stops
@@ -62,10 +62,10 @@ returns-clause-stops g c = λ stand at stands.
     line_stops g.R.Reply.makes turns.kept.ghost_name turns.kept.now turns.edits.items (shown.IsTold it) (shown.view it) (shown.sessions it)
     (g.P.Streams.sent (shown.pages it)) next.kept.ghost_name c.settle.ensures.same_reference next.kept.now next.edits.items (shown.IsTold
     mid)
-    (shown.view mid) (shown.sessions mid) (g.P.Streams.sent (shown.pages mid)) (none_spelled next.edits.items c.settle.ensures.none) c.in-Ok.ensures.gives c.in-Ok.ensures.done None refl refl
+    (shown.view mid) (shown.sessions mid) (g.P.Streams.sent (shown.pages mid)) (none_spelled next.edits.items c.settle.ensures.none) c.in-Ok.ensures.blames c.in-Ok.ensures.done None refl refl
     next.kept.ghost_name refl c.answer_long_line.new.kept (shown.IsTold new) (shown.view new) (shown.sessions new) (g.P.Streams.sent
     (shown.pages new))
-    c.answer_long_line.result stand at stands e.gives e.stops (λ total book told stands. e.keeps.disk.reads) e.keeps.disk.syncs
+    c.answer_long_line.result stand at stands e.gives e.blames e.stops (λ total book told stands. e.keeps.disk.reads) e.keeps.disk.syncs
 
 pub returns-clause-leaves : goal.returns-clause-leaves
 returns-clause-leaves g c = λ stand at stands lasting.
@@ -79,7 +79,7 @@ returns-clause-leaves g c = λ stand at stands lasting.
     line_leaves g.R.Reply.makes turns.kept.ghost_name turns.kept.now turns.edits.items (shown.IsTold it) (shown.view it) (shown.sessions it)
     (g.P.Streams.sent (shown.pages it)) next.kept.ghost_name c.settle.ensures.same_reference next.kept.now next.edits.items (shown.IsTold
     mid)
-    (shown.view mid) (shown.sessions mid) (g.P.Streams.sent (shown.pages mid)) (none_spelled next.edits.items c.settle.ensures.none) c.in-Ok.ensures.gives c.in-Ok.ensures.done None refl refl
+    (shown.view mid) (shown.sessions mid) (g.P.Streams.sent (shown.pages mid)) (none_spelled next.edits.items c.settle.ensures.none) c.in-Ok.ensures.blames c.in-Ok.ensures.done None refl refl
     next.kept.ghost_name refl c.answer_long_line.new.kept (shown.IsTold new) (shown.view new) (shown.sessions new) (g.P.Streams.sent
     (shown.pages new))
     stand at stands lasting

@@ -13,6 +13,8 @@ use Rattle.chart_service.proofs.Faulting.{serve_goes}
 use Rattle.chart_service.proofs.Naming.{serve_answers, serve_named}
 use Rattle.chart_service.proofs.Sending.{ok_so}
 use Rattle.chart_service.proofs.Served.{spelling_makes, spells, done_spelled, ends_spelled, lasts_spelled, served_ok, served_fault, served_bad}
+use Rattle.served_lines.specs.Blaming.{ServeBlames}
+use Rattle.served_lines.proofs.BlameLemmas.{serve_blames}
 use Rattle.served_lines.proofs.serving.serve.Goals as goal
 
 pub returns-clause-done : goal.returns-clause-done
@@ -99,3 +101,14 @@ returns-clause-answers g c =
     let A : Result (Unit {0}) ServeEnd → Type 0 = λ r. OnOk r (IfSome left (λ input. SendsAnswers old.sessions input before now)) in
     let gives = c.answer_lines-answer.ensures.gives in
     subst A (sym c.served.ensures) (serve_answers c.answer_lines-answer.result _ _ old.sessions new.sessions before now left gives)
+
+pub returns-clause-blames : goal.returns-clause-blames
+returns-clause-blames g c =
+    let old = c.args.service.now in
+    let new = c.answer_lines-answer.new.service in
+    let left = g.P.Streams.left (shown.pages old) in
+    let before = g.P.Streams.sent (shown.pages old) in
+    let now = g.P.Streams.sent (shown.pages new) in
+    let E : Result (Unit {0}) ServeEnd → Type 0 = λ r. IfErr r (ServeBlames old.sessions left before now (shown.IsTold new) (shown.view new).size (shown.image new)) in
+    subst E (sym c.served.ensures)
+    (serve_blames c.answer_lines-answer.result _ _ old.sessions left before now (shown.IsTold new) (shown.view new).size (shown.image new) c.answer_lines-answer.ensures.blames)

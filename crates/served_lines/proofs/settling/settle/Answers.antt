@@ -11,6 +11,7 @@ use Rattle.served_lines.proofs.SettleLemmas.{both_ok, moments_settled, none_sett
 use Rattle.zoom_session.specs.Sessions.{is_open}
 use Rattle.chart_service.specs.EditGroups.{SpellEdits}
 use Rattle.served_lines.proofs.KeepLemmas.{none_given}
+use Rattle.served_lines.proofs.BlameLemmas.{none_last}
 use Rattle.served_lines.proofs.settling.settle.Goals as goal
 
 pub returns-then-is_empty-clause-done : goal.returns-then-is_empty-clause-done
@@ -91,3 +92,14 @@ pub returns-clause-gives : goal.returns-clause-gives
 returns-clause-gives g c = λ lines spells.
     let S : List Edit → Type 0 = λ l. SpellEdits lines l in
     c.answer_edits-answer.ensures.gives lines (subst S (sym c.as_slice.ensures.value) spells)
+
+pub returns-then-is_empty-clause-blames : goal.returns-then-is_empty-clause-blames
+returns-then-is_empty-clause-blames g c = λ lines spells.
+    let it = c.args.service.now in
+    let none : length c.args.turns.now.edits.items ≡ 0 = grind (arith, common_steps) in
+    none_last g.R.Reply.makes lines c.args.turns.now.edits.items none spells c.args.turns.now.kept.now it.sessions (g.P.Streams.sent (shown.pages it))
+
+pub returns-clause-blames : goal.returns-clause-blames
+returns-clause-blames g c = λ lines spells.
+    let S : List Edit → Type 0 = λ l. SpellEdits lines l in
+    c.answer_edits-answer.ensures.blames lines (subst S (sym c.as_slice.ensures.value) spells)

@@ -15,7 +15,7 @@ returns-clause-does g c = λ stand stands.
     (g.P.Streams.sent (shown.pages it)) next.kept.ghost_name c.settle.ensures.same_reference next.kept.now next.edits.items (shown.IsTold
     new)
     (shown.view new) (shown.sessions new) (g.P.Streams.sent (shown.pages new))
-    c.settle.result stand stands (none_spelled next.edits.items c.settle.ensures.none) c.settle.ensures.gives c.settle.ensures.done
+    c.settle.result stand stands (none_spelled next.edits.items c.settle.ensures.none) c.settle.ensures.blames c.settle.ensures.done
 
 pub returns-clause-stops : goal.returns-clause-stops
 returns-clause-stops g c = λ stand stands.
@@ -28,7 +28,7 @@ returns-clause-stops g c = λ stand stands.
     (g.P.Streams.sent (shown.pages it)) next.kept.ghost_name c.settle.ensures.same_reference next.kept.now next.edits.items (shown.IsTold
     new)
     (shown.view new) (shown.sessions new) (g.P.Streams.sent (shown.pages new))
-    c.settle.result stand Pause 0 refl (omega arith) few stands c.settle.ensures.gives c.settle.ensures.stops
+    c.settle.result stand Pause 0 refl (omega arith) few stands c.settle.ensures.gives c.settle.ensures.blames c.settle.ensures.stops
 
 pub returns-clause-leaves : goal.returns-clause-leaves
 returns-clause-leaves g c = λ stand stands lasting.
