@@ -313,7 +313,7 @@ edit_after (Some (byte ∷ bytes)) edit frame followed spells is =
     (subst A (sym (request-asks-nothing text (EditRequest edit) spells)) (edit_ends (meaning_of text) frame followed is))
 
 -- each line is answered
-all_answered : List (Option (List ℕ)) → List Event
+abbrev all_answered : List (Option (List ℕ)) → List Event
 all_answered [] = []
 all_answered (line ∷ lines) = answer line ∷ all_answered lines
 

@@ -1,7 +1,7 @@
 -- What is sent for lines before one of them, or a push, calls a page damaged, whatever the pages are.
-use Rattle.std.specs.Prelude.{ℕ, ◌≡◌, ◌⊎◌, List, [], ◌∷◌, ◌++◌, All, Option, ⊤}
+use Rattle.std.specs.Prelude.{ℕ, ◌≡◌, ◌⊎◌, List, [], ◌∷◌, ◌++◌, All, Option, IfSome, ⊤}
 use Rattle.block_disk.specs.Streams.{sent_after}
-use Rattle.block_disk.specs.View.{Image}
+use Rattle.block_disk.specs.View.{Honest, Image, View}
 use Rattle.block_disk.specs.declared.streams.Streams.{Ghosts as StreamGhosts}
 use Rattle.block_disk.specs.declared.streams.Streams as streams
 use Rattle.chart_frames.specs.Frames.{Fits}
@@ -21,6 +21,7 @@ use Rattle.live_view.specs.declared.live.Live.{Live}
 use Rattle.live_view.specs.declared.stepper.Stepper.{Ghosts as StepperGhosts}
 use Rattle.run_ends.specs.declared.ending.End.{End}
 use Rattle.run_ends.specs.declared.ending.End.TheVariants.{DamagedPage}
+use Rattle.stored_book.specs.Standing.{book_pages}
 use Rattle.hosted_lines.specs.Answers.{AreSentBy, Sends, ShownLast, Watched, watched}
 use Rattle.hosted_lines.specs.Lives.{Event, lines_in, spelled}
 use Rattle.hosted_lines.specs.Shown.{pages}
@@ -70,11 +71,20 @@ pub record BlamesNext (May : MayAnswerBy) (after : FollowedBy) (Blames : BlamesB
   pub sent : now ≡ sent_after (spelled frames) before
   pub blames : NextBlames Blames later followed (ShownLast none_shown events frames) is_told count image page
 
+-- this is so of a page that an end calls damaged
+abbrev pub OfDamaged : (ℕ → Type 0) → End → Type 0
+OfDamaged IsSo (DamagedPage page) = IsSo page
+OfDamaged IsSo end = ⊤
+
+-- the same of the pages of a disk as it is then, where the input is told
+abbrev pub BlamesOnDisk : MayAnswerBy → FollowedBy → BlamesBy → ℕ → View → Option (List ℕ) → Option (List ℕ) → Option (List ℕ) → End → Type 0
+BlamesOnDisk May after Blames count disk input before now end = OfDamaged (λ page.
+    IfSome input (λ bytes. BlamesNext May after Blames bytes before now (Honest disk) count (book_pages count disk.image) page)) end
+
 module _ {P : Type 0} {g : Ghosts P} {h : StepperGhosts (ServiceStepper P g) ServiceError} {beside : StreamGhosts (ServiceStepper P g)} where
   -- what a call did for lines, where its end calls a page damaged
   abbrev pub BlamesFor : streams.Ghosts P → MayAnswerBy → FollowedBy → BlamesBy → List (Option (List ℕ)) → Live (ServiceStepper P g) ServiceError h beside
       → Live (ServiceStepper P g) ServiceError h beside → End → Type 0
-  BlamesFor told May after Blames lines old new (DamagedPage page) =
-      BlamesFirst May after Blames lines (watched old) (told.sent (pages old)) (told.sent (pages new)) (shown.IsTold (its.service new))
-      (its.view new).size (its.view new).image page
-  BlamesFor told May after Blames lines old new end = ⊤
+  BlamesFor told May after Blames lines old new end =
+      OfDamaged (BlamesFirst May after Blames lines (watched old) (told.sent (pages old)) (told.sent (pages new)) (shown.IsTold (its.service new))
+      (its.view new).size (its.view new).image) end

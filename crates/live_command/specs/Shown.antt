@@ -36,6 +36,12 @@ module _ {P : Type 0} {g : Ghosts P} {h : StepperGhosts (ServiceStepper P g) Ser
   LastsFor = IfSome (told.left (pages old)) (λ input. IfSome (told.sent (pages old)) (λ bytes.
       Since (its.view old) (its.view new) (λ image sent. IsAhead (λ after. StandsForBook image total after) input (its.state old total book) (sent_now (its.view old)) sent)))
 
+  -- where the end calls a page damaged, some first lines are answered, and the next one blames the page, or a push does
+  abbrev pub BlamesOn : End → Type 0
+  BlamesOn end = OfDamaged (λ page. IfSome (told.left (pages old)) (λ input.
+      BlamesFirst MayAnswerLive followed_after Blames (told_lines input) (watched old) (told.sent (pages old)) (told.sent (pages new))
+      (shown.IsTold (its.service new)) (its.view new).size (its.view new).image page)) end
+
   -- the lines and the pushes read no more blocks than they may, and no other block was read
   abbrev pub ReadsFew : Type 0
   ReadsFew = IfSome (told.left (pages old)) (λ input. ReadsLines input (its.state old total book) (its.view old).reads (its.view new).reads)
