@@ -4,6 +4,8 @@ use Rattle.std.specs.Prelude.{OnOk}
 use Rattle.block_disk.specs.Streams.{sent_after}
 use Rattle.block_disk.specs.View.{Honest, Image, View}
 use Rattle.chart_frames.specs.declared.frame.Frame.{Frame}
+use Rattle.chart_world.specs.declared.line_answer.LineFault.{LineFault}
+use Rattle.chart_world.specs.declared.line_answer.LineFault.TheVariants as input
 use Rattle.chart_service.proofs.LastLemmas.{last_more}
 use Rattle.chart_service.proofs.Naming.{named_opened}
 use Rattle.chart_service.specs.Blaming.{Blames, BlamesRead, FindsDamaged, IsDamagedOf}
@@ -14,12 +16,14 @@ use Rattle.chart_service.specs.declared.failure.ServiceError.{ServiceError}
 use Rattle.chart_service.specs.declared.failure.ServiceError.TheVariants as step
 use Rattle.gate_pages.specs.Journal.{pages_of}
 use Rattle.live_service.specs.Blaming.{PushBlames}
-use Rattle.live_service.specs.Kinds.{MayAnswerBy}
-use Rattle.live_service.specs.Pushing.{FollowedBy}
+use Rattle.live_service.specs.Kinds.{MayAnswerBy, MayAnswerLive}
+use Rattle.live_service.specs.Pushing.{FollowedBy, followed_after}
 use Rattle.request_lines.specs.Requests.{read_line}
 use Rattle.request_lines.specs.declared.requests.Request.{Request}
+use Rattle.run_ends.specs.Faults.{input_end}
 use Rattle.run_ends.specs.declared.ending.End.{End}
 use Rattle.run_ends.specs.declared.ending.End.TheVariants as end
+use Rattle.served_lines.proofs.BlameLemmas.{more_blamed}
 use Rattle.stored_book.proofs.CurrentLemmas.{spelled_current}
 use Rattle.stored_book.specs.Damage.{SaysNumbers}
 use Rattle.stored_book.specs.Standing.{book_pages}
@@ -234,3 +238,25 @@ module _ (May : MayAnswerBy) (after : FollowedBy) (By : BlamesBy)
       subst C same (damaged_so (λ page. IfSome o (λ input. BlamesNext May after By input before now (Honest disk) count' (pages_of count' disk.image) page))
       (λ page. IfSome o (λ input. BlamesNext May after By input before now (Honest disk) count' (book_pages count' disk.image) page)) e
       (λ page it. each_current o before now (Honest disk) count' disk.image page it) blames)
+
+-- ---- of a live service
+
+pub live_told : (is_told : Type 0) (count : ℕ) (image : Image) (e : End) (o : Option (List ℕ)) (old : Watched) (before now : Option (List ℕ)) → old.sessions ≡ [] → old.followed ≡ []
+    → OfDamaged (λ page. IfSome o (λ input. BlamesFirst MayAnswerLive followed_after Blames (told input) old before now is_told count image page)) e
+    → OfDamaged (λ page. IfSome o (λ input. BlamesNext MayAnswerLive followed_after Blames input before now is_told count image page)) e
+live_told is_told count image e o old before now none alone blames =
+    told_blames MayAnswerLive followed_after Blames is_told count image (λ page line one other more blamed. more_blamed line one other is_told count image page more blamed) e o old before now none alone blames
+
+-- behind an opening, which leaves the streams
+pub blames_over : (May : MayAnswerBy) (after : FollowedBy) (By : BlamesBy) (count count' : ℕ) (disk : View) (o o' before before' now : Option (List ℕ)) (e : End) → count ≡ count' → o ≡ o' → before ≡ before'
+    → BlamesOnDisk May after By count disk o before now e → BlamesOnDisk May after By count' disk o' before' now e
+blames_over May after By count count' disk o o' before before' now e counted same unsent blames =
+    let C : ℕ → Type 0 = λ n. BlamesOnDisk May after By n disk o' before' now e in
+    let O : Option (List ℕ) → Type 0 = λ x. BlamesOnDisk May after By count disk x before' now e in
+    let B : Option (List ℕ) → Type 0 = λ b. BlamesOnDisk May after By count disk o b now e in
+    subst C counted (subst O same (subst B unsent blames))
+
+-- where the input failed
+pub input_unblamed : (fault : LineFault) (e : End) (IsSo : ℕ → Type 0) → e ≡ input_end fault → OfDamaged IsSo e
+input_unblamed input.ReadFault e IsSo is = let E : End → Type 0 = OfDamaged IsSo in subst E (sym is) tt
+input_unblamed input.InputTooLong e IsSo is = let E : End → Type 0 = OfDamaged IsSo in subst E (sym is) tt
