@@ -3,6 +3,7 @@ use Rattle.std.proofs.Common.{◌≡◌, ℕ, List, IfSome, arith, refl}
 use Rattle.block_disk.specs.View.{View}
 use Rattle.chart_world.specs.LineLaws.{told_so}
 use Rattle.gate_pages.specs.Journal.{page_count}
+use Rattle.chart_service.specs.Blaming.{Blames}
 use Rattle.live_command.specs.Ended.{IsLiveCause, LiveEnds, ReadsLiving, SyncsLiving}
 use Rattle.hosted_lines.specs.Answers.{SendsAnswers}
 use Rattle.hosted_lines.specs.Begun.{begun_live}
@@ -17,7 +18,7 @@ use Rattle.store_commands.specs.Away.{TurnsAway}
 use Rattle.store_commands.specs.Books.{Holds, OfBook}
 use Rattle.store_commands.specs.Traffic.{Traffic}
 use Rattle.chart_program.specs.Course.{Course, IsDoneOrCut}
-use Rattle.chart_program.specs.LineAnswers.{NoneIsPassedBy}
+use Rattle.chart_program.specs.LineAnswers.{IsBlamedBy, NoneIsPassedBy}
 use Rattle.chart_program.specs.Live.{LiveDoes, OfLive}
 use Rattle.chart_program.specs.Serve.{AreLines}
 
@@ -61,8 +62,9 @@ module _ (old new : View) (t : Traffic) where
   live_passed Done answered = answered refl
   live_passed end answered = tt
 
-  pub of_live : (end : End) → LiveEnds old new t end → TurnsAway old t (status_of end) → IfSome t.left (ReadsLiving old new) → IfSome t.left (SyncsLiving old new) → (end ≡ Done → AreAnswered) → OfLive at end
-  of_live end e away reads syncs answered = record {
+  pub of_live : (end : End) → LiveEnds old new t end → TurnsAway old t (status_of end) → IfSome t.left (ReadsLiving old new) → IfSome t.left (SyncsLiving old new) → (end ≡ Done → AreAnswered)
+      → IsBlamedBy MayAnswerLive followed_after Blames at end → OfLive at end
+  of_live end e away reads syncs answered blamed = record {
     does = live_does end e.cause e.does;
     store = record { goes_on = e.goes_on; away = away };
     crash = e.crash;
@@ -70,4 +72,5 @@ module _ (old new : View) (t : Traffic) where
     syncs = syncs;
     good = good_live end e;
     passed = live_passed end answered;
+    blamed = blamed;
   }

@@ -9,6 +9,7 @@ use Rattle.chart_service.specs.Naming.{NameOpen, NameOpened}
 use Rattle.chart_service.specs.Serving.{told}
 use Rattle.drawn_replies.specs.Pictures.{AcceptsAll}
 use Rattle.hosted_lines.specs.Answers.{SendsAnswers}
+use Rattle.hosted_lines.specs.Blaming.{BlamesBy, BlamesOnDisk}
 use Rattle.line_raster.specs.Canvas.{Canvas}
 use Rattle.live_service.specs.Kinds.{MayAnswerBy}
 use Rattle.live_service.specs.Pushing.{FollowedBy}
@@ -17,7 +18,7 @@ use Rattle.run_ends.specs.declared.ending.End.TheVariants.{Done}
 use Rattle.served_fronts.specs.Texts.{texts_of}
 use Rattle.zoom_session.specs.Sessions.{is_open}
 use Rattle.zoom_session.specs.declared.session.Session.{Session}
-use Rattle.chart_program.specs.Course.{Course, OfInput}
+use Rattle.chart_program.specs.Course.{Course, OfInput, count}
 use Rattle.chart_program.specs.Runs.{AreShown, Gives}
 
 -- which bytes a command sends of frames
@@ -63,6 +64,11 @@ NoneIsPassed IsSent c end = ⊤
 abbrev pub NoneIsPassedBy : MayAnswerBy → FollowedBy → Course → End → Type 0
 NoneIsPassedBy May after c Done = OfInput c (λ input. SendsAnswers May after input c.sent c.sent_now)
 NoneIsPassedBy May after c end = ⊤
+
+-- Where the end calls a page of an open store damaged, such frames were sent for some first lines. Then the next line blames the
+-- page, or a push does to a session that is followed then, by the series that the sessions were shown last.
+abbrev pub IsBlamedBy : MayAnswerBy → FollowedBy → BlamesBy → Course → End → Type 0
+IsBlamedBy May after Blames c end = BlamesOnDisk May after Blames (count c) c.new c.left c.sent c.sent_now end
 
 -- As many frames as there are lines were given to `show` one behind the other, and the texts of what they showed were
 -- sent: each frame may answer its line, and names sessions that are open by those before it.

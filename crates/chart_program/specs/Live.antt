@@ -1,4 +1,5 @@
 -- The page of `live`: each line of the input is answered over the store's book, and behind an edit its pushes are made.
+use Rattle.chart_service.specs.Blaming.{Blames}
 use Rattle.live_command.specs.Ended.{LeavesLived, LivesAll, LivesLines, LivesPart, LivesSome, LivesTaken, LivesWithin, ReadsLiving}
 use Rattle.live_command.specs.Ended.{SyncsLiving}
 use Rattle.live_service.specs.Kinds.{MayAnswerLive}
@@ -9,7 +10,7 @@ use Rattle.run_ends.specs.declared.ending.End.TheVariants.{InputTooLong, TooSmal
 use Rattle.stored_book.specs.Damage.{IsBadForRequest}
 use Rattle.chart_program.specs.Course.{AtEachMoment, Course, FoundDamaged, FoundPage, HasFewBlocks, HeldNoBook, IsDoneOrCut, IsLonger, IsShort}
 use Rattle.chart_program.specs.Course.{OfInput, OverStore, Told}
-use Rattle.chart_program.specs.LineAnswers.{NoneIsPassedBy}
+use Rattle.chart_program.specs.LineAnswers.{IsBlamedBy, NoneIsPassedBy}
 use Rattle.chart_program.specs.Serve.{AreLines}
 
 -- what it did and sent, by how it ended; at a fault of the disk what that holds is said by the moments
@@ -36,3 +37,5 @@ pub record OfLive (c : Course) (end : End) : Type 0 where
   pub good : OfInput c (λ input. AreLines c.old c.new input → IsDoneOrCut end)
   -- whatever the disk holds, where it was done no line was passed over, and each push showed a view of a followed session
   pub passed : NoneIsPassedBy MayAnswerLive followed_after c end
+  -- and a page is called damaged by the line behind the answered ones, or by a push to a session that is followed then
+  pub blamed : IsBlamedBy MayAnswerLive followed_after Blames c end

@@ -1,6 +1,6 @@
 -- Which line calls a page damaged.
 use Rattle.std.proofs.Common.{◌≡◌, ◌∙◌, ℕ, ◌≤◌, ◌<◌, List, [], ◌∷◌, ◌++◌, length, All, Option, None, Some, Result, Ok, Err, IfErr, refl, sym, ap, subst, arith}
-use Rattle.std.specs.Prelude.{IsErrAnd, OnOk, slice_get}
+use Rattle.std.specs.Prelude.{IsErrAnd, MatchResult, OnOk, slice_get}
 use Rattle.std.proofs.lemmas.Option.{slice_get_within}
 use Rattle.block_disk.specs.View.{Image, View}
 use Rattle.catalog_page.specs.Entries.{Entry}
@@ -20,7 +20,7 @@ use Rattle.stored_book.specs.Records.{entry, tree_of}
 use Rattle.tree_walk.specs.Paths.{IsDamaged}
 use Rattle.zoom_session.specs.Sessions.{is_open}
 use Rattle.zoom_session.specs.declared.session.Session.{Session}
-use Rattle.chart_service.specs.Blaming.{Blames, BlamesBy, BlamesEnd, BlamesFor, BlamesRead, FindsDamaged, GivesLast, IsDamagedOf, ReadsPages}
+use Rattle.chart_service.specs.Blaming.{Blames, BlamesBy, BlamesEnd, BlamesFor, BlamesRead, FindsDamaged, GivesLast, IsDamagedOf, LineBlames, ReadsPages, RequestBlames}
 use Rattle.chart_service.specs.EditDamage.{NamesBadForEdit}
 use Rattle.chart_service.specs.EditGroups.{IsEditReply, SpellEdits, SpellsEdit}
 use Rattle.chart_service.specs.Kinds.{MayAnswerAll}
@@ -29,7 +29,7 @@ use Rattle.chart_service.specs.LastShown.{IsLastIn, LastShown, LastsBehind, Last
 use Rattle.chart_service.specs.Making.{FrameSent, FramesSent, IsReplyEnd, Makes}
 use Rattle.chart_service.specs.Replies.{line_text}
 use Rattle.chart_service.specs.Serving.{end_of_step, unless_empty}
-use Rattle.chart_service.specs.Stepping.{IsDamagedFor, IsDamagedIn, IsDamagedToView, IsLineCause, IsReadCause, IsUnchangedFor}
+use Rattle.chart_service.specs.Stepping.{IsDamagedFor, IsDamagedIn, IsDamagedToView, IsLineCause, IsReadCause, IsStepCause, IsUnchangedBy, IsUnchangedFor}
 use Rattle.chart_service.specs.declared.failure.AnswerEnd.{AnswerEnd}
 use Rattle.chart_service.specs.declared.failure.AnswerEnd.TheVariants.{Serve, Reply}
 use Rattle.chart_service.specs.declared.failure.ServeEnd.TheVariants.{ReadFault, SendFault, DiskFault, Damaged, InputTooLong, NoMemory}
@@ -79,7 +79,7 @@ module _ (told told' : Type 0) (old new : View) (s : Superblock) (catalog : List
   request_blames (Pan number by) bad = view_finds (Pan number by) (IsLastIn sessions number) (IsLastIn sessions number) tt (λ t id one there last. last) (λ found. found) bad
   request_blames (Close number) bad = absurd bad
 
-  read_blames : (read : Result Request ℕ) → IsReadCause read (step.Damaged page) told catalog sessions s old new → BlamesRead read (IsLastIn sessions) told' new.size new.image page
+  pub read_blames : (read : Result Request ℕ) → IsReadCause read (step.Damaged page) told catalog sessions s old new → BlamesRead read (IsLastIn sessions) told' new.size new.image page
   read_blames (Err at) bad = absurd bad
   read_blames (Ok request) bad = request_blames request bad
 
@@ -87,6 +87,32 @@ module _ (told told' : Type 0) (old new : View) (s : Superblock) (catalog : List
   line_blames text short bad =
       let L : Option (List ℕ) → Type 0 = λ o. IsLineCause o (step.Damaged page) told catalog sessions s old new in
       read_blames (read_line text) (subst L (text_is text short) bad)
+
+-- ---- by what is answered
+
+module _ (told told' : Type 0) (old new : View) (s : Superblock) (catalog : List StoredSeries) (sessions : List Session) (own : AreOwn told old s catalog) (was : told' → told) (size : new.size ≡ old.size) where
+  request_error : (request : Request) (e : ServiceError) → IsUnchangedFor e told old new → IsStepCause request e told catalog sessions s old new → RequestBlames request (IsLastIn sessions) told' new.size new.image e
+  request_error request step.DiskFault kept cause = tt
+  request_error request (step.Damaged page) kept cause = request_blames told told' old new s catalog sessions page own was kept.image size request cause
+  request_error request step.NoMemory kept cause = tt
+
+  line_error : (line : Option (List ℕ)) (e : ServiceError) → IsUnchangedFor e told old new → IsLineCause line e told catalog sessions s old new → LineBlames line (IsLastIn sessions) told' new.size new.image e
+  line_error line step.DiskFault kept cause = tt
+  line_error None (step.Damaged page) kept cause = absurd cause
+  line_error (Some text) (step.Damaged page) kept cause = read_blames told told' old new s catalog sessions page own was kept.image size (read_line text) cause
+  line_error line step.NoMemory kept cause = tt
+
+pub request_blamed : (r : Result Frame ServiceError) (told told' : Type 0) (old new : View) (s : Superblock) (catalog : List StoredSeries) (sessions : List Session) → AreOwn told old s catalog → (told' → told) → new.size ≡ old.size
+    → (request : Request) → MatchResult r (λ frame. IsUnchangedBy frame told old new) (λ e. IsUnchangedFor e told old new) → IfErr r (λ e. IsStepCause request e told catalog sessions s old new)
+    → IfErr r (RequestBlames request (IsLastIn sessions) told' new.size new.image)
+request_blamed (Ok frame) told told' old new s catalog sessions own was size request kept cause = tt
+request_blamed (Err e) told told' old new s catalog sessions own was size request kept cause = request_error told told' old new s catalog sessions own was size request e kept cause
+
+pub line_blamed : (r : Result Frame ServiceError) (told told' : Type 0) (old new : View) (s : Superblock) (catalog : List StoredSeries) (sessions : List Session) → AreOwn told old s catalog → (told' → told) → new.size ≡ old.size
+    → (line : Option (List ℕ)) → MatchResult r (λ frame. IsUnchangedBy frame told old new) (λ e. IsUnchangedFor e told old new) → IfErr r (λ e. IsLineCause line e told catalog sessions s old new)
+    → IfErr r (LineBlames line (IsLastIn sessions) told' new.size new.image)
+line_blamed (Ok frame) told told' old new s catalog sessions own was size line kept cause = tt
+line_blamed (Err e) told told' old new s catalog sessions own was size line kept cause = line_error told told' old new s catalog sessions own was size line e kept cause
 
 -- an edit that is one of a group
 edit_blames : (line : Option (List ℕ)) (edit : Edit) (last : ℕ → ℕ → Type 0) (told : Type 0) (count : ℕ) (image : Image) (page : ℕ) → SpellsEdit line edit → NamesBadForEdit told count image (step.Damaged page) → Blames line last told count image page

@@ -23,6 +23,8 @@ use Rattle.chart_service.specs.Shown as shown
 use Rattle.chart_service.specs.declared.failure.AnswerEnd.{AnswerEnd}
 use Rattle.chart_service.specs.declared.failure.AnswerEnd.TheVariants.{Serve, Reply}
 use Rattle.chart_service.specs.declared.failure.ServeEnd.TheVariants.{ReadFault, SendFault, DiskFault, Damaged, InputTooLong, NoMemory}
+use Rattle.chart_service.specs.declared.failure.ServiceError.{ServiceError}
+use Rattle.chart_service.specs.declared.failure.ServiceError.TheVariants as step
 use Rattle.chart_service.specs.declared.service.Service.{Service}
 
 -- the page is damaged, and on the way to a key of the tree that the record of such a series names
@@ -67,6 +69,18 @@ BlamesRead (Ok request) last told count image page = BlamesFor request last told
 abbrev pub Blames : Option (List ℕ) → (ℕ → ℕ → Type 0) → Type 0 → ℕ → Image → ℕ → Type 0
 Blames None last told count image page = ⊥
 Blames (Some text) last told count image page = BlamesRead (read_line text) last told count image page
+
+-- where an error calls a page damaged, the request blames it
+abbrev pub RequestBlames : Request → (ℕ → ℕ → Type 0) → Type 0 → ℕ → Image → ServiceError → Type 0
+RequestBlames request last told count image step.DiskFault = ⊤
+RequestBlames request last told count image (step.Damaged page) = BlamesFor request last told count image page
+RequestBlames request last told count image step.NoMemory = ⊤
+
+-- and so does the line
+abbrev pub LineBlames : Option (List ℕ) → (ℕ → ℕ → Type 0) → Type 0 → ℕ → Image → ServiceError → Type 0
+LineBlames line last told count image step.DiskFault = ⊤
+LineBlames line last told count image (step.Damaged page) = Blames line last told count image page
+LineBlames line last told count image step.NoMemory = ⊤
 
 -- such frames were given to the lines, and the last views of the sessions are of the series that they showed
 pub record GivesLast {S F : Type 0} (makes : Makes S F) (lines : List (Option (List ℕ))) (kept last : S) (own sessions : List Session) (before now : Option (List ℕ)) : Type 0 where

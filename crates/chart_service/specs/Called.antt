@@ -11,6 +11,8 @@ use Rattle.zoom_session.specs.Sessions.{session_of, last_of, is_open, open_refus
 use Rattle.zoom_session.specs.declared.session.Session.{Session}
 use Rattle.zoom_session.specs.declared.view_spec.ViewSpec.{ViewSpec}
 use Rattle.chart_service.specs.ReadingBlocks.{ReadsLine}
+use Rattle.chart_service.specs.Blaming.{LineBlames, RequestBlames}
+use Rattle.chart_service.specs.LastShown.{IsLastIn}
 use Rattle.chart_service.specs.Looking.{IsViewCause, Looks, Looked, Replying}
 use Rattle.chart_service.specs.Replies.{AnswersBy, AnswersView, RepliesToView, RepliesByText, MovesIn, Opens, own_zoom}
 use Rattle.chart_service.specs.Shown as shown
@@ -52,6 +54,14 @@ module _ {P : Type 0} {g : Ghosts P} where
   abbrev pub IsCauseOfLine : Option (List ℕ) → Service P g → Service P g → ServiceError → Type 0
   IsCauseOfLine line old new error =
       IsLineCause line error (shown.IsTold old) (shown.catalog old) old.sessions (shown.numbers old) (shown.view old) (shown.view new)
+
+  -- the request blames a page that an error calls damaged, and so does a line
+  abbrev pub RequestBlamed : Request → Service P g → Service P g → ServiceError → Type 0
+  RequestBlamed request old new error =
+      RequestBlames request (IsLastIn old.sessions) (shown.IsTold new) (shown.view new).size (shown.image new) error
+
+  abbrev pub LineBlamed : Option (List ℕ) → Service P g → Service P g → ServiceError → Type 0
+  LineBlamed line old new error = LineBlames line (IsLastIn old.sessions) (shown.IsTold new) (shown.view new).size (shown.image new) error
 
   -- and a view of a series with such an id
   abbrev pub IsCauseOfView : (ℕ → Type 0) → Service P g → Service P g → ServiceError → Type 0

@@ -16,7 +16,7 @@ ghost use Rattle.chart_service.specs.Opening.{OpensBy, LosesAtMost, StaysIn};
 ghost use Rattle.zoom_session.specs.Sessions.{session_of, last_of};
 ghost use Rattle.chart_service.specs.Replies.{Replied, line_text, own_zoom};
 ghost use Rattle.chart_service.specs.Stepping.{RepliedTo, NamesBad, IsOutside, Steps, ReadsFew};
-ghost use Rattle.chart_service.specs.Called.{AnswersSo, CommitsOnly, ForLast, IsCause, IsCauseOfLine, ReadsFewAgain, ReadsFewFor};
+ghost use Rattle.chart_service.specs.Called.{AnswersSo, CommitsOnly, ForLast, IsCause, IsCauseOfLine, LineBlamed, ReadsFewAgain, ReadsFewFor, RequestBlamed};
 ghost use Rattle.chart_service.specs.Rooms.{HasRoom, KeepRooms, LeavesLine, LeavesOpen, TellsIn};
 ghost use Rattle.chart_service.specs.Shown as shown;
 ghost use Rattle.chart_service.specs.Syncing.{edit_asked, edit_of};
@@ -101,6 +101,8 @@ impl<P: Pages> Service<P> {
         ensures unchanged { CommitsOnly result self.old self.new }
         ensures idle { edit_of (line_text line.now) ≡ [] → IsUnchanged (shown.IsTold self.old) (shown.view self.old) (shown.view self.new) }
         ensures cause { IfErr result (IsCauseOfLine (line_text line.now) self.old self.new) }
+        // by page 0 and the catalog of the pages, and by the series that the sessions show last
+        ensures blames { IfErr result (LineBlamed (line_text line.now) self.old self.new) }
         ensures disk { result ≡ Err ServiceError.DiskFault → HasRisen (shown.view self.old).faults (shown.view self.new).faults }
         ensures faults { CountsFault (fault_in step_fault result) (shown.view self.old) (shown.view self.new) }
         ensures bad { IfErr result (NamesBad (shown.IsTold self.new) (shown.view self.new).size (shown.image self.new)) }
@@ -144,6 +146,7 @@ impl<P: Pages> Service<P> {
         ensures moments { shown.PassesTo (Now (shown.view self.old)) self.old self.new }
         ensures idle { IsUnchanged (shown.IsTold self.old) (shown.view self.old) (shown.view self.new) }
         ensures cause { ForLast session self.old (λ last. IfErr result (IsCause (own_zoom session last) self.old self.new)) }
+        ensures blames { ForLast session self.old (λ last. IfErr result (RequestBlamed (own_zoom session last) self.old self.new)) }
         ensures faults { CountsFault (fault_in step_fault result) (shown.view self.old) (shown.view self.new) }
         ensures bad { IfErr result (NamesBad (shown.IsTold self.new) (shown.view self.new).size (shown.image self.new)) }
         ensures steps { Steps (shown.IsTold self.old) (shown.IsTold self.new) (shown.view self.old) (shown.view self.new) }

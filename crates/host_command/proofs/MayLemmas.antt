@@ -5,7 +5,6 @@ use Rattle.chart_frames.specs.declared.frame.Frame.{Frame}
 use Rattle.chart_frames.specs.declared.frame.Frame.TheVariants.{Rows}
 use Rattle.chart_frames.specs.declared.frame.RowsFrame.{RowsFrame}
 use Rattle.chart_service.specs.EditGroups.{IsEditReply, RepliesToEdits, SpellEdits}
-use Rattle.chart_service.specs.Kinds.{MayShow}
 use Rattle.chart_service.specs.Replies.{Edits}
 use Rattle.chart_service.specs.Serving.{told}
 use Rattle.chart_service.specs.State.{State}
@@ -30,7 +29,7 @@ use Rattle.series_book.specs.Edits.{Edited, apply, id_of}
 use Rattle.series_book.specs.declared.edits.Edit.{Edit}
 use Rattle.series_book.specs.declared.one_series.Series.{Series}
 use Rattle.series_book.specs.declared.refusals.Refusal.{Refusal}
-use Rattle.session_sums.specs.Sums.{AnswersSum}
+use Rattle.session_sums.specs.Sums.{AnswersSum, MayTellRows}
 use Rattle.zoom_session.specs.Sessions.{is_open}
 use Rattle.host_command.proofs.Drawing.{Groups, short_first}
 
@@ -45,12 +44,12 @@ values_may : (id : Option ℕ) (book : List Series) (t0 t1 : ℤ) (frame : Frame
 values_may None book t0 t1 frame tells = subst MayTellValues (sym tells) tt
 values_may (Some id) book t0 t1 frame tells = series_may (slice_get book id) id t0 t1 frame tells
 
-sum_may : (book : List Series) (request : SumRequest) (session : ℕ) (frame : Frame) → AnswersSum book request session frame → MayShow session frame
+sum_may : (book : List Series) (request : SumRequest) (session : ℕ) (frame : Frame) → AnswersSum book request session frame → MayTellRows session frame
 sum_may book request session (Rows rows) is = ap (λ (f : RowsFrame). f.session) is.fields.is
-sum_may book request session frame is = let M : Frame → Type 0 = λ f. MayShow session f in subst M (sym is.frame_is) tt
+sum_may book request session frame is = let M : Frame → Type 0 = λ f. MayTellRows session f in subst M (sym is.frame_is) tt
 
-sum_if : (there : Bool) (total : ℕ) (book : List Series) (request : SumRequest) (session : ℕ) (frame : Frame) → TellsIf there (Sum session request) total book frame → MayShow session frame
-sum_if false total book request session frame is = let M : Frame → Type 0 = λ f. MayShow session f in subst M (sym is) tt
+sum_if : (there : Bool) (total : ℕ) (book : List Series) (request : SumRequest) (session : ℕ) (frame : Frame) → TellsIf there (Sum session request) total book frame → MayTellRows session frame
+sum_if false total book request session frame is = let M : Frame → Type 0 = λ f. MayTellRows session f in subst M (sym is) tt
 sum_if true total book request session frame is = sum_may book request session frame is
 
 reported_may : (asked : HostLine) (frame : Frame) (state : State) → Reported asked frame state → MayReport asked frame

@@ -6,7 +6,6 @@ use Rattle.chart_frames.specs.declared.frame.Frame.{Frame}
 use Rattle.chart_frames.specs.declared.frame.Frame.TheVariants.{Refused, Report}
 use Rattle.chart_frames.specs.declared.reports.Report.TheVariants as report
 use Rattle.chart_grid.specs.Limits.{IsWindow, IsBadWindow}
-use Rattle.chart_service.specs.Kinds.{MayShow}
 use Rattle.chart_service.specs.Replies.{refused}
 use Rattle.chart_service.specs.State.{State}
 use Rattle.chart_service.specs.declared.failure.ServiceError.{ServiceError}
@@ -19,7 +18,7 @@ use Rattle.series_book.specs.declared.one_series.Series.{Series}
 use Rattle.series_book.specs.declared.refusals.Refusal.TheVariants.{BadLine, BadWindow, UnknownSeries, UnknownSession}
 use Rattle.series_pair.specs.Damage.{IsBadForChart}
 use Rattle.session_sums.specs.Costs.{ReadsAnswer}
-use Rattle.session_sums.specs.Sums.{AnswersSum}
+use Rattle.session_sums.specs.Sums.{AnswersSum, MayTellRows}
 use Rattle.store_commands.specs.Exported.{IsBadForExport}
 use Rattle.zoom_session.specs.Sessions.{is_open}
 use Rattle.zoom_session.specs.declared.session.Session.{Session}
@@ -88,7 +87,7 @@ MayTellValues frame = ⊥
 abbrev pub MayReport : HostLine → Frame → Type 0
 MayReport ListLine frame = IsCatalog frame
 MayReport (Values name t0 t1) frame = MayTellValues frame
-MayReport (Sum session request) frame = MayShow session frame
+MayReport (Sum session request) frame = MayTellRows session frame
 MayReport (Sweep rule) frame = ⊥
 MayReport (Bad at) frame = frame ≡ refused (BadLine at)
 MayReport Other frame = ⊥

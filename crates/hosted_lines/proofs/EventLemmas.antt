@@ -26,7 +26,7 @@ lives_more old mid new (push ∷ es) later [] more one two = absurd one
 lives_more old mid new (answer line ∷ es) later (f ∷ fs) more one two = (one.0, one.1, one.2, lives_more one.0 mid new es later fs more one.3 two)
 lives_more old mid new (push ∷ es) later (f ∷ fs) more one two = (one.0, one.1, lives_more one.0 mid new es later fs more one.2 two)
 
-lines_more : (first later : List Event) → lines_in (first ++ later) ≡ lines_in first ++ lines_in later
+pub lines_more : (first later : List Event) → lines_in (first ++ later) ≡ lines_in first ++ lines_in later
 lines_more [] later = refl
 lines_more (answer line ∷ es) later = ap (λ l. line ∷ l) (lines_more es later)
 lines_more (push ∷ es) later = lines_more es later

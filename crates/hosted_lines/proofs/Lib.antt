@@ -5,6 +5,7 @@ pub mod LineLemmas
 pub mod RowLemmas
 pub mod AskLemmas
 pub mod AnswersLemmas
+pub mod BlameLemmas
 pub mod AmidLemmas
 pub mod SpelledLemmas
 pub mod CountLemmas

@@ -1,5 +1,5 @@
 -- Which frames may answer a line of a host, and what calls send for lines, whatever the pages are.
-use Rattle.std.specs.Prelude.{ℕ, ◌≡◌, List, [], All, Option, None, Some, ⊤}
+use Rattle.std.specs.Prelude.{ℕ, ◌≡◌, List, [], ◌∷◌, All, Option, None, Some, ⊤}
 use Rattle.block_disk.specs.Streams.{sent_after}
 use Rattle.block_disk.specs.declared.streams.Streams.{Ghosts as StreamGhosts}
 use Rattle.block_disk.specs.declared.streams.Streams as streams
@@ -8,6 +8,7 @@ use Rattle.chart_frames.specs.declared.frame.Frame.TheVariants.{Refused, Report}
 use Rattle.chart_frames.specs.declared.reports.Report.TheVariants.{Swept}
 use Rattle.chart_frames.specs.Frames.{Fits}
 use Rattle.chart_service.specs.Kinds.{MayAnswerLine}
+use Rattle.chart_service.specs.LastShown.{LastShown, LastsBehind}
 use Rattle.chart_service.specs.Naming.{NameOpen, NameOpened, opens_all}
 use Rattle.chart_service.specs.Replies.{refused}
 use Rattle.chart_service.specs.Serving.{told}
@@ -21,6 +22,7 @@ use Rattle.host_replies.specs.Replies.{MayReport}
 use Rattle.live_service.specs.Kinds.{MayAnswerBy, MayAnswerLive}
 use Rattle.live_service.specs.Pushing.{AnswerFollowed, FollowedBy, followed_after}
 use Rattle.live_service.specs.Shown as its
+use Rattle.live_view.specs.Following.{ShowsOneOf}
 use Rattle.live_view.specs.Live as follows
 use Rattle.live_service.specs.declared.stepper.ServiceStepper.{ServiceStepper}
 use Rattle.live_view.specs.declared.live.Live.{Live}
@@ -28,7 +30,7 @@ use Rattle.live_view.specs.declared.stepper.Stepper.{Ghosts as StepperGhosts}
 use Rattle.series_book.specs.declared.refusals.Refusal.TheVariants.{UnknownSeries}
 use Rattle.zoom_session.specs.declared.session.Session.{Session}
 use Rattle.zoom_session.specs.Sessions.{is_open}
-use Rattle.hosted_lines.specs.Lives.{spelled}
+use Rattle.hosted_lines.specs.Lives.{Event, answer, lines_in, push, spelled}
 use Rattle.hosted_lines.specs.Shown.{pages}
 
 -- the frame tells a step of a sweep, or that the series isn't there which its rule names
@@ -63,14 +65,38 @@ pub record Watched : Type 0 where
   pub sessions : List Session
   pub followed : List ℕ
 
+-- Of each event a frame is sent: it may answer the event's line, or it is pushed, and shows a view of a session that is followed
+-- then. At first, and behind them all, these sessions are followed.
+abbrev pub AreSentBy : MayAnswerBy → FollowedBy → List Event → List ℕ → List Frame → List ℕ → Type 0
+AreSentBy May after [] old [] new = new ≡ old
+AreSentBy May after [] old (frame ∷ frames) new = ⊥
+AreSentBy May after (event ∷ events) old [] new = ⊥
+AreSentBy May after (answer line ∷ events) old (frame ∷ frames) new = May line frame × AreSentBy May after events (after line frame old) frames new
+AreSentBy May after (push ∷ events) old (frame ∷ frames) new = ShowsOneOf old frame × AreSentBy May after events old frames new
+
+-- the line that is answered at each event; a push has none
+abbrev pub lines_at : List Event → List (Option (List ℕ))
+lines_at [] = []
+lines_at (answer line ∷ events) = line ∷ lines_at events
+lines_at (push ∷ events) = None ∷ lines_at events
+
+-- Of which series the last view of the session n may be behind these events and their frames, by what was so before them: rows
+-- that are pushed are of the series that was shown before.
+abbrev pub ShownLast : (ℕ → ℕ → Type 0) → List Event → List Frame → ℕ → ℕ → Type 0
+ShownLast was events frames n id = LastShown was (lines_at events) frames n id
+
 -- This text is the spellings of frames that answer the lines, with pushes to the sessions that are followed then. The fields of
--- each meet their rules, it names sessions that are open by those before it, and behind them all just these are open.
+-- each meet their rules, and it names sessions that are open by those before it. Behind them all just these are open, and the
+-- last view of each is of a series that they showed.
 pub record Answers (May : MayAnswerBy) (after : FollowedBy) (lines : List (Option (List ℕ))) (old new : Watched) (text : List ℕ) : Type 0 where
+  pub events : List Event
+  pub lines_are : lines_in events ≡ lines
   pub frames : List Frame
   pub fits : All Fits frames
-  pub answers : AnswerFollowed May after lines old.followed frames new.followed
+  pub are_sent : AreSentBy May after events old.followed frames new.followed
   pub named : NameOpen (λ n. is_open n old.sessions) frames
   pub open_now : (n : ℕ) → is_open n new.sessions ≡ opens_all frames n (is_open n old.sessions)
+  pub lasts : LastsBehind (lines_at events) frames old.sessions new.sessions
   pub text_is : text ≡ spelled frames
 
 -- such a text was sent

@@ -3,6 +3,7 @@ pub mod Lives
 pub mod Reads
 pub mod Shown
 pub mod Answers
+pub mod Blaming
 pub mod Doing
 pub mod HostCauses
 pub mod GoesLaws

@@ -3,6 +3,7 @@ ghost use Rattle.std.specs.Prelude.{◌≡◌, ◌≢◌, ◌≤◌, ◌<◌, �
 ghost use Rattle.block_disk.specs.Counts.{HasRisen};
 ghost use Rattle.block_disk.specs.Streams.{sent_after};
 ghost use Rattle.chart_frames.specs.Frames.{Fits, spelling};
+ghost use Rattle.chart_service.specs.Blaming.{Blames};
 ghost use Rattle.chart_service.specs.Serving.{unless_empty};
 ghost use Rattle.chart_service.specs.Shown as shown;
 ghost use Rattle.chart_service.specs.Syncing.{edit_of, edits_of};
@@ -13,6 +14,7 @@ ghost use Rattle.live_view.specs.Live as follows;
 ghost use Rattle.run_ends.specs.Faults.{end_fault};
 ghost use Rattle.live_service.specs.Pushing.{followed_after};
 ghost use Rattle.hosted_lines.specs.Answers.{SendsFor};
+ghost use Rattle.hosted_lines.specs.Blaming.{BlamesFor};
 ghost use Rattle.hosted_lines.specs.Doing.{DoesFor, FrameStops, Goes, IsCause, side_of, step_end};
 ghost use Rattle.hosted_lines.specs.Shown.{ForSound, pages};
 
@@ -74,6 +76,7 @@ pub fn refuse_line<P: PageWorld>(
     ensures does { ForSound live.old (λ total book. DoesFor P.Streams (None ∷ []) total book result live.old live.new) }
     // whatever the pages are
     ensures sends { OnOk result (SendsFor P.Streams MayAnswerLive followed_after (None ∷ []) live.old live.new) }
+    ensures blames { IfErr result (BlamesFor P.Streams MayAnswerLive followed_after Blames (None ∷ []) live.old live.new) }
     ensures goes { Goes (side_of P.Streams live.old) (side_of P.Streams live.new) }
     ensures cause { IfErr result (λ e. IsCause e (side_of P.Streams live.old) (side_of P.Streams live.new)) }
     ensures long { result ≢ Err End.InputTooLong }
@@ -98,6 +101,7 @@ fn answer_frame<P: PageWorld>(
     requires short { length line.now ≤ 8192 }
     ensures does { ForSound live.old (λ total book. DoesFor P.Streams (Some line.now ∷ []) total book result live.old live.new) }
     ensures sends { OnOk result (SendsFor P.Streams MayAnswerLive followed_after (Some line.now ∷ []) live.old live.new) }
+    ensures blames { IfErr result (BlamesFor P.Streams MayAnswerLive followed_after Blames (Some line.now ∷ []) live.old live.new) }
     ensures goes { Goes (side_of P.Streams live.old) (side_of P.Streams live.new) }
     ensures cause { IfErr result (λ e. IsCause e (side_of P.Streams live.old) (side_of P.Streams live.new)) }
     ensures long { result ≢ Err End.InputTooLong }
@@ -120,6 +124,7 @@ fn send_push<P: PageWorld>(alloc: Global, live: &mut Live<ServiceStepper<P>>) ->
     requires some { follows.IsIdle live.old → ⊥ }
     ensures does { ForSound live.old (λ total book. DoesFor P.Streams [] total book result live.old live.new) }
     ensures sends { OnOk result (SendsFor P.Streams MayAnswerLive followed_after [] live.old live.new) }
+    ensures blames { IfErr result (BlamesFor P.Streams MayAnswerLive followed_after Blames [] live.old live.new) }
     ensures goes { Goes (side_of P.Streams live.old) (side_of P.Streams live.new) }
     ensures cause { IfErr result (λ e. IsCause e (side_of P.Streams live.old) (side_of P.Streams live.new)) }
     ensures long { result ≢ Err End.InputTooLong }
@@ -145,6 +150,7 @@ pub(crate) fn send_pushes<P: PageWorld>(
     requires { (its.view live.old).fit }
     ensures does { ForSound live.old (λ total book. DoesFor P.Streams [] total book result live.old live.new) }
     ensures sends { OnOk result (SendsFor P.Streams MayAnswerLive followed_after [] live.old live.new) }
+    ensures blames { IfErr result (BlamesFor P.Streams MayAnswerLive followed_after Blames [] live.old live.new) }
     ensures goes { Goes (side_of P.Streams live.old) (side_of P.Streams live.new) }
     ensures cause { IfErr result (λ e. IsCause e (side_of P.Streams live.old) (side_of P.Streams live.new)) }
     ensures long { result ≢ Err End.InputTooLong }
@@ -176,6 +182,8 @@ pub fn answer_line<P: PageWorld>(
     ensures does { ForSound live.old (λ total book. DoesFor P.Streams (unless_empty (Some line.now)) total book result live.old live.new) }
     // whatever the pages are
     ensures sends { OnOk result (SendsFor P.Streams MayAnswerLive followed_after (unless_empty (Some line.now)) live.old live.new) }
+    // a page that is called damaged is so for the line, or for a push behind it
+    ensures blames { IfErr result (BlamesFor P.Streams MayAnswerLive followed_after Blames (unless_empty (Some line.now)) live.old live.new) }
     ensures goes { Goes (side_of P.Streams live.old) (side_of P.Streams live.new) }
     ensures cause { IfErr result (λ e. IsCause e (side_of P.Streams live.old) (side_of P.Streams live.new)) }
     ensures long { result ≢ Err End.InputTooLong }

@@ -1,17 +1,24 @@
 -- Which lines so far are answered, whatever the pages are.
-use Rattle.std.proofs.Common.{◌≡◌, ◌∙◌, ℕ, List, [], ◌++◌, length, Option, Some, None, IfSome, refl, ap, sym, subst, inl}
+use Rattle.std.proofs.Common.{◌≡◌, ◌∙◌, ℕ, List, [], ◌∷◌, ◌++◌, length, Option, Some, None, IfSome, refl, ap, sym, subst, inl}
 use Rattle.std.specs.List.{filter, after_first}
 use Rattle.std.proofs.lemmas.List.{append-nil}
+use Rattle.std.proofs.lemmas.List.Elements.{filter-append}
+use Rattle.block_disk.specs.View.{Image}
+use Rattle.chart_service.specs.Blaming.{Blames}
 use Rattle.chart_service.specs.Serving.{told, unless_empty}
 use Rattle.chart_world.specs.FrontLaws.{Passed, passes}
 use Rattle.chart_world.specs.Fronts.{BeginsWith, Gives, says, first_piece}
-use Rattle.chart_world.specs.LineLaws.{lines_none, no_rest, piece_line, told_more}
-use Rattle.chart_world.specs.Lines.{is_line_feed}
+use Rattle.chart_world.specs.LineLaws.{lines_none, no_rest, piece_line, told_behind, told_more}
+use Rattle.chart_world.specs.Lines.{is_line_feed, lines}
 use Rattle.chart_world.specs.Reading.{Reading, told_lines, unread, unread_input}
 use Rattle.live_service.specs.Kinds.{MayAnswerLive}
 use Rattle.live_service.specs.Pushing.{followed_after}
+use Rattle.run_ends.specs.declared.ending.End.{End}
+use Rattle.run_ends.specs.declared.ending.End.TheVariants as ends
 use Rattle.hosted_lines.specs.Answers.{Sends, Watched}
+use Rattle.hosted_lines.specs.Blaming.{BlamesFirst, OfDamaged}
 use Rattle.hosted_lines.proofs.AnswersLemmas.{sends_both, sends_none}
+use Rattle.hosted_lines.proofs.BlameLemmas.{blames_before, blames_behind}
 
 -- they are told by a front of the input, and the bytes left are behind it
 pub record Answered (input : List ℕ) (bytes : Option (List ℕ)) (given : ℕ) (old new : Watched) (before now : Option (List ℕ)) : Type 0 where
@@ -89,3 +96,25 @@ pub answered_far : (o bytes : Option (List ℕ)) (given : ℕ) (old new : Watche
     → IfSome o (λ input. Sends MayAnswerLive followed_after (told input) old new before now)
 answered_far None bytes given old new before now none far = tt
 answered_far (Some input) bytes given old new before now none far = answered_all input bytes given old new before now none far
+
+-- ---- a page that is called damaged
+
+module _ (input : List ℕ) (r r' : Reading) (left left' line : Option (List ℕ)) (gives : Gives r r' left left' line) (old mid : Watched) (before between now : Option (List ℕ)) (is_told : Type 0) (count : ℕ) (image : Image) (page : ℕ)
+    (blames : BlamesFirst MayAnswerLive followed_after Blames (unless_empty line) mid between now is_told count image page) (g : Answered input (unread r left) r.given old mid before between) where
+  blamed_line : BlamesFirst MayAnswerLive followed_after Blames (told input) old before now is_told count image page
+  blamed_line =
+      let passed = passes input g.front g.rest r r' left left' line g.told_rest g.counted g.begins gives in
+      let later = after_first is_line_feed g.rest in
+      let parts : told input ≡ told g.front ++ (unless_empty line ++ told later) =
+      ap told g.begins.split ∙ told_behind g.front g.rest passed.whole ∙ ap (λ l. told g.front ++ filter says l) passed.lines_are ∙ ap (λ l. told g.front ++ l) (filter-append says (line ∷ []) (lines later)) in
+      let L : List (Option (List ℕ)) → Type 0 = λ l. BlamesFirst MayAnswerLive followed_after Blames l old before now is_told count image page in
+      subst L (sym parts) (blames_behind MayAnswerLive followed_after Blames is_told count image page (told g.front) (unless_empty line ++ told later) old mid before between now g.sends
+      (blames_before MayAnswerLive followed_after Blames is_told count image page (unless_empty line) (told later) mid between now blames))
+
+pub far_blamed : (o : Option (List ℕ)) (r r' : Reading) (left left' line : Option (List ℕ)) → Gives r r' left left' line → (old mid : Watched) (before between now : Option (List ℕ)) (is_told : Type 0) (count : ℕ) (image : Image) (e : End)
+    → OfDamaged (BlamesFirst MayAnswerLive followed_after Blames (unless_empty line) mid between now is_told count image) e → FarAnswered o (unread r left) r.given old mid before between
+    → OfDamaged (λ page. IfSome o (λ input. BlamesFirst MayAnswerLive followed_after Blames (told input) old before now is_told count image page)) e
+far_blamed None r r' left left' line gives old mid before between now is_told count image (ends.DamagedPage page) blames far = tt
+far_blamed (Some input) r r' left left' line gives old mid before between now is_told count image (ends.DamagedPage page) blames far =
+    blamed_line input r r' left left' line gives old mid before between now is_told count image page blames far
+far_blamed o r r' left left' line gives old mid before between now is_told count image e blames far = tt

@@ -31,6 +31,7 @@ use Rattle.store_commands.specs.Status.{opening_end}
 use Rattle.store_commands.specs.Traffic.{IsLong, Traffic, WasRead}
 use Rattle.hosted_lines.specs.Doing.{Goes, IsCause}
 use Rattle.hosted_lines.specs.Begun.{begun_live}
+use Rattle.hosted_lines.specs.Blaming.{OfDamaged}
 use Rattle.hosted_lines.proofs.DiskSides.{disk_side}
 use Rattle.live_command.specs.Ended.{IsLiveCause, LeavesLived, LiveEnds, ReadsFrom, ReadsLiving, SyncsLiving}
 use Rattle.live_command.specs.Ending.{IsServeCause, Served}
@@ -302,3 +303,10 @@ opening_done (opening.TooSmall blocks) is = cc
 opening_done (opening.Damaged block) is = cc
 opening_done opening.DiskFault is = cc
 opening_done opening.NoMemory is = cc
+
+-- nor was a page of a store called damaged
+pub opening_unblamed : (cause : OpeningCause) (end : End) (IsSo : ℕ → Type 0) → end ≡ opening_end cause → OfDamaged IsSo end
+opening_unblamed (opening.TooSmall blocks) end IsSo is = let E : End → Type 0 = OfDamaged IsSo in subst E (sym is) tt
+opening_unblamed (opening.Damaged block) end IsSo is = let E : End → Type 0 = OfDamaged IsSo in subst E (sym is) tt
+opening_unblamed opening.DiskFault end IsSo is = let E : End → Type 0 = OfDamaged IsSo in subst E (sym is) tt
+opening_unblamed opening.NoMemory end IsSo is = let E : End → Type 0 = OfDamaged IsSo in subst E (sym is) tt

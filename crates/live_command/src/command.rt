@@ -1,9 +1,12 @@
 //! The command `live`: the lines of the input are answered over the store of a disk, and pushes are made behind edits.
 ghost use Rattle.std.specs.Prelude.{◌≡◌, [], IfSome};
+ghost use Rattle.chart_service.specs.Blaming.{Blames};
 ghost use Rattle.chart_service.specs.Shown as shown;
 ghost use Rattle.chart_world.specs.Faults.{CountsFault};
+ghost use Rattle.gate_pages.specs.Journal.{page_count};
 ghost use Rattle.gate_pages.specs.Shown.{AreSound, count, disk};
 ghost use Rattle.hosted_lines.specs.Answers.{SendsAnswers};
+ghost use Rattle.hosted_lines.specs.Blaming.{BlamesOnDisk};
 ghost use Rattle.live_service.specs.Pushing.{followed_after};
 ghost use Rattle.live_service.specs.Kinds.{MayAnswerLive};
 ghost use Rattle.run_ends.specs.Faults.{end_fault};
@@ -33,6 +36,8 @@ pub fn live<W: World>(alloc: Global, world: W) -> (End, W)
     ensures ends { LiveEnds (W.view world) (W.view result.1) (traffic W.left W.sent W.read_faults W.send_faults world result.1) result.0 }
     // whatever the disk holds, at the end each line of the input was answered, and all other frames are pushes
     ensures answers { result.0 ≡ End.Done → IfSome (W.left world) (λ input. SendsAnswers MayAnswerLive followed_after input (W.sent world) (W.sent result.1)) }
+    // and a page of an open store that is called damaged is so for the line behind the answered ones, or for a push
+    ensures blames { BlamesOnDisk MayAnswerLive followed_after Blames (page_count (W.view world).size) (W.view result.1) (W.left world) (W.sent world) (W.sent result.1) result.0 }
     // blocks are read by the opening, the lines and the pushes alone
     ensures reads { IfSome (W.left world) (λ input. ReadsLiving (W.view world) (W.view result.1) input) }
     // and it is synced by the opening, and for edits alone
@@ -52,6 +57,7 @@ fn serve_store<W: World>(alloc: Global, store: Store<GatePages<W>>) -> (End, W)
     requires { AreSound (stored.pages store) }
     ensures serves { let at = stored.pages store in Served (count at) (W.view (disk at)) (W.view result.1) (traffic W.left W.sent W.read_faults W.send_faults (disk at) result.1) result.0 }
     ensures answers { result.0 ≡ End.Done → IfSome (W.left (disk (stored.pages store))) (λ input. SendsAnswers MayAnswerLive followed_after input (W.sent (disk (stored.pages store))) (W.sent result.1)) }
+    ensures blames { let at = stored.pages store in BlamesOnDisk MayAnswerLive followed_after Blames (count at) (W.view result.1) (W.left (disk at)) (W.sent (disk at)) (W.sent result.1) result.0 }
     ensures faults { CountsFault (end_fault result.0) (W.view (disk (stored.pages store))) (W.view result.1) }
     ensures reads { let pages = stored.pages store in IfSome (W.left (disk pages)) (λ input. ReadsFrom (count pages) (W.view (disk pages)) (W.view result.1) input (W.view (disk pages)).reads) }
     ensures syncs { let pages = stored.pages store in IfSome (W.left (disk pages)) (λ input. SyncsLines input (W.view (disk pages)).syncs (W.view result.1).syncs) }
@@ -68,6 +74,7 @@ fn serve_service<W: World>(alloc: Global, service: Service<GatePages<W>>) -> (En
     requires alone { shown.sessions service ≡ [] }
     ensures serves { let at = shown.pages service in Served (count at) (W.view (disk at)) (W.view result.1) (traffic W.left W.sent W.read_faults W.send_faults (disk at) result.1) result.0 }
     ensures answers { result.0 ≡ End.Done → IfSome (W.left (disk (shown.pages service))) (λ input. SendsAnswers MayAnswerLive followed_after input (W.sent (disk (shown.pages service))) (W.sent result.1)) }
+    ensures blames { let at = shown.pages service in BlamesOnDisk MayAnswerLive followed_after Blames (count at) (W.view result.1) (W.left (disk at)) (W.sent (disk at)) (W.sent result.1) result.0 }
     ensures faults { CountsFault (end_fault result.0) (W.view (disk (shown.pages service))) (W.view result.1) }
     ensures reads { let pages = shown.pages service in IfSome (W.left (disk pages)) (λ input. ReadsFrom (count pages) (W.view (disk pages)) (W.view result.1) input (W.view (disk pages)).reads) }
     ensures syncs { let pages = shown.pages service in IfSome (W.left (disk pages)) (λ input. SyncsLines input (W.view (disk pages)).syncs (W.view result.1).syncs) }

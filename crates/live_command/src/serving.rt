@@ -12,7 +12,7 @@ ghost use Rattle.hosted_lines.specs.Answers.{SendsFor};
 ghost use Rattle.hosted_lines.specs.Doing.{Goes, IsCause, side_of};
 ghost use Rattle.live_command.specs.Syncs.{SyncsLines};
 ghost use Rattle.hosted_lines.specs.Shown.{HoldsSound, pages};
-ghost use Rattle.live_command.specs.Shown.{AreAnswered, EndsOn, LastsFor, ReadsFew};
+ghost use Rattle.live_command.specs.Shown.{AreAnswered, BlamesOn, EndsOn, LastsFor, ReadsFew};
 
 use chart_world::{LineAnswer, Lines};
 use gate_pages::PageWorld;
@@ -38,6 +38,8 @@ pub fn serve_live<P: PageWorld>(alloc: Global, live: &mut Live<ServiceStepper<P>
     // the disk is synced for edits alone, at most four times for each
     ensures syncs { IfSome (P.left (pages live.old)) (λ input. SyncsLines input (its.view live.old).syncs (its.view live.new).syncs) }
     // whatever the pages are
+    // a page that is called damaged is so for the line behind the answered ones, or for a push
+    ensures blames { BlamesOn P.Streams live.old live.new result }
     // each frame names sessions that are open by those before it, and after `Done` one answers each line; the others are pushes
     ensures answers { result ≡ End.Done → IfSome (P.left (pages live.old)) (λ input. SendsFor P.Streams MayAnswerLive followed_after (told input) live.old live.new) }
     ensures whole { result ≡ End.Done → IsReadUp (P.left (pages live.old)) (P.left (pages live.new)) }
@@ -72,6 +74,7 @@ fn answer_lines<P: PageWorld>(
     ensures crash { its.ForBook live.old (λ total book. LastsFor P.Streams total book live.old live.new) }
     ensures reads { its.ForBook live.old (λ total book. ReadsFew P.Streams total book live.old live.new) }
     ensures syncs { IfSome (P.left (pages live.old)) (λ input. SyncsLines input (its.view live.old).syncs (its.view live.new).syncs) }
+    ensures blames { IfErr result (BlamesOn P.Streams live.old live.new) }
     ensures answers { OnOk result (IfSome (P.left (pages live.old)) (λ input. SendsFor P.Streams MayAnswerLive followed_after (told input) live.old live.new)) }
     ensures whole { OnOk result (IsReadUp (P.left (pages live.old)) (P.left (pages live.new))) }
     ensures long { result ≡ Err End.InputTooLong → IfSome (P.left (pages live.old)) (λ input. 2 ^ 32 < length input) }

@@ -1,15 +1,17 @@
 -- What is said of a live service's calls, by the relations of its stepper.
-use Rattle.std.proofs.Common.{◌≡◌, ℕ, true, false, List, [], ◌∷◌, IsTrue, Option, None, Some, Result, Ok, Err, IfOk, IfErr, refl, sym, ap, ◌∙◌, subst, inr, arith}
-use Rattle.std.specs.Prelude.{IfNone, IfSome, is_some, ◌<◌, length, ◌↔◌}
+use Rattle.std.proofs.Common.{◌≡◌, ℕ, Bool, true, false, List, [], ◌∷◌, IsTrue, Option, None, Some, Result, Ok, Err, IfOk, IfErr, refl, sym, ap, ◌∙◌, subst, inr, arith}
+use Rattle.std.specs.Prelude.{Contains, IfNone, IfSome, is_some, ◌<◌, length, ◌↔◌}
 use Rattle.block_disk.specs.Counts.{HasRisen}
 use Rattle.block_disk.specs.View.{Now, Passes}
 use Rattle.block_disk.specs.declared.streams.Streams.{Ghosts as StreamGhosts}
 use Rattle.block_disk.proofs.Passing.{passes_none}
 use Rattle.chart_frames.specs.declared.frame.Frame.{Frame}
+use Rattle.chart_frames.specs.declared.frame.Frame.TheVariants.{Refused, Live as LiveOf}
 use Rattle.chart_frames.specs.Frames.{Fits}
 use Rattle.chart_service.proofs.LookLemmas.{unchanged_so}
-use Rattle.chart_service.specs.Called.{AnswersSo, CommitsOnly, IsCause}
+use Rattle.chart_service.specs.Called.{AnswersSo, CommitsOnly, IsCause, LineBlamed, RequestBlamed}
 use Rattle.chart_service.specs.Faulting.{step_fault}
+use Rattle.chart_service.specs.LastShown.{LastsBy, OfRowsLine}
 use Rattle.chart_service.specs.Opening.{OpensBy}
 use Rattle.chart_service.specs.ReadingBlocks.{ReadsLine}
 use Rattle.chart_service.specs.Replies.{line_text, own_zoom}
@@ -17,12 +19,13 @@ use Rattle.chart_service.specs.Shown as shown
 use Rattle.chart_service.specs.Stepping.{NamesBad, IsOutside, ReadsFew, RepliedTo, Steps, state_of}
 use Rattle.chart_service.specs.Syncing.{edit_of}
 use Rattle.chart_service.specs.declared.failure.ServiceError.{ServiceError}
-use Rattle.chart_service.specs.declared.failure.ServiceError.TheVariants.{DiskFault, NoMemory}
+use Rattle.chart_service.specs.declared.failure.ServiceError.TheVariants.{DiskFault, Damaged, NoMemory}
 use Rattle.chart_service.specs.declared.service.Service.{Service}
 use Rattle.chart_world.specs.Faults.{CountsFault, fault_in}
 use Rattle.gate_pages.specs.GateLaws.{goes_none}
 use Rattle.gate_pages.specs.Pages.{GoesOn, Quiet}
 use Rattle.gate_pages.specs.declared.pages.Pages.{Ghosts}
+use Rattle.live_service.specs.Blaming.{PushBlamed}
 use Rattle.live_service.specs.Kinds.{MayAnswerAsked, MayAnswerLive, MayFollow, MayPush}
 use Rattle.live_service.specs.LiveReplies.{LiveReplied, Pushed, ReadsPush, changed_in}
 use Rattle.live_service.specs.Shown as its
@@ -105,6 +108,20 @@ last_there : (o : Option ViewSpec) → is_some o ≡ true → (last : ViewSpec) 
 last_there None there = cc
 last_there (Some last) there = (last, refl)
 
+-- a frame that tells of a following, or refuses, leaves the last views
+follow_leaves : (IsOfRows : (ℕ → Type 0) → ℕ → Type 0) (n : ℕ) (on : Bool) (frame : Frame) (sessions : List Session) → MayFollow n on frame → LastsBy IsOfRows frame sessions sessions
+follow_leaves IsOfRows n on (Refused number a b) sessions may = λ m id last. last
+follow_leaves IsOfRows n on (LiveOf session now) sessions may = λ m id last. last
+follow_leaves IsOfRows n on frame sessions may = absurd may
+
+own_leaves : (IsOfRows : (ℕ → Type 0) → ℕ → Type 0) (asked : LiveLine) (line : List ℕ) (frame : Frame) (sessions : List Session) → (Other ≡ asked → ⊥) → MayAnswerAsked asked line frame
+    → LastsBy IsOfRows frame sessions sessions
+own_leaves IsOfRows (Follow n) line frame sessions other may = follow_leaves IsOfRows n true frame sessions may
+own_leaves IsOfRows (Unfollow n) line frame sessions other may = follow_leaves IsOfRows n false frame sessions may
+own_leaves IsOfRows (Bad at) line frame sessions other may =
+    let F : Frame → Type 0 = λ f. LastsBy IsOfRows f sessions sessions in subst F (sym may) (λ m id last. last)
+own_leaves IsOfRows Other line frame sessions other may = absurd (other refl)
+
 -- what the relations of the stepper say
 pub record Means {P : Type 0} {g : Ghosts P} (h : StepperGhosts (ServiceStepper P g) ServiceError) : Type 0 where
   pub answers : (old : ServiceStepper P g) (line : List ℕ) (r : Result Frame ServiceError) (new : ServiceStepper P g) → h.replies old line r new → AnswersLine line r old.service new.service
@@ -121,6 +138,8 @@ module _ {P : Type 0} {g : Ghosts P} {h : StepperGhosts (ServiceStepper P g) Ser
     pub reads : its.ForBook old (λ total book. its.ReadsFewFor (line_text line) total book old new)
     pub may : IfOk result (λ frame. MayAnswerLive (line_text line) frame)
     pub opens : IfOk result (λ frame. OpensBy frame (shown.sessions (its.service old)) (shown.sessions (its.service new)))
+    pub lasts : IfOk result (λ frame. LastsBy (OfRowsLine (line_text line)) frame (shown.sessions (its.service old)) (shown.sessions (its.service new)))
+    pub blames : IfErr result (LineBlamed (line_text line) (its.service old) (its.service new))
     pub unchanged : CommitsOnly result (its.service old) (its.service new)
     pub idle : edit_of (line_text line) ≡ [] → IsUnchanged (shown.IsTold (its.service old)) (its.view old) (its.view new)
     pub disk : result ≡ Err DiskFault → HasRisen (its.view old).faults (its.view new).faults
@@ -147,6 +166,7 @@ module _ {P : Type 0} {g : Ghosts P} {h : StepperGhosts (ServiceStepper P g) Ser
   own_facts line frame reply asked old new is other same may opens replied =
       let rest = rests_so old new same in
       let O : ServiceStepper P g → Type 0 = λ s. OpensBy frame old.stepper.service.sessions s.service.sessions in
+      let L : ServiceStepper P g → Type 0 = λ s. LastsBy (OfRowsLine (line_text line)) frame old.stepper.service.sessions s.service.sessions in
       record {
         reply = λ total book told stands. record { book = book; stands = stands_so old new total book same stands; so = replied total book };
         standing = λ total book told stands. tt;
@@ -156,6 +176,8 @@ module _ {P : Type 0} {g : Ghosts P} {h : StepperGhosts (ServiceStepper P g) Ser
         reads = λ total book told stands. unread_so line old new total book same;
         may = may_own line asked frame is other may;
         opens = subst O (sym same) opens;
+        lasts = subst L (sym same) (own_leaves (OfRowsLine (line_text line)) asked line frame old.stepper.service.sessions other may);
+        blames = tt;
         unchanged = unchanged_so (Ok frame) _ _ _ rest.unchanged;
         idle = λ none. rest.unchanged;
         disk = λ is. absurd (never_fails Frame frame DiskFault is);
@@ -190,6 +212,8 @@ module _ {P : Type 0} {g : Ghosts P} {h : StepperGhosts (ServiceStepper P g) Ser
         reads = answers.reads;
         may = may_other line frame asked answers.may;
         opens = answers.opens;
+        lasts = answers.lasts;
+        blames = tt;
         unchanged = answers.unchanged;
         idle = answers.idle;
         disk = answers.disk;
@@ -252,6 +276,8 @@ module _ {P : Type 0} {g : Ghosts P} {h : StepperGhosts (ServiceStepper P g) Ser
         reads = answers.reads;
         may = tt;
         opens = tt;
+        lasts = tt;
+        blames = answers.blames;
         unchanged = answers.unchanged;
         idle = answers.idle;
         disk = answers.disk;
@@ -275,6 +301,8 @@ module _ {P : Type 0} {g : Ghosts P} {h : StepperGhosts (ServiceStepper P g) Ser
         reads = λ total book told stands. unread_so line old new total book stays.stepper;
         may = tt;
         opens = tt;
+        lasts = tt;
+        blames = tt;
         unchanged = unchanged_so (Err NoMemory) _ _ _ rest.unchanged;
         idle = λ none. rest.unchanged;
         disk = λ is. absurd (lacks_no_disk Frame is);
@@ -294,6 +322,8 @@ module _ {P : Type 0} {g : Ghosts P} {h : StepperGhosts (ServiceStepper P g) Ser
     pub reads : its.ForBook old (λ total book. its.ReadsNext total book old new)
     pub may : IfOk result (λ some. IfSome some MayPush)
     pub opens : IfOk result (λ some. IfSome some (λ frame. OpensBy frame (shown.sessions (its.service old)) (shown.sessions (its.service new))))
+    pub lasts : IfOk result (λ some. IfSome some (λ frame. LastsBy (λ was. was) frame (shown.sessions (its.service old)) (shown.sessions (its.service new))))
+    pub blames : IfErr result (PushBlamed old new)
     pub moments : shown.PassesTo (Now (its.view old)) (its.service old) (its.service new)
     pub unchanged : IsUnchanged (shown.IsTold (its.service old)) (its.view old) (its.view new)
     pub disk : result ≡ Err DiskFault → HasRisen (its.view old).faults (its.view new).faults
@@ -312,6 +342,8 @@ module _ {P : Type 0} {g : Ghosts P} {h : StepperGhosts (ServiceStepper P g) Ser
         fewer = tt;
         may = tt;
         opens = tt;
+        lasts = tt;
+        blames = tt;
         standing = λ total book told stands. tt;
         reads = λ total book told stands.
             let Q : ServiceStepper P g → Type 0 = λ s. ReadsPush old.pending.items (shown.state old.stepper.service total book) (its.view old).reads (shown.view s.service).reads in
@@ -373,6 +405,8 @@ module _ {P : Type 0} {g : Ghosts P} {h : StepperGhosts (ServiceStepper P g) Ser
         reads = push_reads m (Ok frame) old new pushes.repeated;
         may = may_push session frame repeats.may;
         opens = repeats.opens;
+        lasts = repeats.lasts;
+        blames = tt;
         moments = repeats.moments;
         unchanged = repeats.idle;
         disk = λ is. absurd (never_fails (Option Frame) (Some frame) DiskFault is);
@@ -383,6 +417,13 @@ module _ {P : Type 0} {g : Ghosts P} {h : StepperGhosts (ServiceStepper P g) Ser
         total = repeats.total;
       }
 
+  -- it failed at a page
+  push_blames : (error : ServiceError) (old new : Live (ServiceStepper P g) ServiceError h streams) (session : ℕ) → Contains old.followed.items session → (last : ViewSpec)
+      → RequestBlamed (own_zoom session last) old.stepper.service new.stepper.service error → PushBlamed old new error
+  push_blames DiskFault old new session among last blamed = tt
+  push_blames (Damaged page) old new session among last blamed = record { session = session; among = among; within = blamed.within; found = blamed.found }
+  push_blames NoMemory old new session among last blamed = tt
+
   -- it failed
   pub push_failed : Means h → (error : ServiceError) (old new : Live (ServiceStepper P g) ServiceError h streams) → follows.FailsToPush error old new → PushFacts (Err error) old new
   push_failed m error old new fails =
@@ -390,11 +431,14 @@ module _ {P : Type 0} {g : Ghosts P} {h : StepperGhosts (ServiceStepper P g) Ser
       let repeats = m.repeats old.stepper session (Err error) new.stepper fails.repeated.repeat in
       let viewed = pending_view m old session new.pending.items fails.repeated.first in
       let C : Option ViewSpec → Type 0 = λ o. IfSome o (λ last. IsCause (own_zoom session last) old.stepper.service new.stepper.service error) in
+      let B : Option ViewSpec → Type 0 = λ o. IfSome o (λ last. RequestBlamed (own_zoom session last) old.stepper.service new.stepper.service error) in
       record {
         reply = λ total book told stands. tt;
         fewer = tt;
         may = tt;
         opens = tt;
+        lasts = tt;
+        blames = push_blames error old new session fails.among viewed.0 (subst B viewed.1 repeats.blames);
         standing = repeats.standing;
         reads = push_reads m (Err error) old new fails.repeated;
         moments = repeats.moments;

@@ -2,6 +2,7 @@ pub mod Steps
 pub mod LiveReplies
 pub mod Following
 pub mod Shown
+pub mod Blaming
 pub mod Kinds
 pub mod Pushing
 pub mod Laws

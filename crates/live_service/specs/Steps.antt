@@ -9,9 +9,10 @@ use Rattle.series_store.specs.Results.{IsUnchanged}
 use Rattle.chart_service.specs.Alone.{session_named}
 use Rattle.chart_world.specs.Faults.{CountsFault, fault_in}
 use Rattle.chart_service.specs.Faulting.{step_fault}
-use Rattle.chart_service.specs.Called.{AnswersSo, CommitsOnly, ForLast, IsCause, IsCauseOfLine, ReadsFewFor}
+use Rattle.chart_service.specs.Called.{AnswersSo, CommitsOnly, ForLast, IsCause, IsCauseOfLine, LineBlamed, ReadsFewFor, RequestBlamed}
 use Rattle.chart_service.specs.EditGroups.{AnswersSome, IsEditReply, RepliesToEdits}
 use Rattle.chart_service.specs.Kinds.{MayAnswerLine, MayShow}
+use Rattle.chart_service.specs.LastShown.{LastsBy, OfRowsLine}
 use Rattle.chart_service.specs.Opening.{OpensBy, LosesAtMost}
 use Rattle.chart_service.specs.Replies.{Replied, line_text, own_zoom}
 use Rattle.chart_service.specs.Shown as shown
@@ -32,9 +33,11 @@ module _ {P : Type 0} {g : Ghosts P} where
     pub opens : IfOk result (λ frame. OpensBy frame (shown.sessions old) (shown.sessions new))
     pub sessions : OnErr result (LosesAtMost (session_named (line_text line)) (shown.sessions old) (shown.sessions new))
     pub may : IfOk result (λ frame. MayAnswerLine (line_text line) frame)
+    pub lasts : IfOk result (λ frame. LastsBy (OfRowsLine (line_text line)) frame (shown.sessions old) (shown.sessions new))
     pub unchanged : CommitsOnly result old new
     pub idle : edit_of (line_text line) ≡ [] → IsUnchanged (shown.IsTold old) (shown.view old) (shown.view new)
     pub cause : IfErr result (IsCauseOfLine (line_text line) old new)
+    pub blames : IfErr result (LineBlamed (line_text line) old new)
     pub disk : result ≡ Err DiskFault → HasRisen (shown.view old).faults (shown.view new).faults
     pub faults : CountsFault (fault_in step_fault result) (shown.view old) (shown.view new)
     pub bad : IfErr result (NamesBad (shown.IsTold new) (shown.view new).size (shown.image new))
@@ -51,8 +54,10 @@ module _ {P : Type 0} {g : Ghosts P} where
     pub opens : IfOk result (λ frame. OpensBy frame (shown.sessions old) (shown.sessions new))
     pub sessions : OnErr result (LosesAtMost (Some session) (shown.sessions old) (shown.sessions new))
     pub may : IfOk result (λ frame. MayShow session frame)
+    pub lasts : IfOk result (λ frame. LastsBy (λ was. was) frame (shown.sessions old) (shown.sessions new))
     pub idle : IsUnchanged (shown.IsTold old) (shown.view old) (shown.view new)
     pub cause : ForLast session old (λ last. IfErr result (IsCause (own_zoom session last) old new))
+    pub blames : ForLast session old (λ last. IfErr result (RequestBlamed (own_zoom session last) old new))
     pub faults : CountsFault (fault_in step_fault result) (shown.view old) (shown.view new)
     pub bad : IfErr result (NamesBad (shown.IsTold new) (shown.view new).size (shown.image new))
     pub steps : Steps (shown.IsTold old) (shown.IsTold new) (shown.view old) (shown.view new)

@@ -3,9 +3,10 @@ ghost use Rattle.std.specs.Prelude.{◌≡◌, ◌≢◌, ◌↔◌, ◌<◌, �
 ghost use Rattle.block_disk.specs.Counts.{HasRisen};
 ghost use Rattle.block_disk.specs.View.{Now};
 ghost use Rattle.chart_frames.specs.Frames.{Fits};
-ghost use Rattle.chart_service.specs.Called.{CommitsOnly};
+ghost use Rattle.chart_service.specs.Called.{CommitsOnly, LineBlamed};
 ghost use Rattle.chart_service.specs.EditGroups.{IsEditReply};
 ghost use Rattle.chart_service.specs.Faulting.{step_fault};
+ghost use Rattle.chart_service.specs.LastShown.{LastsBy, OfRowsLine};
 ghost use Rattle.chart_service.specs.Opening.{OpensBy};
 ghost use Rattle.chart_service.specs.Replies.{line_text};
 ghost use Rattle.chart_service.specs.Shown as shown;
@@ -14,6 +15,7 @@ ghost use Rattle.chart_service.specs.Serving.{most_ahead};
 ghost use Rattle.chart_service.specs.Syncing.{edit_of, group_syncs};
 ghost use Rattle.chart_world.specs.Faults.{CountsFault, fault_in};
 ghost use Rattle.gate_pages.specs.Pages.{GoesOn};
+ghost use Rattle.live_service.specs.Blaming.{PushBlamed};
 ghost use Rattle.live_service.specs.Kinds.{MayAnswerLive, MayPush};
 ghost use Rattle.live_service.specs.LiveReplies.{GroupReplied, LiveReplied, Pushed};
 ghost use Rattle.live_service.specs.Pushing.{followed_after};
@@ -50,6 +52,8 @@ pub fn step_line<P: PageWorld>(
     ensures may { IfOk result (λ frame. MayAnswerLive (line_text line.now) frame) }
     // the sessions are followed that the lines and their frames say
     ensures followed { IfOk result (λ frame. follows.followed live.new ≡ followed_after (line_text line.now) frame (follows.followed live.old)) }
+    // the last view of each session is of a series that the line and its frame show
+    ensures lasts { IfOk result (λ frame. LastsBy (OfRowsLine (line_text line.now)) frame (shown.sessions (its.service live.old)) (shown.sessions (its.service live.new))) }
     ensures opens { IfOk result (λ frame. OpensBy frame (shown.sessions (its.service live.old)) (shown.sessions (its.service live.new))) }
     ensures ended { IfErr result (λ error. follows.IsIdle live.new) }
     ensures unchanged { CommitsOnly result (its.service live.old) (its.service live.new) }
@@ -58,6 +62,8 @@ pub fn step_line<P: PageWorld>(
     ensures disk { result ≡ Err ServiceError.DiskFault → HasRisen (its.view live.old).faults (its.view live.new).faults }
     ensures faults { CountsFault (fault_in step_fault result) (its.view live.old) (its.view live.new) }
     ensures bad { IfErr result (NamesBad (shown.IsTold (its.service live.new)) (its.view live.new).size (its.view live.new).image) }
+    // a page that is called damaged is so for the line, by the series that the sessions show last
+    ensures blames { IfErr result (LineBlamed (line_text line.now) (its.service live.old) (its.service live.new)) }
     ensures steps { Steps (shown.IsTold (its.service live.old)) (shown.IsTold (its.service live.new)) (its.view live.old) (its.view live.new) }
     ensures goes_on { GoesOn (shown.under (its.service live.old)) (shown.under (its.service live.new)) }
     ensures sound { OnOk result (its.view live.new).fit }
@@ -129,11 +135,14 @@ pub fn push<P: PageWorld>(live: &mut Live<ServiceStepper<P>>) -> Result<Option<F
     ensures shows { IfOk result (λ some. IfSome some (ShowsOneOf (follows.followed live.old))) }
     ensures followed { OnOk result (follows.followed live.new ≡ follows.followed live.old) }
     ensures opens { IfOk result (λ some. IfSome some (λ frame. OpensBy frame (shown.sessions (its.service live.old)) (shown.sessions (its.service live.new)))) }
+    ensures lasts { IfOk result (λ some. IfSome some (λ frame. LastsBy (λ was. was) frame (shown.sessions (its.service live.old)) (shown.sessions (its.service live.new)))) }
     ensures moments { shown.PassesTo (Now (its.view live.old)) (its.service live.old) (its.service live.new) }
     ensures unchanged { IsUnchanged (shown.IsTold (its.service live.old)) (its.view live.old) (its.view live.new) }
     ensures disk { result ≡ Err ServiceError.DiskFault → HasRisen (its.view live.old).faults (its.view live.new).faults }
     ensures faults { CountsFault (fault_in step_fault result) (its.view live.old) (its.view live.new) }
     ensures bad { IfErr result (NamesBad (shown.IsTold (its.service live.new)) (its.view live.new).size (its.view live.new).image) }
+    // a page that is called damaged is one of the tree of the series that a followed session shows last
+    ensures blames { IfErr result (PushBlamed live.old live.new) }
     ensures steps { Steps (shown.IsTold (its.service live.old)) (shown.IsTold (its.service live.new)) (its.view live.old) (its.view live.new) }
     ensures goes_on { GoesOn (shown.under (its.service live.old)) (shown.under (its.service live.new)) }
     ensures sound { OnOk result (its.view live.new).fit }

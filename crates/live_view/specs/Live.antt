@@ -1,5 +1,5 @@
 -- What live views answer, and how they change, over the relations of what answers their lines.
-use Rattle.std.specs.Prelude.{ℕ, ◌≡◌, List, [], ◌∷◌, Option, Result, Ok, Err, refl}
+use Rattle.std.specs.Prelude.{ℕ, ◌≡◌, List, [], ◌∷◌, Contains, Option, Result, Ok, Err, refl}
 use Rattle.std.proofs.Common.{◌∙◌}
 use Rattle.block_disk.specs.declared.streams.Streams.{Ghosts as StreamGhosts}
 use Rattle.series_book.specs.declared.edits.Edit.{Edit}
@@ -122,9 +122,10 @@ module _ {S F : Type 0} {g : Ghosts S F} {streams : StreamGhosts S} where
     pub repeated : Repeats (Ok frame) old new
     pub followed_same : followed new ≡ followed old
 
-  -- it failed; sessions that were closed by it aren't followed any more
+  -- it failed, in a session that was followed; sessions that were closed by it aren't followed any more
   pub record FailsToPush (fault : F) (old new : Live S F g streams) : Type 0 where
     pub repeated : Repeats (Err fault) old new
+    pub among : Contains (followed old) repeated.session
     pub followed_now : followed new ≡ open_among (sessions new) (followed old)
 
   -- why a push isn't made: only what answers other lines fails

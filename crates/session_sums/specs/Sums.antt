@@ -26,6 +26,12 @@ use Rattle.series_pair.specs.Damage.{IsBadOnWay}
 abbrev pub refused : DeriveRefusal → Frame
 refused why = Refused (number_of why) 0 0
 
+-- whatever the pages are, it refuses, or tells rows in the session
+abbrev pub MayTellRows : ℕ → Frame → Type 0
+MayTellRows session (Refused number a b) = ⊤
+MayTellRows session (Rows rows) = rows.session ≡ session
+MayTellRows session frame = ⊥
+
 -- a frame of rows
 abbrev pub SumRows : RowsFrame → Frame
 SumRows frame = Rows frame

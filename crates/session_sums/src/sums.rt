@@ -2,7 +2,6 @@
 ghost use Rattle.std.specs.Prelude.{◌≡◌, List, All, IfErr, IfOk, IfSome};
 ghost use Rattle.chart_frames.specs.Frames.{Fits, IsSession};
 ghost use Rattle.chart_service.specs.Faulting.{step_fault};
-ghost use Rattle.chart_service.specs.Kinds.{MayShow as MayAnswerIn};
 ghost use Rattle.chart_service.specs.Stepping.{IsOutside};
 ghost use Rattle.chart_world.specs.Faults.{CountsFault, fault_in};
 ghost use Rattle.derive_command.specs.Requests.{IsFactor};
@@ -15,7 +14,7 @@ ghost use Rattle.retention.specs.Moving.{LooksOnly};
 ghost use Rattle.series_pair.specs.Derived.{MayShow};
 ghost use Rattle.series_store.specs.Shown as shown;
 ghost use Rattle.session_sums.specs.Costs.{ReadsAnswer};
-ghost use Rattle.session_sums.specs.Sums.{AnswersSum, IsSumCause, ShowsRows, SumRows, error_reply, refused};
+ghost use Rattle.session_sums.specs.Sums.{AnswersSum, IsSumCause, MayTellRows, ShowsRows, SumRows, error_reply, refused};
 
 use chart_frames::{Frame, RowsFrame};
 use chart_grid::Grid;
@@ -98,7 +97,7 @@ pub fn sum_frame<P: Pages>(
     ensures faults { CountsFault (fault_in step_fault result) (shown.view store.old) (shown.view store.new) }
     // whatever the pages are, the frame may be sent, and rows are in the session
     ensures fits { IfOk result Fits }
-    ensures may { IfOk result (MayAnswerIn session) }
+    ensures may { IfOk result (MayTellRows session) }
 {
     let asked = match asked_of(&*store, request) {
         Ok(asked) => asked,

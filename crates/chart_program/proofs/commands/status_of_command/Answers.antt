@@ -419,7 +419,7 @@ returns-in-Live-clause-does g c =
     let P : Command → Type 0 = λ command. Does command (course view s.left s.sent old new) c.status_of-in-Live.result in
     let end = c.live-end.result.0 in
     let e = c.live-end.ensures in
-    let did = of_live (view old) (view new) (traffic s.left s.sent s.read_faults s.send_faults old new) end e.ends e.away e.reads e.syncs e.answers in
+    let did = of_live (view old) (view new) (traffic s.left s.sent s.read_faults s.send_faults old new) end e.ends e.away e.reads e.syncs e.answers e.blames in
     subst P (sym c.in-Live.is) (end, c.status_of-in-Live.ensures.status, did)
 
 pub returns-in-Host-clause-does : goal.returns-in-Host-clause-does

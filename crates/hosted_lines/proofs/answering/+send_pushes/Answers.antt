@@ -10,6 +10,10 @@ use Rattle.live_service.specs.Kinds.{MayAnswerLive}
 use Rattle.hosted_lines.proofs.AnswersLemmas.{sends_none, sends_then}
 use Rattle.live_service.specs.Pushing.{followed_after}
 use Rattle.hosted_lines.specs.Answers.{watched}
+use Rattle.chart_service.specs.Blaming.{Blames}
+use Rattle.chart_service.specs.Shown as shown
+use Rattle.live_service.specs.Shown as its
+use Rattle.hosted_lines.proofs.BlameLemmas.{behind_blames}
 use Rattle.hosted_lines.proofs.answering.+send_pushes.Goals as goal
 
 pub returns-then-is_idle-clause-does : goal.returns-then-is_idle-clause-does
@@ -50,3 +54,12 @@ returns-in-Ok-clause-sends g t c =
     let new = c.send_pushes.new.live in
     sends_then MayAnswerLive followed_after c.send_pushes.result [] [] (watched old) (watched mid) (watched new) (sent (pages old)) (sent (pages mid)) (sent (pages new))
     c.in-Ok.ensures.sends c.send_pushes.ensures.sends
+
+pub returns-in-Ok-clause-blames : goal.returns-in-Ok-clause-blames
+returns-in-Ok-clause-blames g t c =
+    let sent = g.P.Streams.sent in
+    let old = c.args.live.now in
+    let mid = c.send_push.new.live in
+    let new = c.send_pushes.new.live in
+    behind_blames MayAnswerLive followed_after Blames (shown.IsTold (its.service new)) (its.view new).size (its.view new).image c.send_pushes.result [] [] (watched old) (watched mid) (sent (pages old)) (sent (pages mid)) (sent (pages new))
+    c.in-Ok.ensures.sends c.send_pushes.ensures.blames

@@ -1,4 +1,4 @@
-use Rattle.std.proofs.Common.{◌≡◌, ◌∙◌, [], ◌∷◌, List, Option, Some, length, ap, sym, subst, arith, ℕ}
+use Rattle.std.proofs.Common.{◌≡◌, ◌∙◌, [], ◌∷◌, List, Option, Some, length, ap, sym, subst, inl, arith, ℕ}
 use Rattle.block_disk.specs.View.{Beside}
 use Rattle.chart_frames.specs.Frames.{spelling}
 use Rattle.chart_frames.specs.declared.frame.Frame.{Frame}
@@ -24,6 +24,12 @@ use Rattle.hosted_lines.proofs.AnswersLemmas.{sends_answer, watched_same}
 use Rattle.live_service.specs.Pushing.{followed_after}
 use Rattle.hosted_lines.specs.Answers.{watched}
 use Rattle.live_view.specs.Live as follows
+use Rattle.live_service.specs.Shown as its
+use Rattle.chart_service.specs.Shown as shown
+use Rattle.chart_service.specs.Blaming.{Blames}
+use Rattle.chart_service.specs.Called.{LineBlamed}
+use Rattle.chart_service.specs.LastShown.{LastsBy, OfRowsLine}
+use Rattle.hosted_lines.proofs.BlameLemmas.{blames_now, step_damaged, unsent_blames}
 use Rattle.hosted_lines.proofs.answering.answer_frame.Goals as goal
 
 pub returns-in-Ok-clause-does : goal.returns-in-Ok-clause-does
@@ -141,6 +147,23 @@ returns-in-Ok-clause-sends g c =
     let text = c.args.line.now in
     let L : Option (List ℕ) → Type 0 = λ l. MayAnswerLive l c.in-Ok.frame in
     let F : Option (List ℕ) → Type 0 = λ l. follows.followed mid ≡ followed_after l c.in-Ok.frame (follows.followed old) in
+    let W : Option (List ℕ) → Type 0 = λ l. LastsBy (OfRowsLine l) c.in-Ok.frame (watched old).sessions (watched mid).sessions in
     sends_answer MayAnswerLive followed_after c.send_frame.result c.in-Ok.frame (watched old) (watched mid) (watched new) (sent (pages old)) (sent (pages mid)) (sent (pages new)) e.fits
     e.opens (watched_same (watched new) (watched mid) made.beside.changed.sessions made.beside.followed_same) (sym (w.beside_sent (pages mid)) ∙ ap (λ (b : Beside). b.sent) e.steps.beside ∙ w.beside_sent (pages old)) made.whole (Some text) (subst L (text_is text c.requires.short) e.may)
-    (subst F (text_is text c.requires.short) e.followed)
+    (subst F (text_is text c.requires.short) e.followed) (subst W (text_is text c.requires.short) e.lasts)
+
+pub returns-in-Ok-clause-blames : goal.returns-in-Ok-clause-blames
+returns-in-Ok-clause-blames g c = unsent_blames c.send_frame.result c.in-Ok.frame _ _ _ c.send_frame.ensures.stops
+
+pub returns-in-Err-clause-blames : goal.returns-in-Err-clause-blames
+returns-in-Err-clause-blames g c =
+    let sent = g.P.Streams.sent in
+    let w = g.met.P.PageWorld in
+    let old = c.args.live.now in
+    let mid = c.step_line.new.live in
+    let e = c.in-Err.ensures in
+    let text = c.args.line.now in
+    let L : Option (List ℕ) → Type 0 = λ l. LineBlamed l (its.service old) (its.service mid) c.in-Err.error in
+    let unsent : sent (pages mid) ≡ sent (pages old) = sym (w.beside_sent (pages mid)) ∙ ap (λ (b : Beside). b.sent) e.steps.beside ∙ w.beside_sent (pages old) in
+    step_damaged c.in-Err.error c.step_end.result _ (LineBlamed (Some text) (its.service old) (its.service mid)) c.step_end.ensures (subst L (text_is text c.requires.short) e.blames)
+    (λ page blames. blames_now MayAnswerLive followed_after Blames (shown.IsTold (its.service mid)) (its.view mid).size (its.view mid).image page (Some text ∷ []) (watched old) (sent (pages old)) (sent (pages mid)) unsent (inl blames))

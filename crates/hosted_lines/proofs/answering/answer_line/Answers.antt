@@ -1,9 +1,14 @@
-use Rattle.std.proofs.Common.{◌≡◌, ◌<◌, [], ◌∷◌, Some, length, refl, arith, ℕ, List, Option, sym, subst}
+use Rattle.std.specs.Prelude.{⊤}
+use Rattle.std.proofs.Common.{◌≡◌, ◌<◌, [], ◌∷◌, Some, Result, Err, length, refl, arith, ℕ, List, Option, sym, subst}
 use Rattle.std.proofs.lemmas.Grind.{common_steps}
 use Rattle.chart_service.specs.Serving.{unless_empty}
 use Rattle.chart_service.specs.Syncing.{edits_of}
 use Rattle.hosted_lines.proofs.SyncLemmas.{none_syncs, text_syncs}
 use Rattle.hosted_lines.specs.Answers.{Sends, watched}
+use Rattle.chart_service.specs.Blaming.{Blames}
+use Rattle.chart_service.specs.Shown as shown
+use Rattle.live_service.specs.Shown as its
+use Rattle.hosted_lines.proofs.BlameLemmas.{behind_blames, lines_blame}
 use Rattle.hosted_lines.specs.Doing.{held_by, held_with}
 use Rattle.hosted_lines.specs.Shown.{pages}
 use Rattle.hosted_lines.proofs.LineLemmas.{line_empty, line_some, then_does}
@@ -93,3 +98,27 @@ returns-in-Ok-clause-sends g c =
     let behind = watched new in
     sends_so MayAnswerLive followed_after c.send_pushes.result (Some text ∷ []) (unless_empty (Some text)) own behind (sent (pages old)) (sent (pages new)) (sym (said (Some text) (says_text text some)))
     (sends_then MayAnswerLive followed_after c.send_pushes.result (Some text ∷ []) [] own (watched mid) behind (sent (pages old)) (sent (pages mid)) (sent (pages new)) c.in-Ok.ensures.sends c.send_pushes.ensures.sends)
+
+pub returns-in-Ok-clause-blames : goal.returns-in-Ok-clause-blames
+returns-in-Ok-clause-blames g c =
+    let sent = g.P.Streams.sent in
+    let old = c.args.live.now in
+    let mid = c.answer_frame.new.live in
+    let new = c.send_pushes.new.live in
+    let text = c.args.line.now in
+    let some : 0 < length c.args.line.now = grind (arith, common_steps) in
+    lines_blame MayAnswerLive followed_after Blames (shown.IsTold (its.service new)) (its.view new).size (its.view new).image c.send_pushes.result (Some text ∷ []) (unless_empty (Some text)) (watched old) (sent (pages old)) (sent (pages new))
+    (sym (said (Some text) (says_text text some)))
+    (behind_blames MayAnswerLive followed_after Blames (shown.IsTold (its.service new)) (its.view new).size (its.view new).image c.send_pushes.result (Some text ∷ []) [] (watched old) (watched mid) (sent (pages old)) (sent (pages mid)) (sent (pages new))
+    c.in-Ok.ensures.sends c.send_pushes.ensures.blames)
+
+pub returns-in-Err-clause-blames : goal.returns-in-Err-clause-blames
+returns-in-Err-clause-blames g c =
+    let sent = g.P.Streams.sent in
+    let old = c.args.live.now in
+    let new = c.answer_frame.new.live in
+    let text = c.args.line.now in
+    let some : 0 < length c.args.line.now = grind (arith, common_steps) in
+    let failed : Result ⊤ _ = Err c.in-Err.end in
+    lines_blame MayAnswerLive followed_after Blames (shown.IsTold (its.service new)) (its.view new).size (its.view new).image failed (Some text ∷ []) (unless_empty (Some text)) (watched old) (sent (pages old)) (sent (pages new))
+    (sym (said (Some text) (says_text text some))) c.in-Err.ensures.blames

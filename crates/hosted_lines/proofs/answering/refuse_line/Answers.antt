@@ -12,7 +12,9 @@ use Rattle.chart_service.specs.Opening.{OpensBy}
 use Rattle.live_service.specs.Kinds.{MayAnswerLive}
 use Rattle.live_service.proofs.KindLemmas.{refused_stays}
 use Rattle.series_book.specs.declared.refusals.Refusal.TheVariants.{LineTooLong}
+use Rattle.chart_service.specs.LastShown.{LastsBy, OfRowsLine}
 use Rattle.hosted_lines.proofs.AnswersLemmas.{sends_answer, watched_same}
+use Rattle.hosted_lines.proofs.BlameLemmas.{unsent_blames}
 use Rattle.live_service.specs.Pushing.{followed_after}
 use Rattle.hosted_lines.specs.Answers.{watched}
 use Rattle.hosted_lines.proofs.answering.refuse_line.Goals as goal
@@ -52,5 +54,9 @@ returns-clause-sends g c =
     let own = watched old in
     let made = c.send_frame.ensures in
     let O : Frame → Type 0 = λ f. OpensBy f own.sessions own.sessions in
+    let L : Frame → Type 0 = λ f. LastsBy (OfRowsLine None) f own.sessions own.sessions in
     sends_answer MayAnswerLive followed_after c.send_frame.result frame own own (watched new) (sent (pages old)) (sent (pages old)) (sent (pages new)) c.refused.ensures.fits
-    (subst O (sym c.refused.ensures.frame) (refused_stays LineTooLong own.sessions)) (watched_same (watched new) own made.beside.changed.sessions made.beside.followed_same) refl made.whole None c.refused.ensures.frame refl
+    (subst O (sym c.refused.ensures.frame) (refused_stays LineTooLong own.sessions)) (watched_same (watched new) own made.beside.changed.sessions made.beside.followed_same) refl made.whole None c.refused.ensures.frame refl (subst L (sym c.refused.ensures.frame) (λ n id last. last))
+
+pub returns-clause-blames : goal.returns-clause-blames
+returns-clause-blames g c = unsent_blames c.send_frame.result c.refused.result _ _ _ c.send_frame.ensures.stops

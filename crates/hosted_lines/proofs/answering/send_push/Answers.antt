@@ -1,4 +1,4 @@
-use Rattle.std.proofs.Common.{◌∙◌, [], ◌∷◌, length, ap, sym, subst}
+use Rattle.std.proofs.Common.{◌≡◌, ◌∙◌, [], ◌∷◌, length, ap, sym, subst, inr}
 use Rattle.chart_frames.specs.declared.frame.Frame.{Frame}
 use Rattle.live_service.specs.LiveReplies.{LiveState, Pushed}
 use Rattle.hosted_lines.specs.Lives.{LivesBy}
@@ -22,6 +22,11 @@ use Rattle.hosted_lines.proofs.AnswersLemmas.{sends_push, watched_same}
 use Rattle.live_service.specs.Pushing.{followed_after}
 use Rattle.hosted_lines.specs.Answers.{watched}
 use Rattle.live_view.specs.Following.{ShowsOneOf}
+use Rattle.chart_service.specs.Shown as shown
+use Rattle.chart_service.specs.Blaming.{Blames}
+use Rattle.chart_service.specs.LastShown.{LastsBy}
+use Rattle.live_service.specs.Blaming.{PushBlamed}
+use Rattle.hosted_lines.proofs.BlameLemmas.{blames_now, step_damaged, unsent_blames}
 use Rattle.live_view.specs.Live as follows
 use Rattle.hosted_lines.proofs.answering.send_push.Goals as goal
 
@@ -107,4 +112,18 @@ returns-in-Ok-Some-clause-sends g c =
     let behind = watched mid in
     sends_push MayAnswerLive followed_after c.send_frame.result frame own behind (watched new) (sent (pages old)) (sent (pages mid)) (sent (pages new)) (of_frame some frame Fits is e.fits)
     (of_frame some frame (λ f. OpensBy f own.sessions behind.sessions) is e.opens) (watched_same (watched new) (watched mid) made.beside.changed.sessions made.beside.followed_same) (sym (w.beside_sent (pages mid)) ∙ ap (λ (b : Beside). b.sent) e.steps.beside ∙ w.beside_sent (pages old)) made.whole
-    (of_frame some frame (λ f. ShowsOneOf (follows.followed old) f) is e.shows) e.followed
+    (of_frame some frame (λ f. ShowsOneOf (follows.followed old) f) is e.shows) e.followed (of_frame some frame (λ f. LastsBy (λ was. was) f own.sessions behind.sessions) is e.lasts)
+
+pub returns-in-Ok-Some-clause-blames : goal.returns-in-Ok-Some-clause-blames
+returns-in-Ok-Some-clause-blames g c = unsent_blames c.send_frame.result c.in-Ok-Some.frame _ _ _ c.send_frame.ensures.stops
+
+pub returns-in-Err-clause-blames : goal.returns-in-Err-clause-blames
+returns-in-Err-clause-blames g c =
+    let sent = g.P.Streams.sent in
+    let w = g.met.P.PageWorld in
+    let old = c.args.live.now in
+    let mid = c.push.new.live in
+    let e = c.in-Err.ensures in
+    let unsent : sent (pages mid) ≡ sent (pages old) = sym (w.beside_sent (pages mid)) ∙ ap (λ (b : Beside). b.sent) e.steps.beside ∙ w.beside_sent (pages old) in
+    step_damaged c.in-Err.error c.step_end.result _ (PushBlamed old mid) c.step_end.ensures e.blames
+    (λ page blames. blames_now MayAnswerLive followed_after Blames (shown.IsTold (its.service mid)) (its.view mid).size (its.view mid).image page [] (watched old) (sent (pages old)) (sent (pages mid)) unsent (inr blames))

@@ -14,7 +14,7 @@ use Rattle.hosted_lines.specs.Shown.{pages}
 use Rattle.hosted_lines.proofs.FaultLemmas.{unmade_counts}
 use Rattle.hosted_lines.proofs.ReportLemmas.{report_costs, report_moments, report_sends, report_unmade, unmade_cause}
 use Rattle.hosted_lines.specs.Answers.{MayAnswerHost, followed_behind, watched}
-use Rattle.hosted_lines.proofs.AnswersLemmas.{may_report, report_after, sends_answer, watched_same}
+use Rattle.hosted_lines.proofs.AnswersLemmas.{may_report, report_after, report_lasts, sends_answer, watched_same}
 use Rattle.live_view.specs.Live as follows
 use Rattle.hosted_lines.proofs.reporting.send_report.Goals as goal
 
@@ -95,3 +95,4 @@ returns-in-Ok-clause-sends g c = λ line asks.
     sends_answer MayAnswerHost followed_behind c.send_frame.result frame (watched old) (watched mid) (watched new) (sent (pages old)) (sent (pages mid)) (sent (pages new)) e.fits e.opens
     (watched_same (watched new) (watched mid) made.beside.changed.sessions made.beside.followed_same) (sym (w.beside_sent (pages mid)) ∙ ap (λ (b : Beside). b.sent) e.looks.beside ∙ w.beside_sent (pages old)) made.whole (Some line) (may_report line c.args.asked.now frame asks e.may)
     (report_after line c.args.asked.now frame (follows.followed old) (follows.followed mid) asks e.may c.in-Ok.ensures.followed)
+    (report_lasts line c.args.asked.now frame (watched old).sessions (watched mid).sessions asks e.may e.sessions)

@@ -11,7 +11,7 @@ use Rattle.hosted_lines.specs.Shown.{pages}
 use Rattle.hosted_lines.proofs.FaultLemmas.{unmade_counts}
 use Rattle.hosted_lines.proofs.SweepLemmas.{step_costs, step_sends, step_unmade}
 use Rattle.hosted_lines.specs.Answers.{MayAnswerHost, followed_behind, watched}
-use Rattle.hosted_lines.proofs.AnswersLemmas.{may_step, sends_answer, step_after, step_stays, watched_same}
+use Rattle.hosted_lines.proofs.AnswersLemmas.{may_step, sends_answer, step_after, step_lasts, step_stays, watched_same}
 use Rattle.hosted_lines.proofs.sweeping.send_step.Goals as goal
 
 pub returns-in-Ok-clause-does : goal.returns-in-Ok-clause-does
@@ -81,3 +81,4 @@ returns-in-Ok-clause-sends g c = λ line asks.
     sends_answer MayAnswerHost followed_behind c.send_frame.result frame own between (watched new) (sent (pages old)) (sent (pages mid)) (sent (pages new)) e.fits
     (step_stays frame _ _ _ own.sessions between.sessions e.sessions e.tells) (watched_same (watched new) (watched mid) made.beside.changed.sessions made.beside.followed_same) (sym (w.beside_sent (pages mid)) ∙ ap (λ (b : Beside). b.sent) e.carries.beside ∙ w.beside_sent (pages old)) made.whole
     (Some line) (may_step line c.args.rule.now frame _ _ _ asks e.tells) (step_after line c.args.rule.now frame own.followed between.followed asks e.followed)
+    (step_lasts line c.args.rule.now frame _ _ _ own.sessions between.sessions asks e.tells e.sessions)

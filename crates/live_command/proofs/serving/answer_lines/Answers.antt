@@ -23,9 +23,10 @@ use Rattle.chart_service.proofs.Faulting.{counts_lines}
 use Rattle.store_commands.specs.Faulting.{counts_told}
 use Rattle.live_command.proofs.FaultLemmas.{input_fault_is, input_long_is, same_fault}
 use Rattle.chart_service.specs.Shown as shown
-use Rattle.live_command.proofs.AnswerLemmas.{FarAnswered, answered_far, far_answered_first, far_answered_kept, far_answered_line}
+use Rattle.live_command.proofs.AnswerLemmas.{FarAnswered, answered_far, far_answered_first, far_answered_kept, far_answered_line, far_blamed}
 use Rattle.hosted_lines.specs.Answers.{watched}
 use Rattle.hosted_lines.proofs.AnswersLemmas.{watched_same}
+use Rattle.hosted_lines.proofs.BlameLemmas.{input_unblamed}
 use Rattle.live_command.proofs.serving.answer_lines.Goals as goal
 
 pub lines-init : goal.lines-init
@@ -661,3 +662,47 @@ returns-in-End-clause-answers g c =
     let now = watched c.next.new.from in
     let far = far_answered_kept (left first) (unread c.lines.lines (left mid)) c.lines.lines.given own (watched c.lines.live) now (sent first) (sent mid) (sent taken) (watched_same (watched c.next.new.from) (watched c.lines.live) beside.changed.sessions beside.followed_same) c.next.ensures.sent c.lines.invariant.answered in
     answered_far (left first) (unread c.lines.lines (left mid)) c.lines.lines.given own now (sent first) (sent taken) (c.in-Ok.ensures.end (ap Ok c.in-End.is)) far
+
+pub returns-in-Err-refuse_line-clause-blames : goal.returns-in-Err-refuse_line-clause-blames
+returns-in-Err-refuse_line-clause-blames g c =
+    let left = g.P.Streams.left in
+    let sent = g.P.Streams.sent in
+    let start = c.args.live.now in
+    let first = pages start in
+    let mid = pages c.lines.live in
+    let taken = pages c.next.new.from in
+    let after = c.refuse_line.new.live in
+    let inv = c.lines.invariant in
+    let e = c.in-Ok.ensures in
+    let beside = c.next.ensures.beside in
+    let line : Option (List ℕ) = None in
+    let gives : Gives c.lines.lines c.next.new.self (left mid) (left taken) line =
+    gives_by c.lines.lines c.next.new.self (left mid) (left taken) line (e.too_long (ap Ok c.in-TooLong.is)) e.rest inv.counted e.given e.total in
+    let own = watched start in
+    let far = far_answered_kept (left first) (unread c.lines.lines (left mid)) c.lines.lines.given own (watched c.lines.live) (watched c.next.new.from) (sent first) (sent mid) (sent taken) (watched_same (watched c.next.new.from) (watched c.lines.live) beside.changed.sessions beside.followed_same) c.next.ensures.sent inv.answered in
+    far_blamed (left first) c.lines.lines c.next.new.self (left mid) (left taken) line gives own (watched c.next.new.from) (sent first) (sent taken) (sent (pages after)) (shown.IsTold (its.service after)) (its.view after).size (its.view after).image
+    c.in-Err-refuse_line.end c.in-Err-refuse_line.ensures.blames far
+
+pub returns-in-Err-answer_line-clause-blames : goal.returns-in-Err-answer_line-clause-blames
+returns-in-Err-answer_line-clause-blames g c =
+    let left = g.P.Streams.left in
+    let sent = g.P.Streams.sent in
+    let start = c.args.live.now in
+    let first = pages start in
+    let mid = pages c.lines.live in
+    let taken = pages c.next.new.from in
+    let after = c.answer_line.new.live in
+    let inv = c.lines.invariant in
+    let e = c.in-Ok.ensures in
+    let beside = c.next.ensures.beside in
+    let text = c.line.result.now in
+    let line : Option (List ℕ) = Some text in
+    let gives : Gives c.lines.lines c.next.new.self (left mid) (left taken) (Some text) =
+    gives_by c.lines.lines c.next.new.self (left mid) (left taken) (Some text) (same_line _ _ text c.next.new.self.line c.line.ensures.line (e.line (ap Ok c.in-Line.is))) e.rest inv.counted e.given e.total in
+    let own = watched start in
+    let far = far_answered_kept (left first) (unread c.lines.lines (left mid)) c.lines.lines.given own (watched c.lines.live) (watched c.next.new.from) (sent first) (sent mid) (sent taken) (watched_same (watched c.next.new.from) (watched c.lines.live) beside.changed.sessions beside.followed_same) c.next.ensures.sent inv.answered in
+    far_blamed (left first) c.lines.lines c.next.new.self (left mid) (left taken) line gives own (watched c.next.new.from) (sent first) (sent taken) (sent (pages after)) (shown.IsTold (its.service after)) (its.view after).size (its.view after).image
+    c.in-Err-answer_line.end c.in-Err-answer_line.ensures.blames far
+
+pub returns-in-Err-clause-blames : goal.returns-in-Err-clause-blames
+returns-in-Err-clause-blames g c = input_unblamed c.in-Err.fault c.input_end.result _ c.input_end.ensures

@@ -9,14 +9,15 @@ use Rattle.request_lines.specs.declared.requests.Request.TheVariants.{Zoom}
 use Rattle.stored_book.specs.Standing.{StandsForBook}
 use Rattle.zoom_session.specs.declared.view_spec.ViewSpec.{ViewSpec}
 use Rattle.zoom_session.specs.Sessions.{session_of, last_of}
-use Rattle.chart_service.specs.Called.{AnswersSo, IsCause}
+use Rattle.chart_service.specs.Called.{AnswersSo, IsCause, RequestBlamed}
 use Rattle.chart_service.specs.Replies.{own_zoom}
 use Rattle.chart_service.specs.Stepping.{IsLastShown, RepliedTo, ReadsFew}
 use Rattle.chart_service.specs.Shown as shown
 use Rattle.series_store.specs.Shown as stored
 use Rattle.chart_service.proofs.Faulting.{counts_step, view_risen}
 use Rattle.chart_service.proofs.LastLemmas.{lasts_shown}
-use Rattle.chart_service.proofs.LookLemmas.{unchanged, steps_so}
+use Rattle.chart_service.proofs.Blaming.{request_blamed}
+use Rattle.chart_service.proofs.LookLemmas.{unchanged, unchanged_so, steps_so}
 use Rattle.chart_service.proofs.StepLemmas.{AreOwn, look_reply, look_bad, on_ok, zoom_why}
 use Rattle.chart_grid.specs.Limits.{IsWindow}
 use Rattle.chart_service.proofs.service.Service.repeat.Goals as goal
@@ -56,6 +57,8 @@ returns g c =
     let R : Option ViewSpec → Type 0 = λ o. IfSome o (λ one. shown.ForBook it (λ total book. IfOk r (AnswersSo (RepliedTo (own_zoom number one)) total book it c.zoom-reply.new.self))) in
     let B : Option ViewSpec → Type 0 = λ o. IfSome o (λ one. shown.ForBook it (λ total book. ReadsFew (own_zoom number one) book ss (shown.view it).reads (shown.view c.zoom-reply.new.self).reads)) in
     let C : Option ViewSpec → Type 0 = λ o. IfSome o (λ one. IfErr r (IsCause (own_zoom number one) it c.zoom-reply.new.self)) in
+    let L : Option ViewSpec → Type 0 = λ o. IfSome o (λ one. IfErr r (RequestBlamed (own_zoom number one) it c.zoom-reply.new.self)) in
+    let why = subst Why at (zoom_why r number t0 t1 (g.P.Pages.told (stored.pages store)) (stored.catalog store) ss (stored.numbers store) (g.P.Pages.view (stored.pages store)) (g.P.Pages.view (stored.pages new)) c.zoom-reply.ensures.cause) in
     record {
       reply = subst R (sym viewed) (subst Asked at (λ total book told stands.
           let S : Image → Type 0 = λ i. StandsForBook i total book in
@@ -78,7 +81,9 @@ returns g c =
       stays = c.zoom-reply.ensures.stays;
       moments = looks.time;
       idle = unchanged _ _ _ _ _ _ _ _ _ _ looks;
-      cause = subst C (sym viewed) (subst Why at (zoom_why r number t0 t1 (g.P.Pages.told (stored.pages store)) (stored.catalog store) ss (stored.numbers store) (g.P.Pages.view (stored.pages store)) (g.P.Pages.view (stored.pages new)) c.zoom-reply.ensures.cause));
+      cause = subst C (sym viewed) why;
+      blames = subst L (sym viewed) (request_blamed r (g.P.Pages.told (stored.pages store)) (g.P.Pages.told (stored.pages new)) (g.P.Pages.view (stored.pages store)) (g.P.Pages.view (stored.pages new)) (stored.numbers store) (stored.catalog store) ss own looks.was_told looks.size
+          (own_zoom number last) (unchanged_so r _ _ _ (unchanged _ _ _ _ _ _ _ _ _ _ looks)) why);
       bad = look_bad (IsLastShown (last_of (session_of number ss))) r _ _ _ _ _ _ _ _ _ _ own looks c.zoom-reply.ensures.cause;
       faults =
           let view = g.P.Pages.view in

@@ -9,7 +9,8 @@ use Rattle.chart_service.specs.Replies.{line_text}
 use Rattle.chart_service.proofs.TurnLemmas.{line_none, line_reads}
 use Rattle.chart_service.proofs.KindLemmas.{may_bad, may_line, may_long}
 use Rattle.chart_service.proofs.LineLemmas.{long_line}
-use Rattle.chart_service.proofs.StepLemmas.{line_reply, line_moments, bad_line}
+use Rattle.chart_service.proofs.Blaming.{line_blamed}
+use Rattle.chart_service.proofs.StepLemmas.{AreOwn, line_reply, line_moments, bad_line}
 use Rattle.chart_service.proofs.Sending.{text_is}
 use Rattle.chart_service.proofs.SyncLemmas.{no_edit}
 use Rattle.chart_service.proofs.RoomLemmas.{line_leaves, line_same}
@@ -119,3 +120,23 @@ returns-in-Ok-clause-lasts g c =
 
 pub returns-in-Err-BadLine-clause-lasts : goal.returns-in-Err-BadLine-clause-lasts
 returns-in-Err-BadLine-clause-lasts g c = lasts_refused (OfRowsLine (line_text c.args.line.now)) c.refused-in-Err-BadLine.result (BadLine c.in-Err-BadLine.at) c.args.self.now.sessions c.args.self.now.sessions c.refused-in-Err-BadLine.ensures.frame refl
+
+pub returns-in-Ok-clause-blames : goal.returns-in-Ok-clause-blames
+returns-in-Ok-clause-blames g c =
+    let short : length c.args.line.now ≤ 8192 = omega arith in
+    let is : read_line c.args.line.now ≡ Ok c.in-Ok.request = c.in-Ok.ensures.reading in
+    let store = c.args.self.now.store in
+    let next = c.step.new.self.store in
+    let told = g.P.Pages.told (stored.pages store) in
+    let old = g.P.Pages.view (stored.pages store) in
+    let new = g.P.Pages.view (stored.pages next) in
+    let own : AreOwn told old (stored.numbers store) (stored.catalog store) = record {
+      within = store.space.rules.total_high;
+      keeps = λ t. record { spelled = store.space.spelled c.requires t; rules = store.space.rules };
+      count = store.count;
+      says = λ t. store.told c.requires t;
+    } in
+    let L : Option (List ℕ) → Type 0 = λ line. IfErr c.step.result (λ e. IsLineCause line e told (stored.catalog store) c.args.self.now.sessions (stored.numbers store) old new) in
+    let R : Result Request ℕ → Type 0 = λ read. IfErr c.step.result (λ e. IsReadCause read e told (stored.catalog store) c.args.self.now.sessions (stored.numbers store) old new) in
+    line_blamed c.step.result told (g.P.Pages.told (stored.pages next)) old new (stored.numbers store) (stored.catalog store) c.args.self.now.sessions own c.step.ensures.steps.was_told c.step.ensures.steps.size
+    (line_text c.args.line.now) c.step.ensures.unchanged (subst L (sym (text_is c.args.line.now short)) (subst R (sym is) c.step.ensures.cause))

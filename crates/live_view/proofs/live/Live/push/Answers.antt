@@ -1,4 +1,5 @@
-use Rattle.std.proofs.Common.{ℕ, ◌≤◌, List, None, length, arith}
+use Rattle.std.proofs.Common.{ℕ, ◌≤◌, List, None, Result, length, subst, arith}
+use Rattle.chart_frames.specs.declared.frame.Frame.{Frame}
 use Rattle.std.specs.Prelude.{Contains, IsTrue, nat_eq}
 use Rattle.std.specs.Set.{is_member}
 use Rattle.std.specs.List.Sorted.{IsStrictlyIncreasing}
@@ -67,3 +68,15 @@ returns-in-Ok-clause-shows g c =
     let first = first_of c.args.self.now.pending.items rest c.remove-session.result (omega (arith, c.remove-session.ensures.len)) c.remove-session.ensures.value c.remove-session.ensures.items in
     let here : Contains followed c.remove-session.result = first-of-all (Contains followed) c.remove-session.result c.args.self.now.pending.items rest first (in-all followed c.args.self.now.pending.items c.args.self.now.among) in
     record { session = c.remove-session.result; among = here; shows = c.in-Ok.ensures.shows (All-contains (CanFollow old) followed c.remove-session.result (can-all old followed c.args.self.now.able) here) }
+
+pub returns-in-Err-clause-fails : goal.returns-in-Err-clause-fails
+returns-in-Err-clause-fails g c =
+    let followed : List ℕ = c.args.self.now.followed.items in
+    let rest : List ℕ = c.remove-session.new.self.items in
+    let first = first_of c.args.self.now.pending.items rest c.remove-session.result (omega (arith, c.remove-session.ensures.len)) c.remove-session.ensures.value c.remove-session.ensures.items in
+    let R : Result Frame _ → Type 0 = λ r. g.S.Stepper.repeats c.args.self.now.stepper c.remove-session.result r c.repeat.new.self in
+    record {
+      repeated = record { session = c.remove-session.result; first = first; repeat = subst R c.in-Err.is c.repeat.ensures.reply };
+      among = first-of-all (Contains followed) c.remove-session.result c.args.self.now.pending.items rest first (in-all followed c.args.self.now.pending.items c.args.self.now.among);
+      followed_now = c.keep_open.ensures;
+    }
