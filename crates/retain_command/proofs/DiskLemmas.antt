@@ -39,11 +39,12 @@ use Rattle.store_commands.specs.Lacking.{LacksRecord}
 use Rattle.store_commands.specs.Sides.{Side}
 use Rattle.store_commands.specs.Status.{opening_end}
 use Rattle.store_commands.specs.Traffic.{IsLong, Traffic, WasRead}
+use Rattle.retain_command.specs.Answered.{AnswersSo}
 use Rattle.retain_command.specs.Answers.{book_behind}
 use Rattle.retain_command.specs.Doing.{Goes, IsCause, RuleCosts}
 use Rattle.retain_command.specs.Retained.{IsAtLine, IsRetainCause, LeavesSwept, RetainEnds, RetainsFew}
 use Rattle.retain_command.specs.Sweeping.{EndsSo, Faults, IsAhead, SweepsAll, SweepsFew, SweepsFirst, clears_of, left_by}
-use Rattle.retain_command.proofs.RuleLemmas.{no_rules}
+use Rattle.retain_command.proofs.RuleLemmas.{first_unanswered, no_rules}
 
 -- ---- the same of a book that is there otherwise
 
@@ -220,8 +221,9 @@ module _ (count count' : ℕ) (sound sound' : Bool) (first old new : View) (tota
       → (end ≢ DiskFault → IsClosed new)
       → OfPages count old (λ total book. IfSome t.left (λ input. SweepsFew (λ rules clears. RuleCosts rules clears (pages_view count sound old) (pages_view count' sound' new)) total book input))
       → (catalog : List StoredSeries) → IfSome t.left (λ input. Faults catalog input end)
-      → (end ≢ DiskFault → (name : List ℕ) → LacksName catalog name → LacksRecord count' new name) → RetainEnds first new t end
-  retained_by end whole long cause ends crash closed costs catalog faults lacking =
+      → (end ≢ DiskFault → (name : List ℕ) → LacksName catalog name → LacksRecord count' new name)
+      → IfSome t.left (λ input. AnswersSo input t.left_now t.sent t.sent_now end) → RetainEnds first new t end
+  retained_by end whole long cause ends crash closed costs catalog faults lacking answered =
       let n = page_count first.size in
       let does = does_on t.left end ends closed in
       record {
@@ -231,6 +233,7 @@ module _ (count count' : ℕ) (sound sound' : Bool) (first old new : View) (tota
         crash = crash_on t.left t.sent crash;
         costs = costs_on t.left costs;
         faulty = told_so (λ input. Faults catalog input end) (λ input. IsAtLine (page_count first.size) new input end) t.left (λ input is. fault_on catalog input end lacking is) faults;
+        answered = answered;
         honest = λ h. goes.is_told (opens.honest h);
         goes_on = goes_then first old new (opened_goes first old opens) goes.goes_on;
       }
@@ -266,6 +269,13 @@ module _ (old new : View) (t : Traffic) where
   unopened_fault input opening.DiskFault = tt
   unopened_fault input opening.NoMemory = tt
 
+  unopened_answered : (input : List ℕ) (cause : OpeningCause) → IsUnopened old new t.left t.left_now t.sent t.sent_now cause
+      → AnswersSo input t.left_now t.sent t.sent_now (opening_end cause)
+  unopened_answered input (opening.TooSmall size) u = u.sent_is
+  unopened_answered input (opening.Damaged block) u = u.sent_is
+  unopened_answered input opening.DiskFault u = first_unanswered input t.sent t.sent_now u.sent_is
+  unopened_answered input opening.NoMemory u = first_unanswered input t.sent t.sent_now u.sent_is
+
   pub unopened_ends : (cause : OpeningCause) (end : End) → end ≡ opening_end cause → IsUnopened old new t.left t.left_now t.sent t.sent_now cause → RetainEnds old new t end
   unopened_ends cause end same u =
       let E : End → Type 0 = λ e. RetainEnds old new t e in
@@ -276,6 +286,7 @@ module _ (old new : View) (t : Traffic) where
         crash = any_told t.left (λ input. IfSome t.sent (λ bytes. LeavesSwept (page_count old.size) input old new)) (λ input. any_told t.sent (λ bytes. LeavesSwept (page_count old.size) input old new) (λ bytes. unopened_crash input u.opens));
         costs = any_told t.left (RetainsFew (page_count old.size) old new) (λ input. unopened_costs input u.opens);
         faulty = any_told t.left (λ input. IsAtLine (page_count old.size) new input (opening_end cause)) (λ input. unopened_fault input cause);
+        answered = any_told t.left (λ input. AnswersSo input t.left_now t.sent t.sent_now (opening_end cause)) (λ input. unopened_answered input cause u);
         honest = u.opens.honest;
         goes_on = opened_goes old new u.opens;
       })

@@ -9,6 +9,7 @@ use Rattle.series_book.specs.declared.one_series.Series.{Series}
 use Rattle.series_store.specs.Shown as shown
 use Rattle.series_store.specs.declared.store.Store.{Store}
 use Rattle.stored_book.specs.Standing.{StandsForBook}
+use Rattle.retain_command.specs.Answered.{AnswersSo}
 use Rattle.retain_command.specs.Doing.{RuleCosts}
 use Rattle.retain_command.specs.Sweeping.{EndsSo, Faults, IsAhead, SweepsFew}
 
@@ -35,3 +36,7 @@ module _ {P : Type 0} {g : Ghosts P} (beside : streams.Ghosts P) (old new : Stor
   -- the catalog lacks the series
   abbrev pub IsAtFault : End → Type 0
   IsAtFault end = IfSome (beside.left (shown.pages old)) (λ input. Faults (shown.catalog new) input end)
+
+  -- and the lines were answered so
+  abbrev pub IsAnsweredSo : End → Type 0
+  IsAnsweredSo end = IfSome (beside.left (shown.pages old)) (λ input. AnswersSo input (beside.left (shown.pages new)) (beside.sent (shown.pages old)) (beside.sent (shown.pages new)) end)

@@ -22,7 +22,7 @@ returns-clause-stops g c = λ held stands.
     let e = c.answer_line.ensures in
     work_stops held c.args.line.now c.args.at (shown.view old) (shown.view new) (sent (shown.pages old)) (sent (shown.pages new))
     (shown.IsTold old) c.answer_line.result (shown.catalog new) stands
-    (λ known. e.does held.total held.book (stands known).0 (stands known).1) e.faulty
+    (λ known. e.does held.total held.book (stands known).0 (stands known).1) e.fails
 
 pub returns-clause-leaves : goal.returns-clause-leaves
 returns-clause-leaves g c = λ held stands known. (c.answer_line.ensures.does held.total held.book (stands known).0 (stands known).1).moments
