@@ -9,6 +9,7 @@ use Rattle.retain_command.specs.Answered.{AnswersSo}
 use Rattle.retain_command.specs.Answers.{AreRules}
 use Rattle.retain_command.specs.Retained.{IsAtLine, LeavesSwept, RetainsAll, RetainsLines, RetainsPart, RetainsSome, RetainsTaken, RetainsToBad}
 use Rattle.retain_command.specs.Retained.{RetainsFew, RetainsToUnknown, RetainsWithin}
+use Rattle.retention.specs.Damage.{IsBadForSweep}
 use Rattle.retention.specs.declared.rule.Rule.{Rule}
 use Rattle.run_ends.specs.declared.ending.End.{End}
 use Rattle.run_ends.specs.declared.ending.End.TheVariants.{Done, NoMemory, ReadFault, SendFault, DiskFault, DamagedBlock, DamagedPage}
@@ -53,5 +54,5 @@ pub record OfRetain (c : Course) (end : End) : Type 0 where
   pub crash : AtEachMoment c LeavesSwept
   pub costs : OfInput c (RetainsFew (count c) c.old c.new)
   pub line : OfInput c (λ input. IsAtLine (count c) c.new input end)
-  pub answered : OfInput c (λ input. AnswersSo input c.left_now c.sent c.sent_now end)
+  pub answered : OfInput c (λ input. AnswersSo (λ rule. FoundPage (IsBadForSweep rule) c c.new) input c.left_now c.sent c.sent_now end)
   pub good : OfInput c (λ input. AreRetained c.old c.new input → IsDoneOrCut end)

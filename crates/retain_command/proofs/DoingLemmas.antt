@@ -14,6 +14,7 @@ use Rattle.series_book.specs.declared.one_series.Series.{Series}
 use Rattle.series_book.specs.EditLists.{after_edits}
 use Rattle.series_catalog.specs.declared.stored_series.StoredSeries.{StoredSeries}
 use Rattle.stored_book.specs.Standing.{StandsForBook}
+use Rattle.retention.specs.Damage.{Blames}
 use Rattle.retention.specs.Drops.{book_swept}
 use Rattle.retention.specs.Moving.{CommitsFew, ReadsFew}
 use Rattle.retention.specs.Sweeping.{IsAfterSome, IsSwept, StopsSo}
@@ -204,35 +205,35 @@ pub says_so : {T : Type 0} (result : Result T End) (clears used : ℕ) (before b
 says_so {T} (Ok v) clears used before between now same sent = (clears, used, sent ∙ ap (sent_after (swept_text clears used)) same)
 says_so {T} (Err end) clears used before between now same sent = tt
 
-text_fails : (rule : Rule) (at : ℕ) (catalog : List StoredSeries) (clears used : ℕ) (before now : Option (List ℕ)) (end : End)
-    → TextStops (swept_text clears used) before now end → RuleFails rule at catalog before now end
-text_fails rule at catalog clears used before now NoMemory stops = stops
-text_fails rule at catalog clears used before now SendFault stops = (clears, used, stops)
-text_fails rule at catalog clears used before now end stops = absurd stops
+text_fails : (rule : Rule) (at : ℕ) (IsBad : Rule → ℕ → Type 0) (catalog : List StoredSeries) (clears used : ℕ) (before now : Option (List ℕ)) (end : End)
+    → TextStops (swept_text clears used) before now end → RuleFails rule at IsBad catalog before now end
+text_fails rule at IsBad catalog clears used before now NoMemory stops = stops
+text_fails rule at IsBad catalog clears used before now SendFault stops = (clears, used, stops)
+text_fails rule at IsBad catalog clears used before now end stops = absurd stops
 
 -- it wasn't, or not all of it
-pub unsent_fails : {T : Type 0} (result : Result T End) (rule : Rule) (at : ℕ) (catalog : List StoredSeries) (clears used : ℕ)
+pub unsent_fails : {T : Type 0} (result : Result T End) (rule : Rule) (at : ℕ) (IsBad : Rule → ℕ → Type 0) (catalog : List StoredSeries) (clears used : ℕ)
     (before between now : Option (List ℕ)) → between ≡ before → IfErr result (TextStops (swept_text clears used) between now)
-    → IfErr result (RuleFails rule at catalog before now)
-unsent_fails {T} (Ok v) rule at catalog clears used before between now same stops = tt
-unsent_fails {T} (Err end) rule at catalog clears used before between now same stops =
+    → IfErr result (RuleFails rule at IsBad catalog before now)
+unsent_fails {T} (Ok v) rule at IsBad catalog clears used before between now same stops = tt
+unsent_fails {T} (Err end) rule at IsBad catalog clears used before between now same stops =
     let B : Option (List ℕ) → Type 0 = λ b. TextStops (swept_text clears used) b now end in
-    text_fails rule at catalog clears used before now end (subst B same stops)
+    text_fails rule at IsBad catalog clears used before now end (subst B same stops)
 
 -- why a rule wasn't swept
-pub sweep_fails : (error : SweepError) (rule : Rule) (at : ℕ) (catalog : List StoredSeries) (before now : Option (List ℕ)) (end : End)
-    → end ≡ end_at at error → (failed error ≡ failed sweep.UnknownSeries → LacksNamed catalog rule) → now ≡ before
-    → RuleFails rule at catalog before now end
-sweep_fails error rule at catalog before now end is lacks unsent =
-    let P : End → Type 0 = λ e. RuleFails rule at catalog before now e in
-    subst P (sym is) (by error lacks)
+pub sweep_fails : (error : SweepError) (rule : Rule) (at : ℕ) (IsBad : Rule → ℕ → Type 0) (catalog : List StoredSeries) (before now : Option (List ℕ)) (end : End)
+    → end ≡ end_at at error → (failed error ≡ failed sweep.UnknownSeries → LacksNamed catalog rule) → Blames (IsBad rule) error → now ≡ before
+    → RuleFails rule at IsBad catalog before now end
+sweep_fails error rule at IsBad catalog before now end is lacks blames unsent =
+    let P : End → Type 0 = λ e. RuleFails rule at IsBad catalog before now e in
+    subst P (sym is) (by error lacks blames)
   where
-    by : (error : SweepError) → (failed error ≡ failed sweep.UnknownSeries → LacksNamed catalog rule)
-        → RuleFails rule at catalog before now (end_at at error)
-    by sweep.UnknownSeries lacks = (refl, lacks refl, unsent)
-    by sweep.DiskFault lacks = unsent
-    by (sweep.Damaged page) lacks = unsent
-    by sweep.NoMemory lacks = unsent
+    by : (error : SweepError) → (failed error ≡ failed sweep.UnknownSeries → LacksNamed catalog rule) → Blames (IsBad rule) error
+        → RuleFails rule at IsBad catalog before now (end_at at error)
+    by sweep.UnknownSeries lacks blames = (refl, lacks refl, unsent)
+    by sweep.DiskFault lacks blames = unsent
+    by (sweep.Damaged page) lacks blames = (blames, unsent)
+    by sweep.NoMemory lacks blames = unsent
 
 -- a line that is a rule
 pub rule_says : {T : Type 0} (result : Result T End) (text : List ℕ) (rule : Rule) (before now : Option (List ℕ)) → Spells rule text
@@ -240,17 +241,17 @@ pub rule_says : {T : Type 0} (result : Result T End) (text : List ℕ) (rule : R
 rule_says {T} (Ok v) text rule before now spells says = inr (rule, spells, says)
 rule_says {T} (Err end) text rule before now spells says = tt
 
-rule_fails_line : (text : List ℕ) (rule : Rule) (at : ℕ) (catalog : List StoredSeries) (before now : Option (List ℕ)) (end : End)
-    → Spells rule text → RuleFails rule at catalog before now end → LineFails text at catalog before now end
-rule_fails_line text rule at catalog before now NoMemory spells fails = fails
-rule_fails_line text rule at catalog before now SendFault spells fails = (rule, spells, fails)
-rule_fails_line text rule at catalog before now DiskFault spells fails = (rule, spells, fails)
-rule_fails_line text rule at catalog before now (DamagedPage page) spells fails = (rule, spells, fails)
-rule_fails_line text rule at catalog before now (NoSeries place) spells fails = (rule, spells, fails)
-rule_fails_line text rule at catalog before now end spells fails = absurd fails
+rule_fails_line : (text : List ℕ) (rule : Rule) (at : ℕ) (IsBad : Rule → ℕ → Type 0) (catalog : List StoredSeries) (before now : Option (List ℕ)) (end : End)
+    → Spells rule text → RuleFails rule at IsBad catalog before now end → LineFails text at IsBad catalog before now end
+rule_fails_line text rule at IsBad catalog before now NoMemory spells fails = fails
+rule_fails_line text rule at IsBad catalog before now SendFault spells fails = (rule, spells, fails)
+rule_fails_line text rule at IsBad catalog before now DiskFault spells fails = (rule, spells, fails)
+rule_fails_line text rule at IsBad catalog before now (DamagedPage page) spells fails = (rule, spells, fails)
+rule_fails_line text rule at IsBad catalog before now (NoSeries place) spells fails = (rule, spells, fails)
+rule_fails_line text rule at IsBad catalog before now end spells fails = absurd fails
 
-pub line_fails : {T : Type 0} (result : Result T End) (text : List ℕ) (rule : Rule) (at : ℕ) (catalog : List StoredSeries)
-    (before now : Option (List ℕ)) → Spells rule text → IfErr result (RuleFails rule at catalog before now)
-    → IfErr result (LineFails text at catalog before now)
-line_fails {T} (Ok v) text rule at catalog before now spells fails = tt
-line_fails {T} (Err end) text rule at catalog before now spells fails = rule_fails_line text rule at catalog before now end spells fails
+pub line_fails : {T : Type 0} (result : Result T End) (text : List ℕ) (rule : Rule) (at : ℕ) (IsBad : Rule → ℕ → Type 0) (catalog : List StoredSeries)
+    (before now : Option (List ℕ)) → Spells rule text → IfErr result (RuleFails rule at IsBad catalog before now)
+    → IfErr result (LineFails text at IsBad catalog before now)
+line_fails {T} (Ok v) text rule at IsBad catalog before now spells fails = tt
+line_fails {T} (Err end) text rule at IsBad catalog before now spells fails = rule_fails_line text rule at IsBad catalog before now end spells fails

@@ -54,8 +54,8 @@ known_is : (held : Held) → held.known ≡ true → held ≡ held_by held.total
 known_is held known = (λ i. record { known = known i; total = held.total; book = held.book; counted = held.counted })
 
 -- what stopped a run that left this
-abbrev StopsBy : View → List StoredSeries → Option (List ℕ) → Held → Given → End → Option (List ℕ) → Type 0
-StopsBy view catalog now held it end was = (held.known ≡ true → LineStopped held it view was now end) × GivenFails it catalog was now end
+abbrev StopsBy : View → (Rule → ℕ → Type 0) → List StoredSeries → Option (List ℕ) → Held → Given → End → Option (List ℕ) → Type 0
+StopsBy view IsBad catalog now held it end was = (held.known ≡ true → LineStopped held it view was now end) × GivenFails it IsBad catalog was now end
 
 -- the rules of lines that were done
 record Ruled (held : Held) (all : List (Option (List ℕ))) (text : List ℕ) (behind : Held) : Type 0 where
@@ -334,13 +334,13 @@ module _ (total : ℕ) (book : List Series) (input : List ℕ) (counted : Counte
   next_clears first given.End next more none = inl none
 
   -- how the run ended
-  ends_so : {T : Type 0} (Told : Type 0) (view : View) (catalog : List StoredSeries) (left before now : Option (List ℕ)) (pieces pieces' : ℕ) (answer : Result T (LinesStop End))
+  ends_so : {T : Type 0} (Told : Type 0) (view : View) (IsBad : Rule → ℕ → Type 0) (catalog : List StoredSeries) (left before now : Option (List ℕ)) (pieces pieces' : ℕ) (answer : Result T (LinesStop End))
       → OnOk answer (length input ≤ 2 ^ 32)
       → OnOk answer (runs.Runs LineDoes (held_by total book counted) (runs.AreAll pieces pieces') (IsHeldIfKnown Told view) (Some input) before now)
-      → IfErr answer (runs.StopsSo LineDoes (λ held it end was. StopsBy view catalog now held it end was) (IsHeldIfKnown Told view) (held_by total book counted) (Some input) left before now pieces pieces')
+      → IfErr answer (runs.StopsSo LineDoes (λ held it end was. StopsBy view IsBad catalog now held it end was) (IsHeldIfKnown Told view) (held_by total book counted) (Some input) left before now pieces pieces')
       → EndsSo (Stands total view.image) total book input left before now (run_end answer) × SweepsFew (CostsBy view) total book input
-  ends_so {T} Told view catalog left before now pieces pieces' (Ok done) within all is = all_so Told view before now pieces pieces' within all
-  ends_so {T} Told view catalog left before now pieces pieces' (Err (stop.Fault fault.ReadFault)) within all is =
+  ends_so {T} Told view IsBad catalog left before now pieces pieces' (Ok done) within all is = all_so Told view before now pieces pieces' within all
+  ends_so {T} Told view IsBad catalog left before now pieces pieces' (Err (stop.Fault fault.ReadFault)) within all is =
       let f = firsts is.done is.are.first in (
         record {
           swept = first_so Told view before now is.done.text is.done.behind f is.stands is.sent;
@@ -349,7 +349,7 @@ module _ (total : ℕ) (book : List Series) (input : List ℕ) (counted : Counte
         },
         few_so Told view is.done.text is.done.behind f is.stands,
       )
-  ends_so {T} Told view catalog left before now pieces pieces' (Err (stop.Fault fault.InputTooLong)) within all is =
+  ends_so {T} Told view IsBad catalog left before now pieces pieces' (Err (stop.Fault fault.InputTooLong)) within all is =
       let f = firsts is.done is.are.first in (
         record {
           swept = first_so Told view before now is.done.text is.done.behind f is.stands is.sent;
@@ -358,7 +358,7 @@ module _ (total : ℕ) (book : List Series) (input : List ℕ) (counted : Counte
         },
         few_so Told view is.done.text is.done.behind f is.stands,
       )
-  ends_so {T} Told view catalog left before now pieces pieces' (Err (stop.Work end)) within all is =
+  ends_so {T} Told view IsBad catalog left before now pieces pieces' (Err (stop.Work end)) within all is =
       let f = firsts is.done is.are.first in
       let H : Held → Type 0 = λ h. h.known ≡ true → LineStopped h is.next view (sent_after is.done.text before) now end in
       let T' : List ℕ → Type 0 = λ t.
@@ -415,14 +415,14 @@ module _ (total : ℕ) (book : List Series) (input : List ℕ) (counted : Counte
 
 -- the same of an input that may be told
 module _ (total : ℕ) (book : List Series) (counted : Counted) where
-  pub ends_told : {T : Type 0} (Told : Type 0) (view : View) (catalog : List StoredSeries) (o left before now : Option (List ℕ)) (pieces pieces' : ℕ) (answer : Result T (LinesStop End))
+  pub ends_told : {T : Type 0} (Told : Type 0) (view : View) (IsBad : Rule → ℕ → Type 0) (catalog : List StoredSeries) (o left before now : Option (List ℕ)) (pieces pieces' : ℕ) (answer : Result T (LinesStop End))
       → OnOk answer (IfSome o (λ input. length input ≤ 2 ^ 32))
       → OnOk answer (runs.Runs LineDoes (held_by total book counted) (runs.AreAll pieces pieces') (IsHeldIfKnown Told view) o before now)
-      → IfErr answer (runs.StopsSo LineDoes (λ held it end was. StopsBy view catalog now held it end was) (IsHeldIfKnown Told view) (held_by total book counted) o left before now pieces pieces')
+      → IfErr answer (runs.StopsSo LineDoes (λ held it end was. StopsBy view IsBad catalog now held it end was) (IsHeldIfKnown Told view) (held_by total book counted) o left before now pieces pieces')
       → IfSome o (λ input. EndsSo (Stands total view.image) total book input left before now (run_end answer) × SweepsFew (CostsBy total book input counted view) total book input)
-  ends_told {T} Told view catalog None left before now pieces pieces' answer within all is = tt
-  ends_told {T} Told view catalog (Some input) left before now pieces pieces' answer within all is =
-      ends_so total book input counted Told view catalog left before now pieces pieces' answer within all is
+  ends_told {T} Told view IsBad catalog None left before now pieces pieces' answer within all is = tt
+  ends_told {T} Told view IsBad catalog (Some input) left before now pieces pieces' answer within all is =
+      ends_so total book input counted Told view IsBad catalog left before now pieces pieces' answer within all is
 
   abbrev Lasts : Option (List ℕ) → Option (List ℕ) → View → View → Type 0
   Lasts o before old new = IfSome o (λ input. IfSome before (λ bytes.
@@ -540,14 +540,14 @@ unknown = record { known = false; total = 0; book = []; counted = record { reads
 pub never_known : {X : Type 0} → false ≡ true → X
 never_known {X} is = cc
 
-module _ (catalog : List StoredSeries) (input : List ℕ) where
+module _ (IsBad : Rule → ℕ → Type 0) (catalog : List StoredSeries) (input : List ℕ) where
   as_next : (count : ℕ) (rest : List ℕ) (line : Option (List ℕ)) → given.NextLine count rest line → NextLine count rest line
   as_next count rest line next = record { later = next.later; lines_are = next.lines_are; early = next.early }
 
   module _ (given_first : List Given) (f : AreFirst input given_first) (none : NoneIs SaysNone (filter says (lines f.front)))
       (before now : Option (List ℕ)) where
     text_fault : (at : ℕ) → at ≡ length f.front → (text : List ℕ) → NextLine (length f.front) f.rest (Some text) → (end : End)
-        → LineFails text at catalog before now end → Faults catalog input end
+        → LineFails text at IsBad catalog before now end → Faults catalog input end
     text_fault at at_is text next (ends.BadInput place) is = record {
       front = f.front;
       rest = f.rest;
@@ -574,7 +574,7 @@ module _ (catalog : List StoredSeries) (input : List ℕ) where
     }
     text_fault at at_is text next end is = tt
 
-    given_fault : (next : Given) → IsNext (length f.front) f.rest next → (end : End) → GivenFails next catalog before now end → Faults catalog input end
+    given_fault : (next : Given) → IsNext (length f.front) f.rest next → (end : End) → GivenFails next IsBad catalog before now end → Faults catalog input end
     given_fault (given.Line at None) (at_is, next) end is =
         let P : End → Type 0 = λ e. Faults catalog input e in
         subst P (sym is.0) (record {
@@ -594,15 +594,15 @@ module _ (catalog : List StoredSeries) (input : List ℕ) where
     given_fault given.End next end is = absurd is
 
 -- the line that stopped a run
-pub faults_told : {T : Type 0} (Told : Type 0) (view : View) (catalog : List StoredSeries) (o left before now : Option (List ℕ)) (pieces pieces' : ℕ) (answer : Result T (LinesStop End))
-    → IfErr answer (runs.StopsSo LineDoes (λ held it end was. StopsBy view catalog now held it end was) (IsHeldIfKnown Told view) unknown o left before now pieces pieces')
+pub faults_told : {T : Type 0} (Told : Type 0) (view : View) (IsBad : Rule → ℕ → Type 0) (catalog : List StoredSeries) (o left before now : Option (List ℕ)) (pieces pieces' : ℕ) (answer : Result T (LinesStop End))
+    → IfErr answer (runs.StopsSo LineDoes (λ held it end was. StopsBy view IsBad catalog now held it end was) (IsHeldIfKnown Told view) unknown o left before now pieces pieces')
     → IfSome o (λ input. Faults catalog input (run_end answer))
-faults_told {T} Told view catalog None left before now pieces pieces' answer is = tt
-faults_told {T} Told view catalog (Some input) left before now pieces pieces' (Ok done) is = tt
-faults_told {T} Told view catalog (Some input) left before now pieces pieces' (Err (stop.Fault fault.ReadFault)) is = tt
-faults_told {T} Told view catalog (Some input) left before now pieces pieces' (Err (stop.Fault fault.InputTooLong)) is = tt
-faults_told {T} Told view catalog (Some input) left before now pieces pieces' (Err (stop.Work end)) is =
-    given_fault catalog input is.done.given is.are.first
+faults_told {T} Told view IsBad catalog None left before now pieces pieces' answer is = tt
+faults_told {T} Told view IsBad catalog (Some input) left before now pieces pieces' (Ok done) is = tt
+faults_told {T} Told view IsBad catalog (Some input) left before now pieces pieces' (Err (stop.Fault fault.ReadFault)) is = tt
+faults_told {T} Told view IsBad catalog (Some input) left before now pieces pieces' (Err (stop.Fault fault.InputTooLong)) is = tt
+faults_told {T} Told view IsBad catalog (Some input) left before now pieces pieces' (Err (stop.Work end)) is =
+    given_fault IsBad catalog input is.done.given is.are.first
     (said is.are.first.front is.done.given unknown is.done.text is.done.behind is.are.first.given_are is.done.carries)
     (sent_after is.done.text before) now is.next is.are.next_is end is.why.1
 
@@ -685,9 +685,9 @@ module _ (input : List ℕ) (before now : Option (List ℕ)) where
   answers_first first text is sent = record { first = first; sent = sent ∙ ap (λ t. sent_after t before) is }
 
   -- a line stopped the run
-  module _ (catalog : List StoredSeries) (left : Option (List ℕ)) (first : FirstSwept input) (text : List ℕ) (is : text ≡ said_of first.swept) where
+  module _ (IsBad : Rule → ℕ → Type 0) (catalog : List StoredSeries) (left : Option (List ℕ)) (first : FirstSwept input) (text : List ℕ) (is : text ≡ said_of first.swept) where
     answers_line : (at : ℕ) → at ≡ length first.front → (line : List ℕ) → NextLine (length first.front) first.rest (Some line) → (end : End)
-        → LineFails line at catalog (sent_after text before) now end → AnswersSo input left before now end
+        → LineFails line at IsBad catalog (sent_after text before) now end → AnswersSo IsBad input left before now end
     answers_line at at_is line next ends.NoMemory unsent = answers_first first text is unsent
     answers_line at at_is line next ends.SendFault (rule, spells, (clears, used, part)) =
         let P : List ℕ → Type 0 = λ t. PartSent (swept_text clears used) (sent_after t before) now in
@@ -700,10 +700,11 @@ module _ (input : List ℕ) (before now : Option (List ℕ)) where
           part = subst P is part;
         }
     answers_line at at_is line next ends.DiskFault (rule, spells, unsent) = answers_first first text is unsent
-    answers_line at at_is line next (ends.DamagedPage page) (rule, spells, unsent) = record {
+    answers_line at at_is line next (ends.DamagedPage page) (rule, spells, (bad, unsent)) = record {
       answered = answers_first first text is unsent;
       rule = rule;
       next = record { line = Some line; next = next; says_it = spells };
+      so = bad;
     }
     answers_line at at_is line next (ends.BadInput place) bad =
         record { answered = answers_first first text is bad.unsent; at_is = bad.place_is ∙ at_is }
@@ -712,12 +713,12 @@ module _ (input : List ℕ) (before now : Option (List ℕ)) where
     answers_line at at_is line next end (rule, spells, fails) = absurd fails
 
     answers_given : (next : Given) → IsNext (length first.front) first.rest next → (end : End)
-        → GivenFails next catalog (sent_after text before) now end → AnswersSo input left before now end
+        → GivenFails next IsBad catalog (sent_after text before) now end → AnswersSo IsBad input left before now end
     answers_given (given.Line at None) (at_is, next) end fails =
-        let P : End → Type 0 = λ e. AnswersSo input left before now e in
+        let P : End → Type 0 = λ e. AnswersSo IsBad input left before now e in
         subst P (sym fails.0) (record { answered = answers_first first text is fails.1; at_is = at_is })
     answers_given (given.Line at (Some line)) (at_is, next) end fails =
-        answers_line at at_is line (as_next catalog input (length first.front) first.rest (Some line) next) end fails
+        answers_line at at_is line (as_next IsBad catalog input (length first.front) first.rest (Some line) next) end fails
     answers_given given.Pause next end fails = absurd fails
     answers_given given.End next end fails = absurd fails
 
@@ -726,29 +727,29 @@ behind_so rest None is = tt
 behind_so rest (Some l) is = record { partial = is.partial; taken = is.taken; unended = is.unended }
 
 -- how a run ended
-pub answers_told : {T : Type 0} (Told : Type 0) (view : View) (catalog : List StoredSeries) (o left before now : Option (List ℕ)) (pieces pieces' : ℕ) (answer : Result T (LinesStop End))
+pub answers_told : {T : Type 0} (Told : Type 0) (view : View) (IsBad : Rule → ℕ → Type 0) (catalog : List StoredSeries) (o left before now : Option (List ℕ)) (pieces pieces' : ℕ) (answer : Result T (LinesStop End))
     → OnOk answer (runs.Runs LineDoes unknown (runs.AreAll pieces pieces') (IsHeldIfKnown Told view) o before now)
-    → IfErr answer (runs.StopsSo LineDoes (λ held it end was. StopsBy view catalog now held it end was) (IsHeldIfKnown Told view) unknown o left before now pieces pieces')
-    → IfSome o (λ input. AnswersSo input left before now (run_end answer))
-answers_told {T} Told view catalog None left before now pieces pieces' answer all is = tt
-answers_told {T} Told view catalog (Some input) left before now pieces pieces' (Ok done) all is = answers_all input before now Told view pieces pieces' all
-answers_told {T} Told view catalog (Some input) left before now pieces pieces' (Err (stop.Fault fault.ReadFault)) all is =
+    → IfErr answer (runs.StopsSo LineDoes (λ held it end was. StopsBy view IsBad catalog now held it end was) (IsHeldIfKnown Told view) unknown o left before now pieces pieces')
+    → IfSome o (λ input. AnswersSo IsBad input left before now (run_end answer))
+answers_told {T} Told view IsBad catalog None left before now pieces pieces' answer all is = tt
+answers_told {T} Told view IsBad catalog (Some input) left before now pieces pieces' (Ok done) all is = answers_all input before now Told view pieces pieces' all
+answers_told {T} Told view IsBad catalog (Some input) left before now pieces pieces' (Err (stop.Fault fault.ReadFault)) all is =
     let f = first_swept input before now is.done is.are.first in
     record {
       answered = answers_first input before now f.0 is.done.text f.1 is.sent;
       whole = is.are.whole;
       behind = behind_so is.are.first.rest left is.are.behind;
     }
-answers_told {T} Told view catalog (Some input) left before now pieces pieces' (Err (stop.Fault fault.InputTooLong)) all is =
+answers_told {T} Told view IsBad catalog (Some input) left before now pieces pieces' (Err (stop.Fault fault.InputTooLong)) all is =
     let f = first_swept input before now is.done is.are.first in
     record {
       answered = answers_first input before now f.0 is.done.text f.1 is.sent;
       unended = is.are.unended;
       past = is.are.past;
     }
-answers_told {T} Told view catalog (Some input) left before now pieces pieces' (Err (stop.Work end)) all is =
+answers_told {T} Told view IsBad catalog (Some input) left before now pieces pieces' (Err (stop.Work end)) all is =
     let f = first_swept input before now is.done is.are.first in
-    answers_given input before now catalog left f.0 is.done.text f.1 is.next is.are.next_is end is.why.1
+    answers_given input before now IsBad catalog left f.0 is.done.text f.1 is.next is.are.next_is end is.why.1
 
 -- before the first line
 pub no_answers : (before : Option (List ℕ)) (o : Option (List ℕ)) → IfSome o (λ input. AnswersFirst input before before)

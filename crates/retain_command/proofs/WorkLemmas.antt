@@ -10,6 +10,7 @@ use Rattle.retention.specs.declared.sweep_error.SweepError.TheVariants as sweep
 use Rattle.run_ends.specs.declared.ending.End.{End}
 use Rattle.run_ends.specs.declared.ending.End.TheVariants.{BadInput, InputTooLong}
 use Rattle.retention.specs.Sweeps.{sweeps}
+use Rattle.retention.specs.declared.rule.Rule.{Rule}
 use Rattle.series_catalog.specs.declared.stored_series.StoredSeries.{StoredSeries}
 use Rattle.retain_command.specs.Answers.{answer, swept_text}
 use Rattle.retain_command.specs.Doing.{DoesLine, LineDone, LineFails, LineSays, RuleCosts, end_at}
@@ -96,11 +97,11 @@ module _ (held : Held) (text : List ℕ) (at : ℕ) (old new : View) (before now
       by true known = line_known Told' (more (stands known).0) (stands known).2 (does known).done
       by false unknown = line_said Told' (λ known. let both : false ≡ true = sym unknown ∙ known in cc) says
 
-  pub work_stops : {T : Type 0} (Told : Type 0) (result : Result T End) (catalog : List StoredSeries) → IsHeldIfKnown Told old held
-      → (held.known ≡ true → DoesLine held.total held.book text at result old new before now) → IfErr result (LineFails text at catalog before now)
-      → IfErr result (λ end. (held.known ≡ true → LineStopped held (Line at (Some text)) new before now end) × GivenFails (Line at (Some text)) catalog before now end)
-  work_stops {T} Told (Ok v) catalog stands does fails = tt
-  work_stops {T} Told (Err e) catalog stands does fails = (
+  pub work_stops : {T : Type 0} (Told : Type 0) (result : Result T End) (IsBad : Rule → ℕ → Type 0) (catalog : List StoredSeries) → IsHeldIfKnown Told old held
+      → (held.known ≡ true → DoesLine held.total held.book text at result old new before now) → IfErr result (LineFails text at IsBad catalog before now)
+      → IfErr result (λ end. (held.known ≡ true → LineStopped held (Line at (Some text)) new before now end) × GivenFails (Line at (Some text)) IsBad catalog before now end)
+  work_stops {T} Told (Ok v) IsBad catalog stands does fails = tt
+  work_stops {T} Told (Err e) IsBad catalog stands does fails = (
     (λ known.
         let did = does known in
         record {

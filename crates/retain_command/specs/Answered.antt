@@ -54,11 +54,12 @@ module _ (input : List ℕ) (before now : Option (List ℕ)) where
     pub answered : AnswersFirst
     pub at_is : at ≡ length answered.first.front
 
-  -- the line behind them is a rule, which wasn't answered
-  pub record AnswersToRule : Type 0 where
+  -- the line behind them is a rule, of which this is so, and it wasn't answered
+  pub record AnswersToRule (IsSo : Rule → Type 0) : Type 0 where
     pub answered : AnswersFirst
     pub rule : Rule
     pub next : NextSwept input answered.first rule
+    pub so : IsSo rule
 
   -- the line behind them is a rule, and a part of its answer was sent
   pub record AnswersPart : Type 0 where
@@ -69,15 +70,16 @@ module _ (input : List ℕ) (before now : Option (List ℕ)) where
     pub used : ℕ
     pub part : PartSent (swept_text clears used) (sent_after (said_of first.swept) before) now
 
--- Which lines were answered, by how a run ended. Where another cause kept a store from being opened nothing was sent.
-abbrev pub AnswersSo : List ℕ → Option (List ℕ) → Option (List ℕ) → Option (List ℕ) → End → Type 0
-AnswersSo input left before now Done = AnswersAll input before now
-AnswersSo input left before now NoMemory = AnswersFirst input before now
-AnswersSo input left before now ReadFault = AnswersTaken input before now left
-AnswersSo input left before now SendFault = AnswersPart input before now
-AnswersSo input left before now DiskFault = AnswersFirst input before now
-AnswersSo input left before now (DamagedPage page) = AnswersToRule input before now
-AnswersSo input left before now (BadInput at) = AnswersBefore input before now at
-AnswersSo input left before now InputTooLong = AnswersWithin input before now
-AnswersSo input left before now (NoSeries at) = AnswersBefore input before now at
-AnswersSo input left before now end = now ≡ before
+-- Which lines were answered, by how a run ended. A page that is called damaged is bad for the rule that the next line is. Where a
+-- store wasn't opened nothing was sent.
+abbrev pub AnswersSo : (Rule → ℕ → Type 0) → List ℕ → Option (List ℕ) → Option (List ℕ) → Option (List ℕ) → End → Type 0
+AnswersSo IsBad input left before now Done = AnswersAll input before now
+AnswersSo IsBad input left before now NoMemory = AnswersFirst input before now
+AnswersSo IsBad input left before now ReadFault = AnswersTaken input before now left
+AnswersSo IsBad input left before now SendFault = AnswersPart input before now
+AnswersSo IsBad input left before now DiskFault = AnswersFirst input before now
+AnswersSo IsBad input left before now (DamagedPage page) = AnswersToRule input before now (λ rule. IsBad rule page)
+AnswersSo IsBad input left before now (BadInput at) = AnswersBefore input before now at
+AnswersSo IsBad input left before now InputTooLong = AnswersWithin input before now
+AnswersSo IsBad input left before now (NoSeries at) = AnswersBefore input before now at
+AnswersSo IsBad input left before now end = now ≡ before

@@ -170,14 +170,14 @@ SaysPart before now = (clears : ℕ) × (used : ℕ) × PartSent (swept_text cle
 abbrev pub LineSays : List ℕ → Option (List ℕ) → Option (List ℕ) → Type 0
 LineSays text before now = ((text ≡ []) × (now ≡ before)) ⊎ ((rule : Rule) × Spells rule text × SaysSwept before now)
 
--- why a rule wasn't answered, with the catalog behind it
-abbrev pub RuleFails : Rule → ℕ → List StoredSeries → Option (List ℕ) → Option (List ℕ) → End → Type 0
-RuleFails rule at catalog before now NoMemory = now ≡ before
-RuleFails rule at catalog before now SendFault = SaysPart before now
-RuleFails rule at catalog before now DiskFault = now ≡ before
-RuleFails rule at catalog before now (DamagedPage page) = now ≡ before
-RuleFails rule at catalog before now (NoSeries place) = (place ≡ at) × LacksNamed catalog rule × (now ≡ before)
-RuleFails rule at catalog before now end = ⊥
+-- why a rule wasn't answered, with the catalog behind it; a page that is called damaged is bad for the rule
+abbrev pub RuleFails : Rule → ℕ → (Rule → ℕ → Type 0) → List StoredSeries → Option (List ℕ) → Option (List ℕ) → End → Type 0
+RuleFails rule at IsBad catalog before now NoMemory = now ≡ before
+RuleFails rule at IsBad catalog before now SendFault = SaysPart before now
+RuleFails rule at IsBad catalog before now DiskFault = now ≡ before
+RuleFails rule at IsBad catalog before now (DamagedPage page) = IsBad rule page × (now ≡ before)
+RuleFails rule at IsBad catalog before now (NoSeries place) = (place ≡ at) × LacksNamed catalog rule × (now ≡ before)
+RuleFails rule at IsBad catalog before now end = ⊥
 
 -- it isn't empty and says no rule, and nothing was sent
 pub record FailsBad (text : List ℕ) (at place : ℕ) (before now : Option (List ℕ)) : Type 0 where
@@ -187,10 +187,10 @@ pub record FailsBad (text : List ℕ) (at place : ℕ) (before now : Option (Lis
   pub unsent : now ≡ before
 
 -- why a line wasn't answered
-abbrev pub LineFails : List ℕ → ℕ → List StoredSeries → Option (List ℕ) → Option (List ℕ) → End → Type 0
-LineFails text at catalog before now NoMemory = now ≡ before
-LineFails text at catalog before now (BadInput place) = FailsBad text at place before now
-LineFails text at catalog before now end = (rule : Rule) × Spells rule text × RuleFails rule at catalog before now end
+abbrev pub LineFails : List ℕ → ℕ → (Rule → ℕ → Type 0) → List StoredSeries → Option (List ℕ) → Option (List ℕ) → End → Type 0
+LineFails text at IsBad catalog before now NoMemory = now ≡ before
+LineFails text at IsBad catalog before now (BadInput place) = FailsBad text at place before now
+LineFails text at IsBad catalog before now end = (rule : Rule) × Spells rule text × RuleFails rule at IsBad catalog before now end
 
 -- ---- what calls move, whatever the pages are
 

@@ -100,11 +100,11 @@ pub record LineStopped (held : Held) (it : given.Given) (at : View) (before now 
   pub costs : Costs (counted_more held.counted more) at
 
 -- the same whatever the pages are
-abbrev pub GivenFails : given.Given → List StoredSeries → Option (List ℕ) → Option (List ℕ) → End → Type 0
-GivenFails (given.Line at None) catalog before now end = (end ≡ BadInput at) × (now ≡ before)
-GivenFails (given.Line at (Some text)) catalog before now end = LineFails text at catalog before now end
-GivenFails given.Pause catalog before now end = ⊥
-GivenFails given.End catalog before now end = ⊥
+abbrev pub GivenFails : given.Given → (Rule → ℕ → Type 0) → List StoredSeries → Option (List ℕ) → Option (List ℕ) → End → Type 0
+GivenFails (given.Line at None) IsBad catalog before now end = (end ≡ BadInput at) × (now ≡ before)
+GivenFails (given.Line at (Some text)) IsBad catalog before now end = LineFails text at IsBad catalog before now end
+GivenFails given.Pause IsBad catalog before now end = ⊥
+GivenFails given.End IsBad catalog before now end = ⊥
 
 -- after it no line may be given
 abbrev pub Harms : End → Type 0

@@ -1,4 +1,5 @@
 use Rattle.series_store.specs.Shown as shown
+use Rattle.retain_command.specs.Shown.{IsBadOn}
 use Rattle.retain_command.proofs.DoingLemmas.{line_fails, line_of_rule, rule_says}
 use Rattle.retain_command.proofs.answering.answer_line.Goals as goal
 
@@ -18,5 +19,5 @@ returns-in-Ok-clause-says g c =
 pub returns-in-Ok-clause-fails : goal.returns-in-Ok-clause-fails
 returns-in-Ok-clause-fails g c =
     let sent = g.P.Streams.sent in
-    line_fails c.answer_rule.result c.args.line.now c.in-Ok.rule c.args.at (shown.catalog c.answer_rule.new.store)
+    line_fails c.answer_rule.result c.args.line.now c.in-Ok.rule c.args.at (IsBadOn c.answer_rule.new.store) (shown.catalog c.answer_rule.new.store)
     (sent (shown.pages c.args.store.now)) (sent (shown.pages c.answer_rule.new.store)) c.in-Ok.ensures.spelt c.answer_rule.ensures.fails

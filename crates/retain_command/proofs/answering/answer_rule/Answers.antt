@@ -7,6 +7,7 @@ use Rattle.retain_command.specs.Answers.{swept_text}
 use Rattle.chart_world.specs.Faults.{fault_in}
 use Rattle.chart_world.specs.FaultLaws.{counts_then}
 use Rattle.run_ends.specs.Faults.{end_fault}
+use Rattle.retain_command.specs.Shown.{IsBadOn}
 use Rattle.retain_command.proofs.Counting.{sweep_counts}
 use Rattle.retain_command.proofs.DoingLemmas.{costs_of, rule_answered, rule_stopped, says_so, sweep_fails, swept_there, unsent_fails}
 use Rattle.retain_command.proofs.WorkLemmas.{sweep_short}
@@ -67,7 +68,7 @@ returns-in-Ok-clause-fails g c =
     let w = g.met.P.PageWorld in
     let pages = shown.pages c.args.store.now in
     let mid = shown.pages c.sweep.new.store in
-    unsent_fails c.send_swept.result c.args.rule.now c.args.at (shown.catalog c.send_swept.new.store) c.in-Ok.swept.clears c.in-Ok.swept.used
+    unsent_fails c.send_swept.result c.args.rule.now c.args.at (IsBadOn c.send_swept.new.store) (shown.catalog c.send_swept.new.store) c.in-Ok.swept.clears c.in-Ok.swept.used
     (sent pages) (sent mid) (sent (shown.pages c.send_swept.new.store))
     (sym (w.beside_sent mid) ∙ ap (λ (b : Beside). b.sent) c.in-Ok.ensures.carries.beside ∙ w.beside_sent pages) c.send_swept.ensures.stops
 
@@ -78,6 +79,7 @@ returns-in-Err-clause-fails g c =
     let pages = shown.pages c.args.store.now in
     let mid = shown.pages c.sweep.new.store in
     let e = c.in-Err.ensures in
-    sweep_fails c.in-Err.error c.args.rule.now c.args.at (shown.catalog c.sweep.new.store) (sent pages) (sent mid) c.end_at.result c.end_at.ensures
+    sweep_fails c.in-Err.error c.args.rule.now c.args.at (IsBadOn c.sweep.new.store) (shown.catalog c.sweep.new.store) (sent pages) (sent mid) c.end_at.result c.end_at.ensures
     (λ is. let P : List StoredSeries → Type 0 = λ items. LacksNamed items c.args.rule.now in subst P (sym (ap (λ s. shown.catalog s) (e.untouched is))) (e.lacks is))
+    e.blames
     (sym (w.beside_sent mid) ∙ ap (λ (b : Beside). b.sent) e.carries.beside ∙ w.beside_sent pages)
