@@ -70,5 +70,6 @@ module _ (name : List ℕ) (old new : View) (t : Traffic) where
     crash = both_told t.left t.sent _ _ e.crash e.kept;
     costs = e.costs;
     line = e.line;
+    read = e.read;
     good = good_of t.left refl end e.is;
   }

@@ -57,5 +57,6 @@ module _ (old new : View) (t : Traffic) where
     crash = e.crash;
     costs = e.costs;
     line = e.faulty;
+    answered = e.answered;
     good = told_so (Sweeps end) (λ input. AreRetained old new input → IsDoneOrCut end) t.left (retain_good end e.cause) e.does;
   }

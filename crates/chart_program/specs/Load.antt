@@ -14,7 +14,7 @@ use Rattle.series_load.specs.Sets.{IsNamed}
 use Rattle.stored_book.specs.Damage.{IsBadForEdit}
 use Rattle.store_commands.specs.Lacking.{LacksRecord}
 use Rattle.store_commands.specs.Loaded.{HasNone, IsAtLine, LeavesLoads, LeavesUnnamed, LoadsAll, LoadsAndSendsPart, LoadsSome, LoadsTaken, LoadsToBad}
-use Rattle.store_commands.specs.Loaded.{LoadsFew, LoadsWithin, RefusesRun, Unnamed, unnamed_ends}
+use Rattle.store_commands.specs.Loaded.{LoadsFew, LoadsWithin, RefusesRun, TellsReadings, Unnamed, unnamed_ends}
 use Rattle.chart_program.specs.Course.{AtEachMoment, Course, FoundDamaged, FoundPage, HasFewBlocks, HeldNoBook, IsDoneOrCut, IsLonger, IsShort}
 use Rattle.chart_program.specs.Course.{KeptBook, OfInput, OfLeft, OverStore, SentNothing, Told, TookNothing, count}
 
@@ -49,7 +49,7 @@ pub record AreReadings (name : List ℕ) (old new : View) (input : List ℕ) : T
 
 -- The same, and what is so however it ended. Where no series has the name, it says so, unless a call of the disk failed or there
 -- was no memory. Behind an opening each set is one commit at most. Whatever the disk holds, a line that is told is the first bad
--- one.
+-- one, and where a load is done no line is bad, and the number of the readings was sent.
 pub record OfLoad (name : List ℕ) (c : Course) (end : End) : Type 0 where
   pub does : LoadDoes name c end
   pub store : OverStore c end
@@ -58,4 +58,5 @@ pub record OfLoad (name : List ℕ) (c : Course) (end : End) : Type 0 where
   pub crash : AtEachMoment c (λ count input old new. LeavesLoads name count input old new × LeavesUnnamed name count old new)
   pub costs : OfInput c (LoadsFew name (count c) c.old c.new)
   pub line : OfInput c (λ input. IsAtLine name (count c) c.old input end)
+  pub read : OfInput c (λ input. TellsReadings name (count c) c.old input c.sent c.sent_now end)
   pub good : OfInput c (λ input. AreReadings name c.old c.new input → IsDoneOrCut end)

@@ -5,9 +5,11 @@ use Rattle.block_disk.specs.View.{View}
 use Rattle.chart_service.specs.Serving.{told}
 use Rattle.disk_store.specs.Held.{HoldsBook}
 use Rattle.gate_pages.specs.Journal.{page_count}
+use Rattle.retain_command.specs.Answered.{AnswersSo}
 use Rattle.retain_command.specs.Answers.{AreRules}
 use Rattle.retain_command.specs.Retained.{IsAtLine, LeavesSwept, RetainsAll, RetainsLines, RetainsPart, RetainsSome, RetainsTaken, RetainsToBad}
 use Rattle.retain_command.specs.Retained.{RetainsFew, RetainsToUnknown, RetainsWithin}
+use Rattle.retention.specs.Damage.{IsBadForSweep}
 use Rattle.retention.specs.declared.rule.Rule.{Rule}
 use Rattle.run_ends.specs.declared.ending.End.{End}
 use Rattle.run_ends.specs.declared.ending.End.TheVariants.{Done, NoMemory, ReadFault, SendFault, DiskFault, DamagedBlock, DamagedPage}
@@ -44,11 +46,13 @@ pub record AreRetained (old new : View) (input : List ℕ) : Type 0 where
   pub whole : HasRisen old.faults new.faults → ⊥
 
 -- The same, and what is so however it ended. Behind an opening each clear is one commit, and comes behind a look. Whatever the
--- disk holds, a line that is told is the first that is no rule, or names a series that the catalog lacks.
+-- disk holds, a line that is told is the first that is no rule, or names a series that the catalog lacks, and each line before it,
+-- or every line where the command was done, was answered as a rule that it spells.
 pub record OfRetain (c : Course) (end : End) : Type 0 where
   pub does : RetainDoes c end
   pub store : OverStore c end
   pub crash : AtEachMoment c LeavesSwept
   pub costs : OfInput c (RetainsFew (count c) c.old c.new)
   pub line : OfInput c (λ input. IsAtLine (count c) c.new input end)
+  pub answered : OfInput c (λ input. AnswersSo (λ rule. FoundPage (IsBadForSweep rule) c c.new) input c.left_now c.sent c.sent_now end)
   pub good : OfInput c (λ input. AreRetained c.old c.new input → IsDoneOrCut end)

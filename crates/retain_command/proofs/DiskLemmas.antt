@@ -1,5 +1,5 @@
 -- How lines end over the store of a disk, in the words of the disk.
-use Rattle.std.proofs.Common.{◌≡◌, ◌≢◌, ◌∙◌, ℕ, ◌+◌, ◌*◌, ◌≤◌, Bool, List, length, Option, Some, None, IfSome, refl, sym, subst, inl, inr, arith}
+use Rattle.std.proofs.Common.{◌≡◌, ◌≢◌, ◌∙◌, ℕ, ◌+◌, ◌*◌, ◌<◌, ◌≤◌, Bool, List, length, Option, Some, None, IfSome, refl, sym, subst, inl, inr, arith}
 use Rattle.block_disk.specs.SentLaws.{sent_none}
 use Rattle.block_disk.specs.View.{Image, View, Honest, sent_now}
 use Rattle.chart_service.specs.MomentLaws.{since_both}
@@ -18,11 +18,13 @@ use Rattle.run_ends.specs.Statuses.{block_of}
 use Rattle.run_ends.specs.declared.ending.End.{End}
 use Rattle.run_ends.specs.declared.ending.End.TheVariants.{Done, NoMemory, ReadFault, SendFault, DiskFault, DamagedPage}
 use Rattle.run_ends.specs.declared.ending.End.TheVariants.{BadInput, InputTooLong, NoSeries}
+use Rattle.retention.specs.Damage.{IsBadForSweep}
 use Rattle.retention.specs.Moving.{clear_reads}
+use Rattle.retention.specs.declared.rule.Rule.{Rule}
 use Rattle.series_book.specs.declared.one_series.Series.{Series}
 use Rattle.series_catalog.specs.declared.stored_series.StoredSeries.{StoredSeries}
 use Rattle.series_store.specs.Asking.{LacksName}
-use Rattle.stored_book.proofs.CurrentLemmas.{recovers_new}
+use Rattle.stored_book.proofs.CurrentLemmas.{recovers_new, spelled_current}
 use Rattle.stored_book.specs.Damage.{IsBadForRequest}
 use Rattle.stored_book.specs.Standing.{StandsForBook, RecoversTo}
 use Rattle.store_commands.proofs.Damages.{later_bad}
@@ -39,11 +41,12 @@ use Rattle.store_commands.specs.Lacking.{LacksRecord}
 use Rattle.store_commands.specs.Sides.{Side}
 use Rattle.store_commands.specs.Status.{opening_end}
 use Rattle.store_commands.specs.Traffic.{IsLong, Traffic, WasRead}
+use Rattle.retain_command.specs.Answered.{AnswersSo}
 use Rattle.retain_command.specs.Answers.{book_behind}
 use Rattle.retain_command.specs.Doing.{Goes, IsCause, RuleCosts}
-use Rattle.retain_command.specs.Retained.{IsAtLine, IsRetainCause, LeavesSwept, RetainEnds, RetainsFew}
+use Rattle.retain_command.specs.Retained.{IsAtLine, IsBadBy, IsRetainCause, LeavesSwept, RetainEnds, RetainsFew}
 use Rattle.retain_command.specs.Sweeping.{EndsSo, Faults, IsAhead, SweepsAll, SweepsFew, SweepsFirst, clears_of, left_by}
-use Rattle.retain_command.proofs.RuleLemmas.{no_rules}
+use Rattle.retain_command.proofs.RuleLemmas.{first_unanswered, no_rules}
 
 -- ---- the same of a book that is there otherwise
 
@@ -98,6 +101,23 @@ ahead_on total book input from sent count crash within all image left =
 -- before the first line
 ahead_none : (total : ℕ) (book : List Series) (input : List ℕ) (from count : ℕ) (image : Image) → RecoversTo count image total book → IsAhead (λ after. RecoversTo count image total after) total book input from from
 ahead_none total book input from count image is = record { first = no_rules total book input; state = inl (is, omega arith) }
+
+-- ---- a page that a sweep calls damaged
+
+-- it is so of the disk, whose pages are of version 2
+later_swept : (rule : Rule) (count count' : ℕ) (new : View) (page : ℕ) → count' ≡ count → page < count'
+    → (Honest new → IsBadForSweep rule count' (pages_of count' new.image) page) → IsBadBy count new rule page
+later_swept rule count count' new page same within bad =
+    let P : ℕ → Type 0 = λ n. IsBadForSweep rule n (pages_of n new.image) page in
+    let Q : Image → Type 0 = λ pages. IsBadForSweep rule count pages page in
+    record {
+      page = page;
+      place_is = refl;
+      within = omega (arith, within, same);
+      bad = λ honest.
+          let here = subst P same (bad honest) in
+          subst Q (sym (spelled_current (pages_of count new.image) here.numbers here.keeps.spelled)) here;
+    }
 
 -- ---- a store was opened
 
@@ -201,6 +221,33 @@ module _ (count count' : ℕ) (sound sound' : Bool) (first old new : View) (tota
       }
   fault_on catalog input end lacking is = tt
 
+  -- the page that the line is told to have met
+  abbrev pub BadOn : Rule → ℕ → Type 0
+  BadOn rule page = Honest new → IsBadForSweep rule (pages_view count' sound' new).size (pages_view count' sound' new).image page
+
+  answered_on : (input : List ℕ) (end : End)
+      → (end ≢ Done → IsCause end (disk_side count sound old total t.reads t.sends) (disk_side count' sound' new total' t.reads_now t.sends_now))
+      → AnswersSo BadOn input t.left_now t.sent t.sent_now end
+      → AnswersSo (IsBadBy (page_count first.size) new) input t.left_now t.sent t.sent_now end
+  answered_on input Done cause is = is
+  answered_on input NoMemory cause is = is
+  answered_on input ReadFault cause is = is
+  answered_on input SendFault cause is = is
+  answered_on input DiskFault cause is = is
+  answered_on input (DamagedPage page) cause is =
+      let low = (cause (λ is. cc)).0 in
+      let C : ℕ → Type 0 = λ n. IsBadBy n new is.rule page in
+      record {
+        answered = is.answered;
+        rule = is.rule;
+        next = is.next;
+        so = subst C counted (later_swept is.rule count count' new page goes.size (omega (arith, low, few, goes.size)) is.so);
+      }
+  answered_on input (BadInput at) cause is = is
+  answered_on input InputTooLong cause is = is
+  answered_on input (NoSeries at) cause is = is
+  answered_on input end cause is = is
+
   next_held : (n total : ℕ) (book : List Series) (input : List ℕ) (end : End) → end ≢ DiskFault → SweptBy n total book input end → (next : List Series) × HoldsBook n total next new
   next_held n total book input Done other s = (_, s.there)
   next_held n total book input NoMemory other (inl s) = (_, s.there)
@@ -220,8 +267,9 @@ module _ (count count' : ℕ) (sound sound' : Bool) (first old new : View) (tota
       → (end ≢ DiskFault → IsClosed new)
       → OfPages count old (λ total book. IfSome t.left (λ input. SweepsFew (λ rules clears. RuleCosts rules clears (pages_view count sound old) (pages_view count' sound' new)) total book input))
       → (catalog : List StoredSeries) → IfSome t.left (λ input. Faults catalog input end)
-      → (end ≢ DiskFault → (name : List ℕ) → LacksName catalog name → LacksRecord count' new name) → RetainEnds first new t end
-  retained_by end whole long cause ends crash closed costs catalog faults lacking =
+      → (end ≢ DiskFault → (name : List ℕ) → LacksName catalog name → LacksRecord count' new name)
+      → IfSome t.left (λ input. AnswersSo BadOn input t.left_now t.sent t.sent_now end) → RetainEnds first new t end
+  retained_by end whole long cause ends crash closed costs catalog faults lacking answered =
       let n = page_count first.size in
       let does = does_on t.left end ends closed in
       record {
@@ -231,6 +279,8 @@ module _ (count count' : ℕ) (sound sound' : Bool) (first old new : View) (tota
         crash = crash_on t.left t.sent crash;
         costs = costs_on t.left costs;
         faulty = told_so (λ input. Faults catalog input end) (λ input. IsAtLine (page_count first.size) new input end) t.left (λ input is. fault_on catalog input end lacking is) faults;
+        answered = told_so (λ input. AnswersSo BadOn input t.left_now t.sent t.sent_now end)
+            (λ input. AnswersSo (IsBadBy n new) input t.left_now t.sent t.sent_now end) t.left (λ input is. answered_on input end cause is) answered;
         honest = λ h. goes.is_told (opens.honest h);
         goes_on = goes_then first old new (opened_goes first old opens) goes.goes_on;
       }
@@ -266,6 +316,13 @@ module _ (old new : View) (t : Traffic) where
   unopened_fault input opening.DiskFault = tt
   unopened_fault input opening.NoMemory = tt
 
+  unopened_answered : (input : List ℕ) (cause : OpeningCause) → IsUnopened old new t.left t.left_now t.sent t.sent_now cause
+      → AnswersSo (IsBadBy (page_count old.size) new) input t.left_now t.sent t.sent_now (opening_end cause)
+  unopened_answered input (opening.TooSmall size) u = u.sent_is
+  unopened_answered input (opening.Damaged block) u = u.sent_is
+  unopened_answered input opening.DiskFault u = first_unanswered input t.sent t.sent_now u.sent_is
+  unopened_answered input opening.NoMemory u = first_unanswered input t.sent t.sent_now u.sent_is
+
   pub unopened_ends : (cause : OpeningCause) (end : End) → end ≡ opening_end cause → IsUnopened old new t.left t.left_now t.sent t.sent_now cause → RetainEnds old new t end
   unopened_ends cause end same u =
       let E : End → Type 0 = λ e. RetainEnds old new t e in
@@ -276,6 +333,7 @@ module _ (old new : View) (t : Traffic) where
         crash = any_told t.left (λ input. IfSome t.sent (λ bytes. LeavesSwept (page_count old.size) input old new)) (λ input. any_told t.sent (λ bytes. LeavesSwept (page_count old.size) input old new) (λ bytes. unopened_crash input u.opens));
         costs = any_told t.left (RetainsFew (page_count old.size) old new) (λ input. unopened_costs input u.opens);
         faulty = any_told t.left (λ input. IsAtLine (page_count old.size) new input (opening_end cause)) (λ input. unopened_fault input cause);
+        answered = any_told t.left (λ input. AnswersSo (IsBadBy (page_count old.size) new) input t.left_now t.sent t.sent_now (opening_end cause)) (λ input. unopened_answered input cause u);
         honest = u.opens.honest;
         goes_on = opened_goes old new u.opens;
       })

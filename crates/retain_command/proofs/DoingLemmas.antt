@@ -9,11 +9,12 @@ use Rattle.line_runs.specs.Moments.{Through}
 use Rattle.gate_pages.proofs.Moving.{sent_same}
 use Rattle.gate_pages.specs.Pages.{Quiet}
 use Rattle.run_ends.specs.declared.ending.End.{End}
-use Rattle.run_ends.specs.declared.ending.End.TheVariants.{NoMemory, SendFault, DiskFault, BadInput, NoSeries}
+use Rattle.run_ends.specs.declared.ending.End.TheVariants.{NoMemory, SendFault, DiskFault, DamagedPage, BadInput, NoSeries}
 use Rattle.series_book.specs.declared.one_series.Series.{Series}
 use Rattle.series_book.specs.EditLists.{after_edits}
 use Rattle.series_catalog.specs.declared.stored_series.StoredSeries.{StoredSeries}
 use Rattle.stored_book.specs.Standing.{StandsForBook}
+use Rattle.retention.specs.Damage.{Blames}
 use Rattle.retention.specs.Drops.{book_swept}
 use Rattle.retention.specs.Moving.{CommitsFew, ReadsFew}
 use Rattle.retention.specs.Sweeping.{IsAfterSome, IsSwept, StopsSo}
@@ -23,7 +24,7 @@ use Rattle.retention.specs.declared.sweep_error.SweepError.{SweepError}
 use Rattle.retention.specs.declared.sweep_error.SweepError.TheVariants as sweep
 use Rattle.retention.specs.declared.swept.Swept.{Swept}
 use Rattle.retain_command.specs.Answers.{answer, swept_text}
-use Rattle.retain_command.specs.Doing.{DoesLine, DoesRule, IsFaulty, IsLacking, LineMoment, LineSays, LineStops, RuleCosts, RuleMoment, RuleStops, SaysSome, TextStops, Untouched, end_at}
+use Rattle.retain_command.specs.Doing.{DoesLine, DoesRule, LineFails, LineMoment, LineSays, LineStops, RuleCosts, RuleFails, RuleMoment, RuleStops, SaysSwept, TextStops, Untouched, end_at}
 use Rattle.retain_command.specs.Rules.{Spells, SaysNone}
 
 abbrev failed : SweepError → Result Swept SweepError
@@ -198,49 +199,59 @@ module _ (total : ℕ) (book : List Series) (text : List ℕ) (at : ℕ) (old : 
 
 -- ---- whatever the pages are
 
--- what was sent of an answer
-pub says_some : {T : Type 0} (result : Result T End) (text : List ℕ) (before between now : Option (List ℕ)) → between ≡ before
-    → OnOk result (now ≡ sent_after text between) → OnOk result (SaysSome before now)
-says_some {T} (Ok v) text before between now same sent = (text, sent ∙ ap (sent_after text) same)
-says_some {T} (Err end) text before between now same sent = tt
+-- the answer was sent
+pub says_so : {T : Type 0} (result : Result T End) (clears used : ℕ) (before between now : Option (List ℕ)) → between ≡ before
+    → OnOk result (now ≡ sent_after (swept_text clears used) between) → OnOk result (SaysSwept before now)
+says_so {T} (Ok v) clears used before between now same sent = (clears, used, sent ∙ ap (sent_after (swept_text clears used)) same)
+says_so {T} (Err end) clears used before between now same sent = tt
 
-text_lacks : (rule : Rule) (at : ℕ) (catalog : List StoredSeries) (text : List ℕ) (before now : Option (List ℕ)) (end : End)
-    → TextStops text before now end → IsLacking rule at catalog end
-text_lacks rule at catalog text before now NoMemory stops = tt
-text_lacks rule at catalog text before now SendFault stops = tt
-text_lacks rule at catalog text before now end stops = absurd stops
+text_fails : (rule : Rule) (at : ℕ) (IsBad : Rule → ℕ → Type 0) (catalog : List StoredSeries) (clears used : ℕ) (before now : Option (List ℕ)) (end : End)
+    → TextStops (swept_text clears used) before now end → RuleFails rule at IsBad catalog before now end
+text_fails rule at IsBad catalog clears used before now NoMemory stops = stops
+text_fails rule at IsBad catalog clears used before now SendFault stops = (clears, used, stops)
+text_fails rule at IsBad catalog clears used before now end stops = absurd stops
 
-pub unsent_lacks : {T : Type 0} (result : Result T End) (rule : Rule) (at : ℕ) (catalog : List StoredSeries) (text : List ℕ)
-    (before now : Option (List ℕ)) → IfErr result (TextStops text before now) → IfErr result (IsLacking rule at catalog)
-unsent_lacks {T} (Ok v) rule at catalog text before now stops = tt
-unsent_lacks {T} (Err end) rule at catalog text before now stops = text_lacks rule at catalog text before now end stops
+-- it wasn't, or not all of it
+pub unsent_fails : {T : Type 0} (result : Result T End) (rule : Rule) (at : ℕ) (IsBad : Rule → ℕ → Type 0) (catalog : List StoredSeries) (clears used : ℕ)
+    (before between now : Option (List ℕ)) → between ≡ before → IfErr result (TextStops (swept_text clears used) between now)
+    → IfErr result (RuleFails rule at IsBad catalog before now)
+unsent_fails {T} (Ok v) rule at IsBad catalog clears used before between now same stops = tt
+unsent_fails {T} (Err end) rule at IsBad catalog clears used before between now same stops =
+    let B : Option (List ℕ) → Type 0 = λ b. TextStops (swept_text clears used) b now end in
+    text_fails rule at IsBad catalog clears used before now end (subst B same stops)
 
 -- why a rule wasn't swept
-pub sweep_lacks : (error : SweepError) (rule : Rule) (at : ℕ) (catalog : List StoredSeries) (end : End) → end ≡ end_at at error
-    → (failed error ≡ failed sweep.UnknownSeries → LacksNamed catalog rule) → IsLacking rule at catalog end
-sweep_lacks error rule at catalog end is lacks =
-    let P : End → Type 0 = λ e. IsLacking rule at catalog e in
-    subst P (sym is) (by error lacks)
+pub sweep_fails : (error : SweepError) (rule : Rule) (at : ℕ) (IsBad : Rule → ℕ → Type 0) (catalog : List StoredSeries) (before now : Option (List ℕ)) (end : End)
+    → end ≡ end_at at error → (failed error ≡ failed sweep.UnknownSeries → LacksNamed catalog rule) → Blames (IsBad rule) error → now ≡ before
+    → RuleFails rule at IsBad catalog before now end
+sweep_fails error rule at IsBad catalog before now end is lacks blames unsent =
+    let P : End → Type 0 = λ e. RuleFails rule at IsBad catalog before now e in
+    subst P (sym is) (by error lacks blames)
   where
-    by : (error : SweepError) → (failed error ≡ failed sweep.UnknownSeries → LacksNamed catalog rule) → IsLacking rule at catalog (end_at at error)
-    by sweep.UnknownSeries lacks = (refl, lacks refl)
-    by sweep.DiskFault lacks = tt
-    by (sweep.Damaged page) lacks = tt
-    by sweep.NoMemory lacks = tt
+    by : (error : SweepError) → (failed error ≡ failed sweep.UnknownSeries → LacksNamed catalog rule) → Blames (IsBad rule) error
+        → RuleFails rule at IsBad catalog before now (end_at at error)
+    by sweep.UnknownSeries lacks blames = (refl, lacks refl, unsent)
+    by sweep.DiskFault lacks blames = unsent
+    by (sweep.Damaged page) lacks blames = (blames, unsent)
+    by sweep.NoMemory lacks blames = unsent
 
 -- a line that is a rule
 pub rule_says : {T : Type 0} (result : Result T End) (text : List ℕ) (rule : Rule) (before now : Option (List ℕ)) → Spells rule text
-    → OnOk result (SaysSome before now) → OnOk result (LineSays text before now)
+    → OnOk result (SaysSwept before now) → OnOk result (LineSays text before now)
 rule_says {T} (Ok v) text rule before now spells says = inr (rule, spells, says)
 rule_says {T} (Err end) text rule before now spells says = tt
 
-lacking_faulty : (text : List ℕ) (rule : Rule) (at : ℕ) (catalog : List StoredSeries) (end : End) → Spells rule text
-    → IsLacking rule at catalog end → IsFaulty text at catalog end
-lacking_faulty text rule at catalog (BadInput place) spells lacking = absurd lacking
-lacking_faulty text rule at catalog (NoSeries place) spells lacking = (lacking.0, (rule, spells, lacking.1))
-lacking_faulty text rule at catalog end spells lacking = tt
+rule_fails_line : (text : List ℕ) (rule : Rule) (at : ℕ) (IsBad : Rule → ℕ → Type 0) (catalog : List StoredSeries) (before now : Option (List ℕ)) (end : End)
+    → Spells rule text → RuleFails rule at IsBad catalog before now end → LineFails text at IsBad catalog before now end
+rule_fails_line text rule at IsBad catalog before now NoMemory spells fails = fails
+rule_fails_line text rule at IsBad catalog before now SendFault spells fails = (rule, spells, fails)
+rule_fails_line text rule at IsBad catalog before now DiskFault spells fails = (rule, spells, fails)
+rule_fails_line text rule at IsBad catalog before now (DamagedPage page) spells fails = (rule, spells, fails)
+rule_fails_line text rule at IsBad catalog before now (NoSeries place) spells fails = (rule, spells, fails)
+rule_fails_line text rule at IsBad catalog before now end spells fails = absurd fails
 
-pub rule_faulty : {T : Type 0} (result : Result T End) (text : List ℕ) (rule : Rule) (at : ℕ) (catalog : List StoredSeries)
-    → Spells rule text → IfErr result (IsLacking rule at catalog) → IfErr result (IsFaulty text at catalog)
-rule_faulty {T} (Ok v) text rule at catalog spells lacking = tt
-rule_faulty {T} (Err end) text rule at catalog spells lacking = lacking_faulty text rule at catalog end spells lacking
+pub line_fails : {T : Type 0} (result : Result T End) (text : List ℕ) (rule : Rule) (at : ℕ) (IsBad : Rule → ℕ → Type 0) (catalog : List StoredSeries)
+    (before now : Option (List ℕ)) → Spells rule text → IfErr result (RuleFails rule at IsBad catalog before now)
+    → IfErr result (LineFails text at IsBad catalog before now)
+line_fails {T} (Ok v) text rule at IsBad catalog before now spells fails = tt
+line_fails {T} (Err end) text rule at IsBad catalog before now spells fails = rule_fails_line text rule at IsBad catalog before now end spells fails

@@ -1,13 +1,15 @@
 -- Rules of an input, and none yet.
-use Rattle.std.proofs.Common.{ℕ, ◌<◌, List, [], ◌∷◌, length, Option, refl, ap, sym, subst, arith, inl}
+use Rattle.std.proofs.Common.{◌≡◌, ◌∙◌, ℕ, ◌<◌, List, [], ◌∷◌, length, Option, refl, ap, sym, subst, arith, inl}
 use Rattle.std.specs.List.{filter}
+use Rattle.block_disk.specs.SentLaws.{sent_none}
 use Rattle.chart_service.specs.Serving.{told}
 use Rattle.chart_world.specs.Fronts.{says}
 use Rattle.chart_world.specs.LineLaws.{lines_none}
 use Rattle.series_book.specs.declared.one_series.Series.{Series}
 use Rattle.retention.specs.declared.rule.Rule.{Rule}
 use Rattle.retention.specs.declared.rule.Rule.TheVariants.{Before, Last, Free}
-use Rattle.retain_command.specs.Answers.{AreRules}
+use Rattle.retain_command.specs.Answered.{AnswersFirst}
+use Rattle.retain_command.specs.Answers.{AreRules, SayRules}
 use Rattle.retain_command.specs.Rules.{Spells}
 use Rattle.retain_command.specs.Sweeping.{FirstRules}
 
@@ -24,3 +26,13 @@ none_yet total book = let P : List (Option (List ℕ)) → Type 0 = λ l. AreRul
 
 abbrev pub no_rules : (total : ℕ) (book : List Series) (input : List ℕ) → FirstRules total book input
 no_rules total book input = record { front = []; rest = input; begins = record { split = refl; whole = inl (inl refl) }; early = omega arith; rules = []; are = none_yet total book }
+
+-- no answer yet
+pub unanswered_yet : SayRules (told []) []
+unanswered_yet = let P : List (Option (List ℕ)) → Type 0 = λ l. SayRules (filter says l) [] in subst P (sym lines_none) tt
+
+pub first_unanswered : (input : List ℕ) (before now : Option (List ℕ)) → now ≡ before → AnswersFirst input before now
+first_unanswered input before now unsent = record {
+  first = record { front = []; rest = input; begins = record { split = refl; whole = inl (inl refl) }; swept = []; are = unanswered_yet };
+  sent = unsent ∙ sent_none before;
+}

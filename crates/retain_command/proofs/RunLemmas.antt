@@ -4,7 +4,7 @@ use Rattle.std.specs.Prelude.{OnOk, IfErr, Result, Ok, Err}
 use Rattle.std.specs.List.{filter}
 use Rattle.std.proofs.lemmas.List.{append-nil}
 use Rattle.block_disk.specs.SentLaws.{sent_none}
-use Rattle.block_disk.specs.Streams.{sent_after}
+use Rattle.block_disk.specs.Streams.{sent_after, PartSent}
 use Rattle.block_disk.specs.View.{Image, View, Now, Only, sent_now}
 use Rattle.chart_service.specs.MomentLaws.{since_none}
 use Rattle.chart_service.specs.Moments as moments
@@ -31,13 +31,14 @@ use Rattle.stored_book.specs.Standing.{StandsForBook}
 use Rattle.store_commands.specs.Books.{Stands}
 use Rattle.store_commands.specs.InputLines.{NextLine, NoneIs, Unended}
 use Rattle.retention.specs.declared.rule.Rule.{Rule}
-use Rattle.retain_command.specs.Answers.{AreRules, answer, answers, book_behind}
-use Rattle.retain_command.specs.Doing.{IsFaulty, RuleCosts, Untouched}
+use Rattle.retain_command.specs.Answered.{AnswersAll, AnswersFirst, AnswersSo, FirstSwept}
+use Rattle.retain_command.specs.Answers.{AreRules, SayRules, SweptRule, answer, answers, book_behind, said_of, swept_text}
+use Rattle.retain_command.specs.Doing.{LineFails, RuleCosts, Untouched}
 use Rattle.retain_command.specs.Rules.{Says, SaysNone}
 use Rattle.retain_command.specs.Sweeping.{ClearsNext, EndsSo, Faults, FirstRules, IsAhead, SweepsAll, SweepsFew, SweepsFirst, clears_of, left_by, said_to}
 use Rattle.retain_command.specs.WorkLaws.{known_on}
-use Rattle.retain_command.specs.Working.{Costs, Counted, Held, IsFaultyGiven, IsHeldIfKnown, LineDoes, LineLeaves, LineStopped, LineStopsSo, NextGiven, counted_more, held_swept}
-use Rattle.retain_command.proofs.RuleLemmas.{no_rules, spells_some}
+use Rattle.retain_command.specs.Working.{Costs, Counted, GivenFails, Held, IsHeldIfKnown, LineDoes, LineLeaves, LineStopped, LineStopsSo, NextGiven, counted_more, held_swept}
+use Rattle.retain_command.proofs.RuleLemmas.{first_unanswered, no_rules, spells_some}
 
 -- a book that is known
 abbrev pub held_by : ℕ → List Series → Counted → Held
@@ -53,8 +54,8 @@ known_is : (held : Held) → held.known ≡ true → held ≡ held_by held.total
 known_is held known = (λ i. record { known = known i; total = held.total; book = held.book; counted = held.counted })
 
 -- what stopped a run that left this
-abbrev StopsBy : View → List StoredSeries → Option (List ℕ) → Held → Given → End → Option (List ℕ) → Type 0
-StopsBy view catalog now held it end was = (held.known ≡ true → LineStopped held it view was now end) × IsFaultyGiven it catalog end
+abbrev StopsBy : View → (Rule → ℕ → Type 0) → List StoredSeries → Option (List ℕ) → Held → Given → End → Option (List ℕ) → Type 0
+StopsBy view IsBad catalog now held it end was = (held.known ≡ true → LineStopped held it view was now end) × GivenFails it IsBad catalog was now end
 
 -- the rules of lines that were done
 record Ruled (held : Held) (all : List (Option (List ℕ))) (text : List ℕ) (behind : Held) : Type 0 where
@@ -333,13 +334,13 @@ module _ (total : ℕ) (book : List Series) (input : List ℕ) (counted : Counte
   next_clears first given.End next more none = inl none
 
   -- how the run ended
-  ends_so : {T : Type 0} (Told : Type 0) (view : View) (catalog : List StoredSeries) (left before now : Option (List ℕ)) (pieces pieces' : ℕ) (answer : Result T (LinesStop End))
+  ends_so : {T : Type 0} (Told : Type 0) (view : View) (IsBad : Rule → ℕ → Type 0) (catalog : List StoredSeries) (left before now : Option (List ℕ)) (pieces pieces' : ℕ) (answer : Result T (LinesStop End))
       → OnOk answer (length input ≤ 2 ^ 32)
       → OnOk answer (runs.Runs LineDoes (held_by total book counted) (runs.AreAll pieces pieces') (IsHeldIfKnown Told view) (Some input) before now)
-      → IfErr answer (runs.StopsSo LineDoes (λ held it end was. StopsBy view catalog now held it end was) (IsHeldIfKnown Told view) (held_by total book counted) (Some input) left before now pieces pieces')
+      → IfErr answer (runs.StopsSo LineDoes (λ held it end was. StopsBy view IsBad catalog now held it end was) (IsHeldIfKnown Told view) (held_by total book counted) (Some input) left before now pieces pieces')
       → EndsSo (Stands total view.image) total book input left before now (run_end answer) × SweepsFew (CostsBy view) total book input
-  ends_so {T} Told view catalog left before now pieces pieces' (Ok done) within all is = all_so Told view before now pieces pieces' within all
-  ends_so {T} Told view catalog left before now pieces pieces' (Err (stop.Fault fault.ReadFault)) within all is =
+  ends_so {T} Told view IsBad catalog left before now pieces pieces' (Ok done) within all is = all_so Told view before now pieces pieces' within all
+  ends_so {T} Told view IsBad catalog left before now pieces pieces' (Err (stop.Fault fault.ReadFault)) within all is =
       let f = firsts is.done is.are.first in (
         record {
           swept = first_so Told view before now is.done.text is.done.behind f is.stands is.sent;
@@ -348,7 +349,7 @@ module _ (total : ℕ) (book : List Series) (input : List ℕ) (counted : Counte
         },
         few_so Told view is.done.text is.done.behind f is.stands,
       )
-  ends_so {T} Told view catalog left before now pieces pieces' (Err (stop.Fault fault.InputTooLong)) within all is =
+  ends_so {T} Told view IsBad catalog left before now pieces pieces' (Err (stop.Fault fault.InputTooLong)) within all is =
       let f = firsts is.done is.are.first in (
         record {
           swept = first_so Told view before now is.done.text is.done.behind f is.stands is.sent;
@@ -357,7 +358,7 @@ module _ (total : ℕ) (book : List Series) (input : List ℕ) (counted : Counte
         },
         few_so Told view is.done.text is.done.behind f is.stands,
       )
-  ends_so {T} Told view catalog left before now pieces pieces' (Err (stop.Work end)) within all is =
+  ends_so {T} Told view IsBad catalog left before now pieces pieces' (Err (stop.Work end)) within all is =
       let f = firsts is.done is.are.first in
       let H : Held → Type 0 = λ h. h.known ≡ true → LineStopped h is.next view (sent_after is.done.text before) now end in
       let T' : List ℕ → Type 0 = λ t.
@@ -414,14 +415,14 @@ module _ (total : ℕ) (book : List Series) (input : List ℕ) (counted : Counte
 
 -- the same of an input that may be told
 module _ (total : ℕ) (book : List Series) (counted : Counted) where
-  pub ends_told : {T : Type 0} (Told : Type 0) (view : View) (catalog : List StoredSeries) (o left before now : Option (List ℕ)) (pieces pieces' : ℕ) (answer : Result T (LinesStop End))
+  pub ends_told : {T : Type 0} (Told : Type 0) (view : View) (IsBad : Rule → ℕ → Type 0) (catalog : List StoredSeries) (o left before now : Option (List ℕ)) (pieces pieces' : ℕ) (answer : Result T (LinesStop End))
       → OnOk answer (IfSome o (λ input. length input ≤ 2 ^ 32))
       → OnOk answer (runs.Runs LineDoes (held_by total book counted) (runs.AreAll pieces pieces') (IsHeldIfKnown Told view) o before now)
-      → IfErr answer (runs.StopsSo LineDoes (λ held it end was. StopsBy view catalog now held it end was) (IsHeldIfKnown Told view) (held_by total book counted) o left before now pieces pieces')
+      → IfErr answer (runs.StopsSo LineDoes (λ held it end was. StopsBy view IsBad catalog now held it end was) (IsHeldIfKnown Told view) (held_by total book counted) o left before now pieces pieces')
       → IfSome o (λ input. EndsSo (Stands total view.image) total book input left before now (run_end answer) × SweepsFew (CostsBy total book input counted view) total book input)
-  ends_told {T} Told view catalog None left before now pieces pieces' answer within all is = tt
-  ends_told {T} Told view catalog (Some input) left before now pieces pieces' answer within all is =
-      ends_so total book input counted Told view catalog left before now pieces pieces' answer within all is
+  ends_told {T} Told view IsBad catalog None left before now pieces pieces' answer within all is = tt
+  ends_told {T} Told view IsBad catalog (Some input) left before now pieces pieces' answer within all is =
+      ends_so total book input counted Told view IsBad catalog left before now pieces pieces' answer within all is
 
   abbrev Lasts : Option (List ℕ) → Option (List ℕ) → View → View → Type 0
   Lasts o before old new = IfSome o (λ input. IfSome before (λ bytes.
@@ -539,25 +540,26 @@ unknown = record { known = false; total = 0; book = []; counted = record { reads
 pub never_known : {X : Type 0} → false ≡ true → X
 never_known {X} is = cc
 
-module _ (catalog : List StoredSeries) (input : List ℕ) where
+module _ (IsBad : Rule → ℕ → Type 0) (catalog : List StoredSeries) (input : List ℕ) where
   as_next : (count : ℕ) (rest : List ℕ) (line : Option (List ℕ)) → given.NextLine count rest line → NextLine count rest line
   as_next count rest line next = record { later = next.later; lines_are = next.lines_are; early = next.early }
 
-  module _ (given_first : List Given) (f : AreFirst input given_first) (none : NoneIs SaysNone (filter says (lines f.front))) where
+  module _ (given_first : List Given) (f : AreFirst input given_first) (none : NoneIs SaysNone (filter says (lines f.front)))
+      (before now : Option (List ℕ)) where
     text_fault : (at : ℕ) → at ≡ length f.front → (text : List ℕ) → NextLine (length f.front) f.rest (Some text) → (end : End)
-        → IsFaulty text at catalog end → Faults catalog input end
+        → LineFails text at IsBad catalog before now end → Faults catalog input end
     text_fault at at_is text next (ends.BadInput place) is = record {
       front = f.front;
       rest = f.rest;
       begins = f.begins;
       none = none;
-      at_is = is.0 ∙ at_is;
+      at_is = is.place_is ∙ at_is;
       line = Some text;
       next = next;
-      some = says_text text is.1;
-      is = is.2;
+      some = says_text text is.some;
+      is = is.none;
     }
-    text_fault at at_is text next (ends.NoSeries place) (place_is, (rule, spells, (name, names, lacks))) = record {
+    text_fault at at_is text next (ends.NoSeries place) (rule, spells, (place_is, (name, names, lacks), unsent)) = record {
       front = f.front;
       rest = f.rest;
       begins = f.begins;
@@ -572,10 +574,10 @@ module _ (catalog : List StoredSeries) (input : List ℕ) where
     }
     text_fault at at_is text next end is = tt
 
-    given_fault : (next : Given) → IsNext (length f.front) f.rest next → (end : End) → IsFaultyGiven next catalog end → Faults catalog input end
+    given_fault : (next : Given) → IsNext (length f.front) f.rest next → (end : End) → GivenFails next IsBad catalog before now end → Faults catalog input end
     given_fault (given.Line at None) (at_is, next) end is =
         let P : End → Type 0 = λ e. Faults catalog input e in
-        subst P (sym is) (record {
+        subst P (sym is.0) (record {
           front = f.front;
           rest = f.rest;
           begins = f.begins;
@@ -592,18 +594,164 @@ module _ (catalog : List StoredSeries) (input : List ℕ) where
     given_fault given.End next end is = absurd is
 
 -- the line that stopped a run
-pub faults_told : {T : Type 0} (Told : Type 0) (view : View) (catalog : List StoredSeries) (o left before now : Option (List ℕ)) (pieces pieces' : ℕ) (answer : Result T (LinesStop End))
-    → IfErr answer (runs.StopsSo LineDoes (λ held it end was. StopsBy view catalog now held it end was) (IsHeldIfKnown Told view) unknown o left before now pieces pieces')
+pub faults_told : {T : Type 0} (Told : Type 0) (view : View) (IsBad : Rule → ℕ → Type 0) (catalog : List StoredSeries) (o left before now : Option (List ℕ)) (pieces pieces' : ℕ) (answer : Result T (LinesStop End))
+    → IfErr answer (runs.StopsSo LineDoes (λ held it end was. StopsBy view IsBad catalog now held it end was) (IsHeldIfKnown Told view) unknown o left before now pieces pieces')
     → IfSome o (λ input. Faults catalog input (run_end answer))
-faults_told {T} Told view catalog None left before now pieces pieces' answer is = tt
-faults_told {T} Told view catalog (Some input) left before now pieces pieces' (Ok done) is = tt
-faults_told {T} Told view catalog (Some input) left before now pieces pieces' (Err (stop.Fault fault.ReadFault)) is = tt
-faults_told {T} Told view catalog (Some input) left before now pieces pieces' (Err (stop.Fault fault.InputTooLong)) is = tt
-faults_told {T} Told view catalog (Some input) left before now pieces pieces' (Err (stop.Work end)) is =
-    given_fault catalog input is.done.given is.are.first
-    (said is.are.first.front is.done.given unknown is.done.text is.done.behind is.are.first.given_are is.done.carries) is.next is.are.next_is end
-    is.why.1
+faults_told {T} Told view IsBad catalog None left before now pieces pieces' answer is = tt
+faults_told {T} Told view IsBad catalog (Some input) left before now pieces pieces' (Ok done) is = tt
+faults_told {T} Told view IsBad catalog (Some input) left before now pieces pieces' (Err (stop.Fault fault.ReadFault)) is = tt
+faults_told {T} Told view IsBad catalog (Some input) left before now pieces pieces' (Err (stop.Fault fault.InputTooLong)) is = tt
+faults_told {T} Told view IsBad catalog (Some input) left before now pieces pieces' (Err (stop.Work end)) is =
+    given_fault IsBad catalog input is.done.given is.are.first
+    (said is.are.first.front is.done.given unknown is.done.text is.done.behind is.are.first.given_are is.done.carries)
+    (sent_after is.done.text before) now is.next is.are.next_is end is.why.1
 
 pub no_faults : (catalog : List StoredSeries) (o : Option (List ℕ)) → IfSome o (λ input. Faults catalog input ends.NoMemory)
 no_faults catalog None = tt
 no_faults catalog (Some input) = tt
+
+-- ---- the answers, whatever the pages are
+
+-- the rules of lines that were done, and what was said of them
+record Answered (all : List (Option (List ℕ))) (text : List ℕ) : Type 0 where
+  pub swept : List SweptRule
+  pub are : SayRules (filter says all) swept
+  pub text_is : text ≡ said_of swept
+
+answered_from : (at : ℕ) (parts : List (List ℕ)) (held : Held) (text : List ℕ) (behind : Held)
+    → Carries LineDoes held (given_from at parts) text behind → Answered (map text_of parts) text
+answered_from at [] held text behind (none, same) = record { swept = []; are = tt; text_is = none }
+answered_from at (part ∷ parts) held text behind follows =
+    by (text_of part) follows.does (answered_from (at + length part + 1) parts follows.between follows.more behind follows.others)
+  where
+    by : (line : Option (List ℕ)) → LineDoes held (given.Line at line) follows.first follows.between
+        → Answered (map text_of parts) follows.more → Answered (line ∷ map text_of parts) text
+    by line (inl (empty, none, same)) rest =
+        let R : Option (List ℕ) → Type 0 = λ l. SayRules (filter says (l ∷ map text_of parts)) rest.swept in
+        record {
+          swept = rest.swept;
+          are = subst R (sym empty) rest.are;
+          text_is = follows.texts ∙ ap (λ t. t ++ follows.more) none ∙ rest.text_is;
+        }
+    by line (inr does) rest =
+        let one : SweptRule = record { rule = does.rule; clears = does.clears; used = does.used } in
+        let R : Bool → Type 0 = λ v. SayRules (cond v (line ∷ filter says (map text_of parts)) (filter says (map text_of parts)))
+        (one ∷ rest.swept) in
+        record {
+          swept = one ∷ rest.swept;
+          are = subst R (sym (line_says line does.rule does.says_it)) (does.says_it, rest.are);
+          text_is = follows.texts ∙ ap (λ t. t ++ follows.more) does.said ∙ ap (λ t. swept_text does.clears does.used ++ t) rest.text_is;
+        }
+
+answered_lines : (front : List ℕ) (held : Held) (text : List ℕ) (behind : Held) → Carries LineDoes held (given_lines front) text behind
+    → Answered (lines front) text
+unfolding lines given_lines
+answered_lines front held text behind carries = answered_from 0 (split_lines front) held text behind carries
+
+-- these lines, with pauses
+answered : (front : List ℕ) (done : List Given) (held : Held) (text : List ℕ) (behind : Held) → unpaused done ≡ given_lines front
+    → Carries LineDoes held done text behind → Answered (lines front) text
+answered front done held text behind are carries =
+    let P : List Given → Type 0 = λ l. Carries LineDoes held l text behind in
+    answered_lines front held text behind
+    (subst P are (carries_unpaused LineDoes (λ state none behind is. is) done held text behind carries))
+
+module _ (input : List ℕ) (before now : Option (List ℕ)) where
+  -- all lines
+  answers_all : (Told : Type 0) (at : View) (pieces pieces' : ℕ)
+      → runs.Runs LineDoes unknown (runs.AreAll pieces pieces') (IsHeldIfKnown Told at) (Some input) before now → AnswersAll input before now
+  answers_all Told at pieces pieces' all =
+      let done = all.done in
+      let P : List Given → Type 0 = λ l. Carries LineDoes unknown l done.text done.behind in
+      let are = all.are in
+      let both = carries_both LineDoes are.earlier (given.End ∷ []) unknown done.text done.behind (subst P are.given_are done.carries) in
+      let none = end_none both.between both.more done.behind both.others in
+      let a = answered input are.earlier unknown both.begin both.between are.lines_are both.begins in
+      let same = both.texts ∙ ap (λ t. both.begin ++ t) none.0 ∙ append-nil both.begin ∙ a.text_is in
+      record { swept = a.swept; are = a.are; sent = all.sent ∙ ap (λ t. sent_after t before) same }
+
+  -- some first lines
+  abbrev first_swept : (done : Done LineDoes unknown) → AreFirst input done.given
+      → (first : FirstSwept input) × (done.text ≡ said_of first.swept)
+  first_swept done first =
+      let a = answered first.front done.given unknown done.text done.behind first.given_are done.carries in (
+        record { front = first.front; rest = first.rest; begins = first.begins; swept = a.swept; are = a.are },
+        a.text_is,
+      )
+
+  -- what was sent behind their answers
+  abbrev answers_first : (first : FirstSwept input) (text : List ℕ) → text ≡ said_of first.swept → now ≡ sent_after text before
+      → AnswersFirst input before now
+  answers_first first text is sent = record { first = first; sent = sent ∙ ap (λ t. sent_after t before) is }
+
+  -- a line stopped the run
+  module _ (IsBad : Rule → ℕ → Type 0) (catalog : List StoredSeries) (left : Option (List ℕ)) (first : FirstSwept input) (text : List ℕ) (is : text ≡ said_of first.swept) where
+    answers_line : (at : ℕ) → at ≡ length first.front → (line : List ℕ) → NextLine (length first.front) first.rest (Some line) → (end : End)
+        → LineFails line at IsBad catalog (sent_after text before) now end → AnswersSo IsBad input left before now end
+    answers_line at at_is line next ends.NoMemory unsent = answers_first first text is unsent
+    answers_line at at_is line next ends.SendFault (rule, spells, (clears, used, part)) =
+        let P : List ℕ → Type 0 = λ t. PartSent (swept_text clears used) (sent_after t before) now in
+        record {
+          first = first;
+          rule = rule;
+          next = record { line = Some line; next = next; says_it = spells };
+          clears = clears;
+          used = used;
+          part = subst P is part;
+        }
+    answers_line at at_is line next ends.DiskFault (rule, spells, unsent) = answers_first first text is unsent
+    answers_line at at_is line next (ends.DamagedPage page) (rule, spells, (bad, unsent)) = record {
+      answered = answers_first first text is unsent;
+      rule = rule;
+      next = record { line = Some line; next = next; says_it = spells };
+      so = bad;
+    }
+    answers_line at at_is line next (ends.BadInput place) bad =
+        record { answered = answers_first first text is bad.unsent; at_is = bad.place_is ∙ at_is }
+    answers_line at at_is line next (ends.NoSeries place) (rule, spells, (place_is, lacks, unsent)) =
+        record { answered = answers_first first text is unsent; at_is = place_is ∙ at_is }
+    answers_line at at_is line next end (rule, spells, fails) = absurd fails
+
+    answers_given : (next : Given) → IsNext (length first.front) first.rest next → (end : End)
+        → GivenFails next IsBad catalog (sent_after text before) now end → AnswersSo IsBad input left before now end
+    answers_given (given.Line at None) (at_is, next) end fails =
+        let P : End → Type 0 = λ e. AnswersSo IsBad input left before now e in
+        subst P (sym fails.0) (record { answered = answers_first first text is fails.1; at_is = at_is })
+    answers_given (given.Line at (Some line)) (at_is, next) end fails =
+        answers_line at at_is line (as_next IsBad catalog input (length first.front) first.rest (Some line) next) end fails
+    answers_given given.Pause next end fails = absurd fails
+    answers_given given.End next end fails = absurd fails
+
+behind_so : (rest : List ℕ) (left : Option (List ℕ)) → IfSome left (runs.Unended rest) → IfSome left (Unended rest)
+behind_so rest None is = tt
+behind_so rest (Some l) is = record { partial = is.partial; taken = is.taken; unended = is.unended }
+
+-- how a run ended
+pub answers_told : {T : Type 0} (Told : Type 0) (view : View) (IsBad : Rule → ℕ → Type 0) (catalog : List StoredSeries) (o left before now : Option (List ℕ)) (pieces pieces' : ℕ) (answer : Result T (LinesStop End))
+    → OnOk answer (runs.Runs LineDoes unknown (runs.AreAll pieces pieces') (IsHeldIfKnown Told view) o before now)
+    → IfErr answer (runs.StopsSo LineDoes (λ held it end was. StopsBy view IsBad catalog now held it end was) (IsHeldIfKnown Told view) unknown o left before now pieces pieces')
+    → IfSome o (λ input. AnswersSo IsBad input left before now (run_end answer))
+answers_told {T} Told view IsBad catalog None left before now pieces pieces' answer all is = tt
+answers_told {T} Told view IsBad catalog (Some input) left before now pieces pieces' (Ok done) all is = answers_all input before now Told view pieces pieces' all
+answers_told {T} Told view IsBad catalog (Some input) left before now pieces pieces' (Err (stop.Fault fault.ReadFault)) all is =
+    let f = first_swept input before now is.done is.are.first in
+    record {
+      answered = answers_first input before now f.0 is.done.text f.1 is.sent;
+      whole = is.are.whole;
+      behind = behind_so is.are.first.rest left is.are.behind;
+    }
+answers_told {T} Told view IsBad catalog (Some input) left before now pieces pieces' (Err (stop.Fault fault.InputTooLong)) all is =
+    let f = first_swept input before now is.done is.are.first in
+    record {
+      answered = answers_first input before now f.0 is.done.text f.1 is.sent;
+      unended = is.are.unended;
+      past = is.are.past;
+    }
+answers_told {T} Told view IsBad catalog (Some input) left before now pieces pieces' (Err (stop.Work end)) all is =
+    let f = first_swept input before now is.done is.are.first in
+    answers_given input before now IsBad catalog left f.0 is.done.text f.1 is.next is.are.next_is end is.why.1
+
+-- before the first line
+pub no_answers : (before : Option (List ℕ)) (o : Option (List ℕ)) → IfSome o (λ input. AnswersFirst input before before)
+no_answers before None = tt
+no_answers before (Some input) = first_unanswered input before before refl

@@ -10,10 +10,11 @@ use Rattle.retention.specs.declared.sweep_error.SweepError.TheVariants as sweep
 use Rattle.run_ends.specs.declared.ending.End.{End}
 use Rattle.run_ends.specs.declared.ending.End.TheVariants.{BadInput, InputTooLong}
 use Rattle.retention.specs.Sweeps.{sweeps}
+use Rattle.retention.specs.declared.rule.Rule.{Rule}
 use Rattle.series_catalog.specs.declared.stored_series.StoredSeries.{StoredSeries}
-use Rattle.retain_command.specs.Answers.{answer}
-use Rattle.retain_command.specs.Doing.{DoesLine, IsFaulty, LineDone, LineSays, RuleCosts, end_at}
-use Rattle.retain_command.specs.Working.{Costs, Counted, Held, IsFaultyGiven, IsHeldIfKnown, LineDoes, LineStopped, counted_more, held_swept}
+use Rattle.retain_command.specs.Answers.{answer, swept_text}
+use Rattle.retain_command.specs.Doing.{DoesLine, LineDone, LineFails, LineSays, RuleCosts, end_at}
+use Rattle.retain_command.specs.Working.{Costs, Counted, GivenFails, Held, IsHeldIfKnown, LineDoes, LineStopped, counted_more, held_swept}
 
 -- calls of some looks and clears were made since
 costs_on : (counted : Counted) (looks clears : ℕ) (old new : View) → looks ≤ 1 → Costs counted old → RuleCosts looks clears old new
@@ -48,6 +49,9 @@ module _ (held : Held) (text : List ℕ) (at : ℕ) (old new : View) (before now
     done = inr (record {
       rule = rule;
       says_it = spells;
+      clears = _;
+      used = _;
+      said = refl;
       there = λ known. done.there;
       text_is = λ known. refl;
       behind_is = refl;
@@ -67,17 +71,20 @@ module _ (held : Held) (text : List ℕ) (at : ℕ) (old new : View) (before now
     sent = unsent ∙ sent_none before;
   }
   line_said Told unknown (inr (rule, spells, says)) = record {
-    text = says.0;
+    text = swept_text says.0 says.1;
     behind = held_swept held rule;
     done = inr (record {
       rule = rule;
       says_it = spells;
+      clears = says.0;
+      used = says.1;
+      said = refl;
       there = λ known. absurd (unknown known);
       text_is = λ known. absurd (unknown known);
       behind_is = refl;
     });
     stands = λ known. absurd (unknown known);
-    sent = says.1;
+    sent = says.2;
   }
 
   pub work_done : {T : Type 0} (Told Told' : Type 0) (result : Result T End) → (Told → Told') → IsHeldIfKnown Told old held
@@ -90,11 +97,11 @@ module _ (held : Held) (text : List ℕ) (at : ℕ) (old new : View) (before now
       by true known = line_known Told' (more (stands known).0) (stands known).2 (does known).done
       by false unknown = line_said Told' (λ known. let both : false ≡ true = sym unknown ∙ known in cc) says
 
-  pub work_stops : {T : Type 0} (Told : Type 0) (result : Result T End) (catalog : List StoredSeries) → IsHeldIfKnown Told old held
-      → (held.known ≡ true → DoesLine held.total held.book text at result old new before now) → IfErr result (IsFaulty text at catalog)
-      → IfErr result (λ end. (held.known ≡ true → LineStopped held (Line at (Some text)) new before now end) × IsFaultyGiven (Line at (Some text)) catalog end)
-  work_stops {T} Told (Ok v) catalog stands does faulty = tt
-  work_stops {T} Told (Err e) catalog stands does faulty = (
+  pub work_stops : {T : Type 0} (Told : Type 0) (result : Result T End) (IsBad : Rule → ℕ → Type 0) (catalog : List StoredSeries) → IsHeldIfKnown Told old held
+      → (held.known ≡ true → DoesLine held.total held.book text at result old new before now) → IfErr result (LineFails text at IsBad catalog before now)
+      → IfErr result (λ end. (held.known ≡ true → LineStopped held (Line at (Some text)) new before now end) × GivenFails (Line at (Some text)) IsBad catalog before now end)
+  work_stops {T} Told (Ok v) IsBad catalog stands does fails = tt
+  work_stops {T} Told (Err e) IsBad catalog stands does fails = (
     (λ known.
         let did = does known in
         record {
@@ -103,7 +110,7 @@ module _ (held : Held) (text : List ℕ) (at : ℕ) (old new : View) (before now
           next = did.most.1;
           costs = costs_on held.counted 1 did.most.0 old new (omega arith) (stands known).2 did.most.2;
         }),
-    faulty,
+    fails,
   )
 
 -- a line that is too long

@@ -12,6 +12,24 @@ use Rattle.retain_command.specs.Rules.{Says}
 abbrev pub swept_text : ℕ → ℕ → List ℕ
 swept_text clears used = codes "swept " ++ (decimal clears ++ (codes " " ++ (decimal used ++ codes "\n")))
 
+-- a rule that was swept, and what was said of it: how many clears it made, and how many pages were in use behind them
+pub record SweptRule : Type 0 where
+  pub rule : Rule
+  pub clears : ℕ
+  pub used : ℕ
+
+-- what was said of these rules, one after the other
+abbrev pub said_of : List SweptRule → List ℕ
+said_of [] = []
+said_of (swept ∷ others) = swept_text swept.clears swept.used ++ said_of others
+
+-- Each line says the rule in its place.
+abbrev pub SayRules : List (Option (List ℕ)) → List SweptRule → Type 0
+SayRules [] [] = ⊤
+SayRules [] (swept ∷ others) = ⊥
+SayRules (line ∷ lines) [] = ⊥
+SayRules (line ∷ lines) (swept ∷ others) = Says line swept.rule × SayRules lines others
+
 -- the answer to a rule
 abbrev pub answer : ℕ → List Series → Rule → List ℕ
 answer total book rule = swept_text (length (sweeps total book rule)) (pages_of (book_swept total book rule))

@@ -23,7 +23,7 @@ use Rattle.retention.specs.Sweeps.{LacksNamed, NamesNone, sweeps}
 use Rattle.retention.specs.declared.rule.Rule.{Rule}
 use Rattle.retention.specs.declared.sweep_error.SweepError.{SweepError}
 use Rattle.retention.specs.declared.sweep_error.SweepError.TheVariants as sweep
-use Rattle.retain_command.specs.Answers.{answer}
+use Rattle.retain_command.specs.Answers.{answer, swept_text}
 use Rattle.retain_command.specs.Rules.{Spells, SaysNone}
 
 -- what an error of a sweep is for the line at this offset
@@ -158,25 +158,39 @@ module _ {P : Type 0} {g : Ghosts P} {T : Type 0} (sent : P → Option (List ℕ
 
 -- ---- what is so of a line, whatever the pages are
 
--- something was sent
-abbrev pub SaysSome : Option (List ℕ) → Option (List ℕ) → Type 0
-SaysSome before now = (text : List ℕ) × (now ≡ sent_after text before)
+-- what is said of a sweep was sent, with some two numbers
+abbrev pub SaysSwept : Option (List ℕ) → Option (List ℕ) → Type 0
+SaysSwept before now = (clears : ℕ) × (used : ℕ) × (now ≡ sent_after (swept_text clears used) before)
 
--- the line is empty, or it is a rule, and something was sent
+-- a part of it was
+abbrev pub SaysPart : Option (List ℕ) → Option (List ℕ) → Type 0
+SaysPart before now = (clears : ℕ) × (used : ℕ) × PartSent (swept_text clears used) before now
+
+-- the line is empty and nothing was sent, or it is a rule, and what is said of its sweep was
 abbrev pub LineSays : List ℕ → Option (List ℕ) → Option (List ℕ) → Type 0
-LineSays text before now = ((text ≡ []) × (now ≡ before)) ⊎ ((rule : Rule) × Spells rule text × SaysSome before now)
+LineSays text before now = ((text ≡ []) × (now ≡ before)) ⊎ ((rule : Rule) × Spells rule text × SaysSwept before now)
 
--- the catalog lacks the series that a rule names, where the end tells so
-abbrev pub IsLacking : Rule → ℕ → List StoredSeries → End → Type 0
-IsLacking rule at catalog (BadInput place) = ⊥
-IsLacking rule at catalog (NoSeries place) = (place ≡ at) × LacksNamed catalog rule
-IsLacking rule at catalog end = ⊤
+-- why a rule wasn't answered, with the catalog behind it; a page that is called damaged is bad for the rule
+abbrev pub RuleFails : Rule → ℕ → (Rule → ℕ → Type 0) → List StoredSeries → Option (List ℕ) → Option (List ℕ) → End → Type 0
+RuleFails rule at IsBad catalog before now NoMemory = now ≡ before
+RuleFails rule at IsBad catalog before now SendFault = SaysPart before now
+RuleFails rule at IsBad catalog before now DiskFault = now ≡ before
+RuleFails rule at IsBad catalog before now (DamagedPage page) = IsBad rule page × (now ≡ before)
+RuleFails rule at IsBad catalog before now (NoSeries place) = (place ≡ at) × LacksNamed catalog rule × (now ≡ before)
+RuleFails rule at IsBad catalog before now end = ⊥
 
--- the line is no rule, or the catalog lacks the series that it names, where the end tells so
-abbrev pub IsFaulty : List ℕ → ℕ → List StoredSeries → End → Type 0
-IsFaulty text at catalog (BadInput place) = (place ≡ at) × (0 < length text) × SaysNone (Some text)
-IsFaulty text at catalog (NoSeries place) = (place ≡ at) × ((rule : Rule) × Spells rule text × LacksNamed catalog rule)
-IsFaulty text at catalog end = ⊤
+-- it isn't empty and says no rule, and nothing was sent
+pub record FailsBad (text : List ℕ) (at place : ℕ) (before now : Option (List ℕ)) : Type 0 where
+  pub place_is : place ≡ at
+  pub some : 0 < length text
+  pub none : SaysNone (Some text)
+  pub unsent : now ≡ before
+
+-- why a line wasn't answered
+abbrev pub LineFails : List ℕ → ℕ → (Rule → ℕ → Type 0) → List StoredSeries → Option (List ℕ) → Option (List ℕ) → End → Type 0
+LineFails text at IsBad catalog before now NoMemory = now ≡ before
+LineFails text at IsBad catalog before now (BadInput place) = FailsBad text at place before now
+LineFails text at IsBad catalog before now end = (rule : Rule) × Spells rule text × RuleFails rule at IsBad catalog before now end
 
 -- ---- what calls move, whatever the pages are
 

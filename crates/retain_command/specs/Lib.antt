@@ -1,5 +1,6 @@
 pub mod Rules
 pub mod Answers
+pub mod Answered
 pub mod Sweeping
 pub mod Doing
 pub mod Shown

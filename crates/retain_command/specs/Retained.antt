@@ -17,7 +17,10 @@ use Rattle.run_ends.specs.Statuses.{block_of}
 use Rattle.run_ends.specs.declared.ending.End.{End}
 use Rattle.run_ends.specs.declared.ending.End.TheVariants.{Done, NoMemory, ReadFault, SendFault, DiskFault, DamagedBlock, DamagedPage}
 use Rattle.run_ends.specs.declared.ending.End.TheVariants.{BadInput, InputTooLong, TooSmall, NoSeries}
+use Rattle.retention.specs.Damage.{IsBadForSweep}
 use Rattle.retention.specs.Moving.{clear_reads}
+use Rattle.retention.specs.declared.rule.Rule.{Rule}
+use Rattle.retain_command.specs.Answered.{AnswersSo}
 use Rattle.retain_command.specs.Rules.{SaysNone}
 use Rattle.retain_command.specs.Sweeping.{EndsSo, IsAhead, LacksAt, SweepsFew, SweepsAll, SweepsLines, SweepsPart, SweepsSome, SweepsTaken, SweepsToBad, SweepsToUnknown, SweepsWithin}
 
@@ -71,6 +74,10 @@ IsAtLine count new input (BadInput at) = FirstLine SaysNone input at
 IsAtLine count new input (NoSeries at) = LacksAt (LacksRecord count new) input at
 IsAtLine count new input end = ⊤
 
+-- the page is bad for a sweep by the rule, as the disk is then
+abbrev pub IsBadBy : ℕ → View → Rule → ℕ → Type 0
+IsBadBy count new rule page = IsDamagedLater (IsBadForSweep rule) count new (block_of page)
+
 -- Why `retain` ended, whatever the disk holds. Where its store wasn't opened no input was taken and nothing was sent.
 abbrev pub IsRetainCause : End → View → View → Traffic → Type 0
 IsRetainCause Done old new t = WasRead t.left t.left_now
@@ -87,7 +94,7 @@ IsRetainCause (NoSeries at) old new t = ⊤
 IsRetainCause end old new t = ⊥
 
 -- Why `retain` ended, what it did and sent by the book that the disk held, and what the disk holds: but for a fault of the
--- disk, of which the moments tell, a book again.
+-- disk, of which the moments tell, a book again. Whatever the disk holds, the lines were answered so.
 pub record RetainEnds (old new : View) (t : Traffic) (end : End) : Type 0 where
   pub cause : IsRetainCause end old new t
   pub does : IfSome t.left (λ input. OfBook (page_count old.size) old (λ total book. EndsSo (Holds (page_count old.size) total new) total book input t.left_now t.sent t.sent_now end))
@@ -95,6 +102,7 @@ pub record RetainEnds (old new : View) (t : Traffic) (end : End) : Type 0 where
   pub crash : IfSome t.left (λ input. IfSome t.sent (λ bytes. LeavesSwept (page_count old.size) input old new))
   pub costs : IfSome t.left (RetainsFew (page_count old.size) old new)
   pub faulty : IfSome t.left (λ input. IsAtLine (page_count old.size) new input end)
+  pub answered : IfSome t.left (λ input. AnswersSo (IsBadBy (page_count old.size) new) input t.left_now t.sent t.sent_now end)
   -- reads give what a crash may leave, where they did
   pub honest : Honest old → Honest new
   pub goes_on : GoesOn old new

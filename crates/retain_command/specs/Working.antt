@@ -6,13 +6,13 @@ use Rattle.retention.specs.Drops.{book_swept}
 use Rattle.retention.specs.Moving.{clear_reads}
 use Rattle.retention.specs.Sweeps.{NamesNone, sweeps}
 use Rattle.retention.specs.declared.rule.Rule.{Rule}
-use Rattle.retain_command.specs.Answers.{answer}
+use Rattle.retain_command.specs.Answers.{answer, swept_text}
 use Rattle.line_runs.specs.Given as given
 use Rattle.run_ends.specs.declared.ending.End.{End}
 use Rattle.run_ends.specs.declared.ending.End.TheVariants.{BadInput, DiskFault}
 use Rattle.series_catalog.specs.declared.stored_series.StoredSeries.{StoredSeries}
 use Rattle.stored_book.specs.Standing.{StandsForBook}
-use Rattle.retain_command.specs.Doing.{IsFaulty, LineMoment, LineStops, NextClears, Untouched}
+use Rattle.retain_command.specs.Doing.{LineFails, LineMoment, LineStops, NextClears, Untouched}
 use Rattle.retain_command.specs.Rules.{Says}
 
 -- how much was read, synced and written before, how many rules were swept since, and how many clears they made
@@ -67,6 +67,9 @@ held_swept held rule = record {
 pub record RuleDoes (held : Held) (line : Option (List ℕ)) (text : List ℕ) (behind : Held) : Type 0 where
   pub rule : Rule
   pub says_it : Says line rule
+  pub clears : ℕ
+  pub used : ℕ
+  pub said : text ≡ swept_text clears used
   pub there : held.known ≡ true → NamesNone held.book rule → ⊥
   pub text_is : held.known ≡ true → text ≡ answer held.total held.book rule
   pub behind_is : behind ≡ held_swept held rule
@@ -96,12 +99,12 @@ pub record LineStopped (held : Held) (it : given.Given) (at : View) (before now 
   pub next : NextGiven held it more
   pub costs : Costs (counted_more held.counted more) at
 
--- whatever the pages are: the line is bad, or the catalog lacks the series that it names
-abbrev pub IsFaultyGiven : given.Given → List StoredSeries → End → Type 0
-IsFaultyGiven (given.Line at None) catalog end = end ≡ BadInput at
-IsFaultyGiven (given.Line at (Some text)) catalog end = IsFaulty text at catalog end
-IsFaultyGiven given.Pause catalog end = ⊥
-IsFaultyGiven given.End catalog end = ⊥
+-- the same whatever the pages are
+abbrev pub GivenFails : given.Given → (Rule → ℕ → Type 0) → List StoredSeries → Option (List ℕ) → Option (List ℕ) → End → Type 0
+GivenFails (given.Line at None) IsBad catalog before now end = (end ≡ BadInput at) × (now ≡ before)
+GivenFails (given.Line at (Some text)) IsBad catalog before now end = LineFails text at IsBad catalog before now end
+GivenFails given.Pause IsBad catalog before now end = ⊥
+GivenFails given.End IsBad catalog before now end = ⊥
 
 -- after it no line may be given
 abbrev pub Harms : End → Type 0

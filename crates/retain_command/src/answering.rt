@@ -7,7 +7,8 @@ ghost use Rattle.run_ends.specs.Faults.{end_fault};
 ghost use Rattle.series_store.specs.Shown as shown;
 ghost use Rattle.retain_command.specs.Answers.{swept_text};
 ghost use Rattle.store_commands.specs.Sides.{side_of};
-ghost use Rattle.retain_command.specs.Doing.{DoesLineOn, DoesRuleOn, Goes, IsCause, IsFaulty, IsLacking, LineSays, SaysSome, TextStops, end_at};
+ghost use Rattle.retain_command.specs.Shown.{IsBadOn};
+ghost use Rattle.retain_command.specs.Doing.{DoesLineOn, DoesRuleOn, Goes, IsCause, LineFails, LineSays, RuleFails, SaysSwept, TextStops, end_at};
 
 use crate::rule_error::RuleError;
 use crate::rules::rule_of;
@@ -68,8 +69,8 @@ fn answer_rule<P: PageWorld>(
 ) -> Result<(), End>
     requires sound { shown.IsSound store.old }
     ensures does { shown.ForBook store.old (DoesRuleOn P.sent rule.now at result store.old store.new) }
-    ensures says { OnOk result (SaysSome (P.sent (shown.pages store.old)) (P.sent (shown.pages store.new))) }
-    ensures lacking { IfErr result (IsLacking rule.now at (shown.catalog store.new)) }
+    ensures says { OnOk result (SaysSwept (P.sent (shown.pages store.old)) (P.sent (shown.pages store.new))) }
+    ensures fails { IfErr result (RuleFails rule.now at (IsBadOn store.new) (shown.catalog store.new) (P.sent (shown.pages store.old)) (P.sent (shown.pages store.new))) }
     ensures goes { Goes (side_of P.Streams store.old) (side_of P.Streams store.new) }
     ensures cause { IfErr result (λ e. IsCause e (side_of P.Streams store.old) (side_of P.Streams store.new)) }
     ensures long { result ≢ Err End.InputTooLong }
@@ -94,7 +95,7 @@ pub(crate) fn answer_line<P: PageWorld>(
     requires sound { shown.IsSound store.old }
     ensures does { shown.ForBook store.old (DoesLineOn P.sent line.now at result store.old store.new) }
     ensures says { OnOk result (LineSays line.now (P.sent (shown.pages store.old)) (P.sent (shown.pages store.new))) }
-    ensures faulty { IfErr result (IsFaulty line.now at (shown.catalog store.new)) }
+    ensures fails { IfErr result (LineFails line.now at (IsBadOn store.new) (shown.catalog store.new) (P.sent (shown.pages store.old)) (P.sent (shown.pages store.new))) }
     ensures goes { Goes (side_of P.Streams store.old) (side_of P.Streams store.new) }
     ensures cause { IfErr result (λ e. IsCause e (side_of P.Streams store.old) (side_of P.Streams store.new)) }
     ensures long { result ≢ Err End.InputTooLong }

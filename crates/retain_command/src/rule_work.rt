@@ -6,7 +6,8 @@ ghost use Rattle.series_store.specs.Shown as shown;
 ghost use Rattle.stored_book.specs.Standing.{StandsForBook};
 ghost use Rattle.store_commands.specs.Sides.{side_of};
 ghost use Rattle.retain_command.specs.Doing.{Goes, IsCause};
-ghost use Rattle.retain_command.specs.Working.{Harms, Held, IsFaultyGiven, IsHeldIfKnown, LineDoes, LineLeaves, LineStopped};
+ghost use Rattle.retain_command.specs.Shown.{IsBadOn};
+ghost use Rattle.retain_command.specs.Working.{GivenFails, Harms, Held, IsHeldIfKnown, LineDoes, LineLeaves, LineStopped};
 ghost use Rattle.retain_command.specs.WorkLaws.{besides, cause_later, known_on, goes_further, goes_nowhere, goes_streams, no_less, now_stands, same_total, stands_kept};
 
 use crate::answering::answer_line;
@@ -39,7 +40,7 @@ impl<P: PageWorld> LineWork<Store<P>, End> for RuleWork {
 
     ghost does = { LineDoes };
 
-    ghost stops = { λ held it end work store before. (held.known ≡ true → LineStopped held it (shown.view store) before (P.sent (shown.pages store)) end) × IsFaultyGiven it (shown.catalog store) end };
+    ghost stops = { λ held it end work store before. (held.known ≡ true → LineStopped held it (shown.view store) before (P.sent (shown.pages store)) end) × GivenFails it (IsBadOn store) (shown.catalog store) before (P.sent (shown.pages store)) end };
 
     ghost leaves = { LineLeaves };
 

@@ -6,7 +6,7 @@ ghost use Rattle.run_ends.specs.Faults.{end_fault};
 ghost use Rattle.series_store.specs.Shown as shown;
 ghost use Rattle.store_commands.specs.Sides.{side_of};
 ghost use Rattle.retain_command.specs.Doing.{Goes, IsCause};
-ghost use Rattle.retain_command.specs.Shown.{CostsOn, EndsOn, IsAtFault, LastsFor};
+ghost use Rattle.retain_command.specs.Shown.{CostsOn, EndsOn, IsAnsweredSo, IsAtFault, LastsFor};
 
 use crate::rule_work::RuleWork;
 use chart_world::Lines;
@@ -28,6 +28,7 @@ pub fn sweep_lines<P: PageWorld>(alloc: Global, store: &mut Store<P>) -> End
     ensures costs { shown.ForBook store.old (λ total book. CostsOn P.Streams total book store.old store.new) }
     // whatever the pages are
     ensures faulty { IsAtFault P.Streams store.old store.new result }
+    ensures answered { IsAnsweredSo P.Streams store.old store.new result }
     ensures whole { result ≡ End.Done → IsReadUp (P.left (shown.pages store.old)) (P.left (shown.pages store.new)) }
     ensures long { result ≡ End.InputTooLong → IfSome (P.left (shown.pages store.old)) (λ input. 2 ^ 32 < length input) }
     ensures goes { Goes (side_of P.Streams store.old) (side_of P.Streams store.new) }

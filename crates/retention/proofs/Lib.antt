@@ -7,6 +7,7 @@ pub mod FreeLemmas
 pub mod TimeLemmas
 pub mod LawLemmas
 pub mod LookLemmas
+pub mod DamageLemmas
 pub mod NextLemmas
 pub mod SweepLemmas
 pub mod StepLemmas

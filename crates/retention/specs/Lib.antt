@@ -3,5 +3,6 @@ pub mod Drops
 pub mod Steps
 pub mod Moving
 pub mod Sweeping
+pub mod Damage
 pub mod Stepping
 pub mod Faults

@@ -6,6 +6,7 @@ ghost use Rattle.om3_coeff.specs.Walks.{IsFirstStored};
 ghost use Rattle.series_book.specs.declared.limits.TheConstants.{MOST_SLOTS};
 ghost use Rattle.series_book.specs.Axes.{IsAxisOf};
 ghost use Rattle.series_store.specs.Shown as shown;
+ghost use Rattle.retention.specs.Damage.{TellsBadAt};
 ghost use Rattle.retention.specs.Faults.{sweep_fault};
 ghost use Rattle.retention.specs.Moving.{LooksOnly};
 ghost use Rattle.retention.specs.Sweeping.{IsAskCause, IsOfPages, TellsBad, TellsNone, error_of};
@@ -39,6 +40,7 @@ pub(crate) fn selected<P: Pages>(store: &mut Store<P>, id: u16) -> Axis
     ensures axis { shown.ForSeries store.old id (λ total book series. IsAxisOf series result) }
     ensures agrees { shown.ForSeries store.old id (λ total book series. Agrees (shown.nodes store.new) series.slots) }
     ensures bad { TellsBad store.new }
+    ensures bad_at { TellsBadAt id store.new }
     ensures whole { shown.ForSeries store.old id (λ total book series. TellsNone store.new) }
     ensures faults { CountsFault None (shown.view store.old) (shown.view store.new) }
     ensures reads { (shown.view store.new).reads ≡ (shown.view store.old).reads }

@@ -6,6 +6,7 @@ ghost use Rattle.series_book.specs.declared.one_series.Series.{Series};
 ghost use Rattle.series_book.specs.Axes.{IsAxisOf};
 ghost use Rattle.series_book.specs.Edits.{IsEdit};
 ghost use Rattle.series_store.specs.Shown as shown;
+ghost use Rattle.retention.specs.Damage.{Asks, BlamesSo, IsBadAt, IsBadForLook};
 ghost use Rattle.retention.specs.Faults.{sweep_fault};
 ghost use Rattle.retention.specs.Moving.{LooksOnly};
 ghost use Rattle.retention.specs.Sweeping.{IsFirstOrNone, IsNextOrNone, IsOutside, ReadFails};
@@ -46,6 +47,7 @@ fn next_of<P: Pages>(
     ensures is_edit { IfOk result (λ next. IfSome next IsEdit) }
     ensures outside { shown.ForSeries store.old id (λ total book series. IfErr result IsOutside) }
     ensures cause { IfErr result (λ e. ReadFails e store.old store.new) }
+    ensures blames { IfErr result (λ e. BlamesSo (IsBadAt id) e store.new) }
     ensures faults { CountsFault (fault_in sweep_fault result) (shown.view store.old) (shown.view store.new) }
     ensures reads { (shown.view store.new).reads ≤ (shown.view store.old).reads + 105 }
     ensures looks { LooksOnly store.old store.new }
@@ -75,6 +77,7 @@ pub(crate) fn next_named<P: Pages>(
     ensures is_edit { IfOk result (λ next. IfSome next IsEdit) }
     ensures outside { shown.ForBook store.old (λ total book. IfErr result IsOutside) }
     ensures cause { IfErr result (λ e. ReadFails e store.old store.new) }
+    ensures blames { IfErr result (λ e. BlamesSo (IsBadForLook (Asks rule.now)) e store.new) }
     ensures faults { CountsFault (fault_in sweep_fault result) (shown.view store.old) (shown.view store.new) }
     ensures reads { (shown.view store.new).reads ≤ (shown.view store.old).reads + 105 }
     ensures looks { LooksOnly store.old store.new }

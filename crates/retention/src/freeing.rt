@@ -1,11 +1,12 @@
 //! The next clear of a rule that frees pages.
-ghost use Rattle.std.specs.Prelude.{◌≡◌, ◌<◌, ◌≤◌, ◌+◌, ◌*◌, ◌/◌, Option, Some, length, IfOk, IfErr, IfSome};
+ghost use Rattle.std.specs.Prelude.{◌≡◌, ◌<◌, ◌≤◌, ◌+◌, ◌*◌, ◌/◌, Option, Some, length, IfOk, IfErr, IfSome, ⊤};
 ghost use Rattle.chart_world.specs.Faults.{CountsFault, fault_in};
 ghost use Rattle.series_book.specs.Edits.{IsEdit};
 ghost use Rattle.series_book.specs.declared.limits.TheConstants.{MOST_SERIES};
 ghost use Rattle.series_store.specs.Shown as shown;
 ghost use Rattle.retention.specs.declared.rule.Rule.TheVariants.{Free};
 ghost use Rattle.retention.specs.Drops.{IsOldest};
+ghost use Rattle.retention.specs.Damage.{Asks, BlamesSo, IsBadAt, IsBadForLook};
 ghost use Rattle.retention.specs.Faults.{sweep_fault};
 ghost use Rattle.retention.specs.Moving.{LooksOnly};
 ghost use Rattle.retention.specs.Sweeping.{AreKept, IsKept, IsNextOrNone, IsOutside, ReadFails};
@@ -27,6 +28,7 @@ fn first_of<P: Pages>(store: &mut Store<P>, id: u16) -> Result<Option<Oldest>, S
     ensures first { shown.ForSeries store.old id (λ total book series. IfOk result (AreKept (found_at id (Some series)))) }
     ensures outside { shown.ForSeries store.old id (λ total book series. IfErr result IsOutside) }
     ensures cause { IfErr result (λ e. ReadFails e store.old store.new) }
+    ensures blames { IfErr result (λ e. BlamesSo (IsBadAt id) e store.new) }
     ensures faults { CountsFault (fault_in sweep_fault result) (shown.view store.old) (shown.view store.new) }
     ensures reads { (shown.view store.new).reads ≤ (shown.view store.old).reads + 105 }
     ensures looks { LooksOnly store.old store.new }
@@ -64,6 +66,7 @@ fn oldest<P: Pages>(store: &mut Store<P>) -> Result<Option<Oldest>, SweepError>
     ensures oldest { shown.ForBook store.old (λ total book. IfOk result (AreKept (oldest book))) }
     ensures outside { shown.ForBook store.old (λ total book. IfErr result IsOutside) }
     ensures cause { IfErr result (λ e. ReadFails e store.old store.new) }
+    ensures blames { IfErr result (λ e. BlamesSo (IsBadForLook (λ name. ⊤)) e store.new) }
     ensures faults { CountsFault (fault_in sweep_fault result) (shown.view store.old) (shown.view store.new) }
     ensures reads { (shown.view store.new).reads ≤ (shown.view store.old).reads + 105 * MOST_SERIES }
     ensures looks { LooksOnly store.old store.new }
@@ -106,6 +109,7 @@ pub(crate) fn next_free<P: Pages>(
     ensures is_edit { IfOk result (λ next. IfSome next IsEdit) }
     ensures outside { shown.ForBook store.old (λ total book. IfErr result IsOutside) }
     ensures cause { IfErr result (λ e. ReadFails e store.old store.new) }
+    ensures blames { IfErr result (λ e. BlamesSo (IsBadForLook (Asks (Free pages))) e store.new) }
     ensures faults { CountsFault (fault_in sweep_fault result) (shown.view store.old) (shown.view store.new) }
     ensures reads { (shown.view store.new).reads ≤ (shown.view store.old).reads + 105 * MOST_SERIES }
     ensures looks { LooksOnly store.old store.new }

@@ -3,6 +3,8 @@ ghost use Rattle.std.specs.Prelude.{◌≡◌, ◌≢◌, ◌≤◌, ◌+◌, �
 ghost use Rattle.chart_world.specs.Faults.{CountsFault, fault_in};
 ghost use Rattle.series_book.specs.Edits.{IsEdit};
 ghost use Rattle.series_store.specs.Shown as shown;
+ghost use Rattle.stored_book.specs.Damage.{IsBadForEdit};
+ghost use Rattle.retention.specs.Damage.{Asks, BlamesSo, IsBadForLook, IsBadForSweep};
 ghost use Rattle.retention.specs.Faults.{sweep_fault};
 ghost use Rattle.retention.specs.Moving.{CarriesOn, LooksOnly, ReadsFew, clear_reads, look_reads};
 ghost use Rattle.retention.specs.Stepping.{DoesClear, StepsSo, clear_error};
@@ -41,6 +43,7 @@ fn next_clear<P: Pages>(store: &mut Store<P>, rule: &Rule) -> Result<Option<Edit
     ensures is_edit { IfOk result (λ next. IfSome next IsEdit) }
     ensures outside { shown.ForBook store.old (λ total book. IfErr result IsOutside) }
     ensures cause { IfErr result (λ e. ReadFails e store.old store.new) }
+    ensures blames { IfErr result (λ e. BlamesSo (IsBadForLook (Asks rule.now)) e store.new) }
     ensures faults { CountsFault (fault_in sweep_fault result) (shown.view store.old) (shown.view store.new) }
     ensures reads { (shown.view store.new).reads ≤ (shown.view store.old).reads + look_reads }
     ensures looks { LooksOnly store.old store.new }
@@ -60,6 +63,7 @@ fn do_clear<P: Pages>(store: &mut Store<P>, clear: &Edit) -> Result<(), SweepErr
     ensures carries { CarriesOn store.old store.new }
     ensures commits { Commits 1 store.old store.new }
     ensures cause { IfErr result (λ e. ReadFails e store.old store.new) }
+    ensures blames { IfErr result (λ e. BlamesSo IsBadForEdit e store.new) }
     ensures faults { CountsFault (fault_in sweep_fault result) (shown.view store.old) (shown.view store.new) }
     ensures reads { (shown.view store.new).reads ≤ (shown.view store.old).reads + 96 }
     ensures sound { OnOk result (shown.IsSound store.new) }
@@ -79,6 +83,7 @@ fn clear_next<P: Pages>(store: &mut Store<P>, rule: &Rule) -> Result<bool, Sweep
     ensures commits { Commits 1 store.old store.new }
     ensures idle { result ≡ Ok false → Commits 0 store.old store.new }
     ensures cause { IfErr result (λ e. ReadFails e store.old store.new) }
+    ensures blames { IfErr result (λ e. BlamesSo (IsBadForSweep rule.now) e store.new) }
     ensures faults { CountsFault (fault_in sweep_fault result) (shown.view store.old) (shown.view store.new) }
     ensures reads { (shown.view store.new).reads ≤ (shown.view store.old).reads + clear_reads }
     ensures sound { OnOk result (shown.IsSound store.new) }
@@ -114,6 +119,7 @@ fn clear_some<P: Pages>(
     ensures each { IfOk result (λ swept. Commits swept.clears store.old store.new) }
     ensures few { IfOk result (λ swept. swept.clears ≤ most) }
     ensures cause { IfErr result (λ e. FailsFor e store.old store.new) }
+    ensures blames { IfErr result (λ e. BlamesSo (IsBadForSweep rule.now) e store.new) }
     ensures faults { CountsFault (fault_in sweep_fault result) (shown.view store.old) (shown.view store.new) }
     ensures reads { (shown.view store.new).reads ≤ (shown.view store.old).reads + clear_reads * (most + 1) }
     ensures few_reads { shown.ForBook store.old (λ total book. ReadsFew (length (sweeps_some total book rule.now most)) (shown.view store.old) (shown.view store.new)) }
@@ -187,6 +193,8 @@ pub fn sweep_some<P: Pages>(
     ensures each { IfOk result (λ swept. Commits swept.clears store.old store.new) }
     ensures few { IfOk result (λ swept. swept.clears ≤ most) }
     ensures cause { IfErr result (λ e. FailsFor e store.old store.new) }
+    // a page that is called damaged is so in the series that the rule names, or in any where it frees pages, or for a clear
+    ensures blames { IfErr result (λ e. BlamesSo (IsBadForSweep rule.now) e store.new) }
     // no count of faults rises but that of the disk, where the error tells of it
     ensures faults { CountsFault (fault_in sweep_fault result) (shown.view store.old) (shown.view store.new) }
     // whatever the pages are
@@ -223,6 +231,8 @@ pub fn sweep<P: Pages>(store: &mut Store<P>, rule: &Rule) -> Result<Swept, Sweep
     ensures few_reads { shown.ForBook store.old (λ total book. ReadsFew (length (sweeps total book rule.now)) (shown.view store.old) (shown.view store.new)) }
     ensures each { IfOk result (λ swept. Commits swept.clears store.old store.new) }
     ensures cause { IfErr result (λ e. FailsFor e store.old store.new) }
+    // a page that is called damaged is so in the series that the rule names, or in any where it frees pages, or for a clear
+    ensures blames { IfErr result (λ e. BlamesSo (IsBadForSweep rule.now) e store.new) }
     // no count of faults rises but that of the disk, where the error tells of it
     ensures faults { CountsFault (fault_in sweep_fault result) (shown.view store.old) (shown.view store.new) }
     ensures sound { OnOk result (shown.IsSound store.new) }

@@ -1,6 +1,6 @@
 -- The series of a name.
 use Rattle.std.proofs.Common.{◌≡◌, ◌≢◌, ℕ, ◌<◌, List, [], length, Option, None, Some, Result, Ok, Err, OnOk, IfErr, IfSome, refl, subst, inl, sym, ◌∙◌, arith}
-use Rattle.std.specs.Prelude.{◌↔◌, IsErrAnd, MatchOption, slice_get}
+use Rattle.std.specs.Prelude.{◌↔◌, IfOk, IsErrAnd, MatchOption, slice_get}
 use Rattle.block_disk.specs.View.{Image, View}
 use Rattle.series_book.specs.declared.one_series.Series.{Series}
 use Rattle.series_book.specs.Edits.{id_of}
@@ -11,7 +11,7 @@ use Rattle.series_store.specs.Asking.{IsInfo, IsNamedAt, IsStoredInfo}
 use Rattle.series_store.specs.declared.series_info.SeriesInfo.{SeriesInfo}
 use Rattle.block_disk.proofs.Passing.{passes_none}
 use Rattle.gate_pages.specs.Pages.{Quiet}
-use Rattle.series_load.specs.Ends.{EndsAtBad, EndsAtBadOf, EndsLoad, IsLoadCause, Outcome, Stopped}
+use Rattle.series_load.specs.Ends.{EndsAtBad, EndsAtBadOf, EndsLoad, IsLoadCause, IsRead, OfScale, Outcome, Stopped}
 use Rattle.series_load.specs.Fronts.{PlacedLine}
 use Rattle.series_load.specs.Rows.{AreTable}
 use Rattle.series_load.specs.Runs.{nothing}
@@ -98,6 +98,10 @@ unstarted total name book series o e (Err x) at is none some =
     no_ends None = tt
     no_ends (Some input) = tt
 
+pub no_count : {T : Type 0} (result : Result T End) (e : End) (P : T → Type 0) → IsErrAnd result (λ x. x ≡ e) → IfOk result P
+no_count {T} (Ok v) e P is = absurd is
+no_count {T} (Err x) e P is = tt
+
 pub no_value : {T : Type 0} (result : Result T End) (e : End) (P : Type 0) → IsErrAnd result (λ x. x ≡ e) → OnOk result P
 no_value (Ok v) e P is = absurd is
 no_value (Err x) e P is = tt
@@ -143,6 +147,24 @@ at_bad_of catalog name o id info scale (Ok count) low named stored same line = t
 at_bad_of catalog name None id info scale (Err e) low named stored same line = tt
 at_bad_of catalog name (Some input) id info scale (Err e) low named stored same line =
     stored_line catalog name id info scale low named stored same input e line
+
+pub read_of : (catalog : List StoredSeries) (name : List ℕ) (o : Option (List ℕ)) (id : ℕ) (info : SeriesInfo) (scale : ℕ)
+    (result : Result ℕ End) → id < length catalog → IsNamedAt catalog name id
+    → ((one : StoredSeries) → slice_get catalog id ≡ Some one → IsStoredInfo one info) → scale ≡ info.scale
+    → IfOk result (λ count. IfSome o (λ input. IsRead scale input count))
+    → IfOk result (λ count. IfSome o (λ input. OfScale catalog name (λ scale. IsRead scale input count)))
+read_of catalog name o id info scale (Err e) low named stored same read = tt
+read_of catalog name None id info scale (Ok count) low named stored same read = tt
+read_of catalog name (Some input) id info scale (Ok count) low named stored same read =
+    let one = there catalog id low in
+    let P : ℕ → Type 0 = λ n. IsRead n input count in
+    record {
+      id = id;
+      one = one.0;
+      there = one.1;
+      named = named one.0 one.1;
+      so = subst P (same ∙ (stored one.0 one.1).scale) read;
+    }
 
 -- no line was read
 pub no_line : (catalog : List StoredSeries) (name : List ℕ) (o : Option (List ℕ)) → IfSome o (λ input. EndsAtBadOf catalog name input UnknownSeries)

@@ -33,7 +33,7 @@ use Rattle.series_load.proofs.RowLemmas.{table_more, no_rows, table_header}
 abbrev pub one_if : Option Reading → ℕ
 one_if row = cond (is_some row) 1 0
 
-counted_more : (rows : List (Option Reading)) (row : Option Reading) → count_by is_some (rows ++ row ∷ []) ≡ count_by is_some rows + one_if row
+pub counted_more : (rows : List (Option Reading)) (row : Option Reading) → count_by is_some (rows ++ row ∷ []) ≡ count_by is_some rows + one_if row
 counted_more rows row = sum_by-append (λ r. cond (is_some r) 1 0) rows (row ∷ []) ∙ omega arith
 
 abbrev pub placed : ℕ → List ℕ → PlacedLine

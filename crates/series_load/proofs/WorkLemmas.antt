@@ -237,18 +237,18 @@ module _ (told told' : Type 0) (loader loader' : Loader) (old new : View) (more 
 
   -- no line was read
   scan_idle : {T : Type 0} (scan : Scan) (it : Given) (before now : Option (List ℕ)) (result : Result T End) → loader'.scale ≡ loader.scale
-      → loader'.first ≡ loader.first → now ≡ before → ScanDoes scan it scan → scan ≡ scan_of loader
+      → loader'.first ≡ loader.first → loader'.points ≡ loader.points → now ≡ before → ScanDoes scan it scan → scan ≡ scan_of loader
       → OnOk result (DoesOne LoadingDoes Next (Scanned scan) it before now)
-  scan_idle {T} scan it before now (Ok v) scale first unsent idle is =
+  scan_idle {T} scan it before now (Ok v) scale first points unsent idle is =
       let F : Scan → Type 0 = λ s. s ≡ scan_of loader' in
       record {
         text = [];
         behind = Scanned scan;
         done = (refl, idle);
-        stands = subst F (sym is) (λ i. record { scale = sym scale i; first = sym first i });
+        stands = subst F (sym is) (λ i. record { scale = sym scale i; first = sym first i; points = sym points i });
         sent = unsent ∙ sent_none before;
       }
-  scan_idle {T} scan it before now (Err e) scale first unsent idle is = tt
+  scan_idle {T} scan it before now (Err e) scale first points unsent idle is = tt
 
   -- ---- a line
 
@@ -256,23 +256,23 @@ module _ (told told' : Type 0) (loader loader' : Loader) (old new : View) (more 
   LineOf {T} at text result held = DoesLine loader.scale loader.step at text loader.first loader.points held.total loader.name held.book held.waiting held.open_run result loader'.first loader'.points loader'.kept loader'.run old new
 
   scan_line : {T : Type 0} (scan : Scan) (at : ℕ) (text : List ℕ) (before now : Option (List ℕ)) (result : Result T End) → loader'.scale ≡ loader.scale
-      → now ≡ before → OnOk result (LineReads loader.scale loader.first text loader'.first) → scan ≡ scan_of loader
+      → now ≡ before → OnOk result (LineReads loader.scale loader.first loader.points text loader'.first loader'.points) → scan ≡ scan_of loader
       → OnOk result (DoesOne LoadingDoes Next (Scanned scan) (Line at (Some text)) before now)
   scan_line {T} scan at text before now (Ok v) scale unsent reads is =
-      let R : Scan → Type 0 = λ s. LineReads s.scale s.first text loader'.first in
-      let F : Scan → Type 0 = λ s. further s loader'.first ≡ scan_of loader' in
+      let R : Scan → Type 0 = λ s. LineReads s.scale s.first s.points text loader'.first loader'.points in
+      let F : Scan → Type 0 = λ s. further s loader'.first loader'.points ≡ scan_of loader' in
       record {
         text = [];
-        behind = Scanned (further scan loader'.first);
-        done = (refl, record { first = loader'.first; reads = subst R (sym is) reads; behind_is = refl });
-        stands = subst F (sym is) (λ i. record { scale = sym scale i; first = loader'.first });
+        behind = Scanned (further scan loader'.first loader'.points);
+        done = (refl, record { first = loader'.first; points = loader'.points; reads = subst R (sym is) reads; behind_is = refl });
+        stands = subst F (sym is) (λ i. record { scale = sym scale i; first = loader'.first; points = loader'.points });
         sent = unsent ∙ sent_none before;
       }
   scan_line {T} scan at text before now (Err e) scale unsent reads is = tt
 
   pub any_line_done : {T : Type 0} (loading : Loading) (at : ℕ) (text : List ℕ) (before now : Option (List ℕ)) (result : Result T End)
       → SameLoader loader loader' → now ≡ before → ((held : Held) → StandsSo told old loader held → LineOf at text result held)
-      → OnOk result (LineReads loader.scale loader.first text loader'.first) → StandsFor told old loader loading
+      → OnOk result (LineReads loader.scale loader.first loader.points text loader'.first loader'.points) → StandsFor told old loader loading
       → OnOk result (DoesOne LoadingDoes Next loading (Line at (Some text)) before now)
   any_line_done {T} (Booked held) at text before now result same unsent did reads s =
       as_booked held (Line at (Some text)) before now result
@@ -311,7 +311,7 @@ module _ (told told' : Type 0) (loader loader' : Loader) (old new : View) (more 
       as_booked held Pause before now result
       (pause_done told told' held loader loader' old new s (more s.is_told) B before now result same first points unsent (did held s) (keeps held s))
   any_pause_done {T} (Scanned scan) B before now result same first points unsent did keeps is =
-      scan_idle scan Pause before now result same.scale_is first unsent refl is
+      scan_idle scan Pause before now result same.scale_is first points unsent refl is
 
   pub any_end_done : {T : Type 0} (loading : Loading) (B : ℕ → Type 0) (before now : Option (List ℕ)) (result : Result T End) → SameLoader loader loader'
       → loader'.first ≡ loader.first → loader'.points ≡ loader.points → now ≡ before
@@ -322,7 +322,7 @@ module _ (told told' : Type 0) (loader loader' : Loader) (old new : View) (more 
       as_booked held given.End before now result
       (end_done told told' held loader loader' old new s (more s.is_told) B before now result same first points unsent (did held s) (keeps held s))
   any_end_done {T} (Scanned scan) B before now result same first points unsent did keeps is =
-      scan_idle scan given.End before now result same.scale_is first unsent refl is
+      scan_idle scan given.End before now result same.scale_is first points unsent refl is
 
   pub any_runs_stop : {T : Type 0} (loading : Loading) (it : Given) (runs : Held → List Run) (result : Result T End)
       → ((held : Held) → RunsBy (seen held loader) it (runs held))

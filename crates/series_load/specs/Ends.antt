@@ -120,6 +120,12 @@ abbrev pub EndsAtBad : ℕ → List ℕ → End → Type 0
 EndsAtBad scale input (BadInput at) = IsBadLine scale input at
 EndsAtBad scale input end = ⊤
 
+-- all lines are rows, whatever the pages are, and so many of them have a reading
+pub record IsRead (scale : ℕ) (input : List ℕ) (count : ℕ) : Type 0 where
+  pub rows : List (Option Reading)
+  pub reads : ReadsRows scale input input [] rows
+  pub counted : count ≡ count_by is_some rows
+
 -- a series of a catalog has this name, and this is so of its scale
 pub record OfScale (catalog : List StoredSeries) (name : List ℕ) (IsSo : ℕ → Type 0) : Type 0 where
   pub id : ℕ

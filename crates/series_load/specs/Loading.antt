@@ -144,24 +144,26 @@ pub record LoadLeaves (held : Held) (it : Given) (from : ℕ) (image : Image) (s
 
 -- ---- whatever the pages are
 
--- how far the lines were read: by this scale, and whether none was yet that isn't empty
+-- how far the lines were read: by this scale, whether none was yet that isn't empty, and how many rows have a reading
 pub record Scan : Type 0 where
   pub scale : ℕ
   pub first : Bool
+  pub points : ℕ
 
 -- by a loader
 abbrev pub scan_of : Loader → Scan
-scan_of loader = record { scale = loader.scale; first = loader.first }
+scan_of loader = record { scale = loader.scale; first = loader.first; points = loader.points }
 
 -- further lines
-abbrev pub further : Scan → Bool → Scan
-further scan first = record { scale = scan.scale; first = first }
+abbrev pub further : Scan → Bool → ℕ → Scan
+further scan first points = record { scale = scan.scale; first = first; points = points }
 
 -- a line was read
 pub record LineScanned (scan : Scan) (text : List ℕ) (behind : Scan) : Type 0 where
   pub first : Bool
-  pub reads : LineReads scan.scale scan.first text first
-  pub behind_is : behind ≡ further scan first
+  pub points : ℕ
+  pub reads : LineReads scan.scale scan.first scan.points text first points
+  pub behind_is : behind ≡ further scan first points
 
 -- at a pause and at the end none was
 abbrev pub ScanDoes : Scan → Given → Scan → Type 0

@@ -1,5 +1,5 @@
 -- What a line more does to the run that stands open, and to the store.
-use Rattle.std.specs.Prelude.{◌≡◌, ◌≢◌, ◌⊎◌, ℕ, ℤ, ◌-◌, ◌<◌, ◌≤◌, Bool, true, false, List, [], ◌∷◌, ◌++◌, length, map, take, slice_get, Option, None, Some, Result, Ok, Err, IfOk, OnOk, IfErr, count_by, is_some, ⊤}
+use Rattle.std.specs.Prelude.{◌≡◌, ◌≢◌, ◌⊎◌, ℕ, ℤ, ◌+◌, ◌-◌, ◌<◌, ◌≤◌, Bool, true, false, List, [], ◌∷◌, ◌++◌, length, map, take, slice_get, Option, None, Some, Result, Ok, Err, IfOk, OnOk, IfErr, count_by, is_some, ⊤}
 use Rattle.std.specs.List.{filter}
 use Rattle.block_disk.specs.Counts.{HasRisen}
 use Rattle.block_disk.specs.View.{Image, View, Passes}
@@ -86,16 +86,25 @@ SaysSo scale first text (Point reading) = Says scale text (row.Point reading.tim
 SaysSo scale first text Gap = (time : ℤ) × Says scale text (row.Skip time)
 SaysSo scale first text Bad = ((cause : RowCause) × Fails scale text cause) ⊎ ((first ≡ false) × Says scale text row.Header)
 
--- a line that isn't empty says what may stand there
-pub record SaysGood (scale : ℕ) (first : Bool) (text : List ℕ) : Type 0 where
+-- so many rows have a reading, with a line that says this
+abbrev pub points_with : ℕ → Said → ℕ
+points_with points Header = points
+points_with points (Point reading) = points + 1
+points_with points Gap = points
+points_with points Bad = points
+
+-- a line that isn't empty says what may stand there, and is counted where it has a reading
+pub record SaysGood (scale : ℕ) (first : Bool) (points : ℕ) (text : List ℕ) (points' : ℕ) : Type 0 where
   pub some : 0 < length text
   pub said : Said
   pub good : said ≢ Bad
   pub says_it : SaysSo scale first text said
+  pub counted : points' ≡ points_with points said
 
 -- the line is empty, or it says so, and no line behind it is the first
-abbrev pub LineReads : ℕ → Bool → List ℕ → Bool → Type 0
-LineReads scale first text first' = ((text ≡ []) × (first' ≡ first)) ⊎ (SaysGood scale first text × (first' ≡ false))
+abbrev pub LineReads : ℕ → Bool → ℕ → List ℕ → Bool → ℕ → Type 0
+LineReads scale first points text first' points' =
+    ((text ≡ []) × (first' ≡ first) × (points' ≡ points)) ⊎ (SaysGood scale first points text points' × (first' ≡ false))
 
 -- a line that an end calls bad is the one at this offset
 abbrev pub BlamesLine : ℕ → End → Type 0

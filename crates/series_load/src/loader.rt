@@ -3,7 +3,7 @@ ghost use Rattle.std.specs.Prelude.{◌≡◌, ◌≢◌, ◌<◌, ◌≤◌, �
 ghost use Rattle.chart_world.specs.Faults.{CountsFault, fault_in};
 ghost use Rattle.run_ends.specs.Faults.{end_fault};
 ghost use Rattle.series_load.specs.Runs.{Run};
-ghost use Rattle.series_load.specs.Steps.{AddsReading, BlamesLine, BlamesNone, BlamesText, IsSoundFor, LineReads, SaysSo, Took, closed};
+ghost use Rattle.series_load.specs.Steps.{AddsReading, BlamesLine, BlamesNone, BlamesText, IsSoundFor, LineReads, SaysSo, Took, closed, points_with};
 ghost use Rattle.series_load.specs.Shown as loads;
 ghost use Rattle.series_store.specs.Shown as shown;
 ghost use Rattle.run_ends.specs.declared.ending.End.TheVariants.{NoMemory};
@@ -190,6 +190,7 @@ impl Loader {
         ensures scale { self.new.scale ≡ self.old.scale }
         ensures first { self.new.first ≡ false }
         ensures more { self.new.points ≤ self.old.points + 1 }
+        ensures counts { self.new.points ≡ points_with self.old.points said }
     {
         match said {
             Said::Header => {
@@ -221,7 +222,7 @@ impl Loader {
         requires few { self.old.points < 2 ^ 63 }
         ensures does { loads.ForRuns store.old self.old (λ total book waiting open_run. loads.TakesLine at line.now total book waiting open_run result self.old self.new store.old store.new) }
         // whatever the pages are
-        ensures reads { OnOk result (LineReads self.old.scale self.old.first line.now self.new.first) }
+        ensures reads { OnOk result (LineReads self.old.scale self.old.first self.old.points line.now self.new.first self.new.points) }
         ensures blames { IfErr result (λ e. BlamesText self.old.scale at self.old.first line.now e) }
         ensures carries { loads.CarriesOn store.old store.new }
         ensures cause { IfErr result (λ e. loads.FailsFor e store.old store.new) }

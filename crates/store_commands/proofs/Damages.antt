@@ -1,5 +1,5 @@
 -- A page of an opened store that was called damaged, a name that its catalog lacks, and the scale that it tells of a name.
-use Rattle.std.proofs.Common.{◌≡◌, ◌∙◌, ℕ, zero, suc, ◌<◌, List, [], ◌∷◌, Option, Some, None, Result, Ok, Err, IfErr, IfSome, length, refl, ap, sym, subst, arith}
+use Rattle.std.proofs.Common.{◌≡◌, ◌∙◌, ℕ, zero, suc, ◌<◌, List, [], ◌∷◌, Option, Some, None, Result, Ok, Err, IfErr, IfOk, IfSome, length, refl, ap, sym, subst, arith}
 use Rattle.std.specs.List.{slice_get}
 use Rattle.block_disk.specs.View.{Honest, Image, View}
 use Rattle.gate_pages.specs.Journal.{pages_of}
@@ -11,14 +11,14 @@ use Rattle.stored_book.specs.Records.{entry}
 use Rattle.store_commands.proofs.Held.{RestsNew}
 use Rattle.store_commands.specs.Damaged.{IsDamagedLater}
 use Rattle.store_commands.specs.Lacking.{HasNoRecord, HasScale, LacksRecord, TellsScale}
-use Rattle.store_commands.specs.Loaded.{IsAtLine}
+use Rattle.store_commands.specs.Loaded.{IsAtLine, IsReadByRecord}
 use Rattle.catalog_page.specs.Entries.{Entry}
 use Rattle.run_ends.specs.Statuses.{block_of}
 use Rattle.run_ends.specs.declared.ending.End.{End}
 use Rattle.run_ends.specs.declared.ending.End.TheVariants.{BadInput}
 use Rattle.series_catalog.specs.Catalogs.{AreAsTold}
 use Rattle.series_catalog.specs.declared.stored_series.StoredSeries.{StoredSeries}
-use Rattle.series_load.specs.Ends.{EndsAtBadOf}
+use Rattle.series_load.specs.Ends.{EndsAtBadOf, IsRead, OfScale}
 
 -- it is so of the disk, whose pages are of version 2
 pub later_bad : (count count' : ℕ) (new : View) (page : ℕ) → count' ≡ count → page < count' → (Honest new → IsBadForRequest count' (pages_of count' new.image) page) → IsDamagedLater IsBadForRequest count new (block_of page)
@@ -72,3 +72,11 @@ module _ (count : ℕ) (disk : View) (s : Superblock) (items : List StoredSeries
   line_by o (Ok readings) line = tt
   line_by None (Err e) line = tt
   line_by (Some input) (Err e) line = by_record input e line
+
+  pub read_by : (o : Option (List ℕ)) (answer : Result ℕ End)
+      → IfOk answer (λ readings. IfSome o (λ input. OfScale items name (λ scale. IsRead scale input readings)))
+      → IfOk answer (λ readings. IfSome o (λ input. IsReadByRecord count disk name input readings))
+  read_by o (Err e) read = tt
+  read_by None (Ok readings) read = tt
+  read_by (Some input) (Ok readings) read =
+      record { scale = read.one.scale; tells = tells_scale read.id read.one read.there read.named; read = read.so }

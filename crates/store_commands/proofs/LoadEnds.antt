@@ -41,7 +41,7 @@ use Rattle.store_commands.proofs.SpendLemmas.{spends_behind, spends_opening, spe
 use Rattle.store_commands.proofs.Unopened.{opening_known, outside_ends, unopened_end}
 use Rattle.store_commands.proofs.WorldLemmas.{IsUnopened}
 use Rattle.store_commands.specs.Lacking.{HasNoRecord, HasScale, LacksRecord, TellsScale}
-use Rattle.store_commands.specs.Loaded.{OfSeries, LoadEnds, IsAheadLoad, IsAtLine, IsLoadEnd, LeavesLoads, HoldsSome, LoadsFew, LoadsSome, loaded_text}
+use Rattle.store_commands.specs.Loaded.{OfSeries, LoadEnds, IsAheadLoad, IsAtLine, IsReadByRecord, TellsReadings, IsLoadEnd, LeavesLoads, HoldsSome, LoadsFew, LoadsSome, loaded_text}
 use Rattle.store_commands.specs.Storing.{StopsAt, IsEndCause, Stores}
 
 -- ---- the store is opened first
@@ -62,6 +62,10 @@ module _ (name : List ℕ) (old mid new : View) (opens : Opens (page_count old.s
   line_on : (input : List ℕ) (end : End) → IsAtLine name (page_count old.size) mid input end → IsAtLine name (page_count old.size) old input end
   line_on input (BadInput at) is = record { scale = is.scale; tells = scale_on is.scale is.tells; line = is.line }
   line_on input end is = tt
+
+  read_on : (input : List ℕ) (readings : ℕ) → IsReadByRecord (page_count old.size) mid name input readings
+      → IsReadByRecord (page_count old.size) old name input readings
+  read_on input readings is = record { scale = is.scale; tells = scale_on is.scale is.tells; read = is.read }
 
   of_series : (IsSo : ℕ → List Series → Series → Type 0) → OfSeries (page_count old.size) mid name IsSo → OfSeries (page_count old.size) old name IsSo
   of_series IsSo all = λ total book holds series named. all total book (held old mid opens total book holds) series named
@@ -110,6 +114,8 @@ module _ (name : List ℕ) (old mid new : View) (opens : Opens (page_count old.s
     some = λ other. of_series (λ total book series. HoldsPages (page_count old.size) total (IsAfterSome total name book series t.left) new) (s.some other);
     stops = tt;
     line = tt;
+    read = told_so (λ input. IsReadByRecord (page_count old.size) mid name input readings)
+        (λ input. IsReadByRecord (page_count old.size) old name input readings) t.left (λ input is. read_on input readings is) s.read;
     cause = tt;
     named = of_series (λ total book series. Ok readings ≢ Err UnknownSeries) s.named;
     unnamed = λ total book holds none. s.unnamed total book (held old mid opens total book holds) none;
@@ -130,6 +136,7 @@ module _ (name : List ℕ) (old mid new : View) (opens : Opens (page_count old.s
     some = λ other. of_series (λ total book series. HoldsPages (page_count old.size) total (IsAfterSome total name book series t.left) new) (s.some other);
     stops = told_so _ _ t.left (λ input is. stops_on input t.left_now end is) s.stops;
     line = told_so (λ input. IsAtLine name (page_count old.size) mid input end) (λ input. IsAtLine name (page_count old.size) old input end) t.left (λ input is. line_on input end is) s.line;
+    read = tt;
     cause = cause_on end t.reads t.reads_now s.cause;
     named = of_series (λ total book series. Err end ≢ Err UnknownSeries) s.named;
     unnamed = λ total book holds none. s.unnamed total book (held old mid opens total book holds) none;
@@ -221,6 +228,7 @@ unloaded name old new t cause end u same =
       kept = λ total book holds none. opened_since old new u.opens total book holds;
       costs = opened_costs name old new t.left u.opens;
       line = any_told t.left (λ input. IsAtLine name (page_count old.size) old input (opening_end cause)) (λ input. unopened_line input cause);
+      read = any_told t.left (λ input. TellsReadings name (page_count old.size) old input t.sent t.sent_now (opening_end cause)) (λ input. unopened_read input cause);
       honest = u.opens.honest;
       goes_on = opened_goes old new u.opens;
     })
@@ -235,6 +243,12 @@ unloaded name old new t cause end u same =
     unopened_line input (opening.Damaged block) = tt
     unopened_line input opening.DiskFault = tt
     unopened_line input opening.NoMemory = tt
+
+    unopened_read : (input : List ℕ) (cause : OpeningCause) → TellsReadings name (page_count old.size) old input t.sent t.sent_now (opening_end cause)
+    unopened_read input (opening.TooSmall size) = tt
+    unopened_read input (opening.Damaged block) = tt
+    unopened_read input opening.DiskFault = tt
+    unopened_read input opening.NoMemory = tt
 
 -- ---- not all of the input was loaded
 
@@ -256,11 +270,20 @@ stopped name old new t UnknownSeries s =
 stopped name old new t (Refused at number) s = (s.stops, s.sent_is)
 stopped name old new t end s = absurd s.cause
 
+-- then no number was told
+stopped_read : (name : List ℕ) (count : ℕ) (disk new : View) (input : List ℕ) (before now : Option (List ℕ)) (reads reads_now : ℕ) (end : End)
+    → IsEndCause end count disk new reads reads_now → TellsReadings name count disk input before now end
+stopped_read name count disk new input before now reads reads_now Done cause = absurd cause
+stopped_read name count disk new input before now reads reads_now SendFault cause = absurd cause
+stopped_read name count disk new input before now reads reads_now end cause = tt
+
 pub stopped_ends : (name : List ℕ) (old new : View) (t : Traffic) (end : End) → Stores name (page_count old.size) old new t (Err end) → IfSome t.left (LoadsFew name (page_count old.size) old new)
     → LoadEnds name old new t end
 stopped_ends name old new t end s costs = record {
   costs = costs;
   line = s.line;
+  read = any_told t.left (λ input. TellsReadings name (page_count old.size) old input t.sent t.sent_now end)
+      (λ input. stopped_read name (page_count old.size) old new input t.sent t.sent_now t.reads t.reads_now end s.cause);
   is = stopped name old new t end s;
   unnamed = λ total book holds none. (2, omega arith, sym (err_same end UnknownSeries (s.unnamed total book holds none)));
   lacks = λ is. s.lacks (ap Err is);
@@ -353,6 +376,14 @@ sent_line : (name : List ℕ) (count : ℕ) (disk : View) (text : List ℕ) (bef
 sent_line name count disk text before now sends sends_now input (BadInput at) is = absurd is
 sent_line name count disk text before now sends sends_now input end is = tt
 
+-- the number of the readings was sent, or a part of it
+sent_read : (name : List ℕ) (count : ℕ) (disk : View) (readings : ℕ) (before now : Option (List ℕ)) (sends sends_now : ℕ) (input : List ℕ) (end : End)
+    → IsSent end (loaded_text readings) before now sends sends_now → IsReadByRecord count disk name input readings
+    → TellsReadings name count disk input before now end
+sent_read name count disk readings before now sends sends_now input Done is read = (readings, read, is)
+sent_read name count disk readings before now sends sends_now input SendFault is read = (readings, read, is.1)
+sent_read name count disk readings before now sends sends_now input end is read = tt
+
 never_unknown : (readings : ℕ) → answered readings ≡ failed UnknownSeries → ⊥
 never_unknown readings same = cc
 
@@ -373,6 +404,9 @@ sent_ends name old mid new t left' now reads_now sends_now readings end same s t
       costs = sent_costs name (page_count old.size) old mid new t.left x.kept costs;
       line = any_told t.left (λ input. IsAtLine name (page_count old.size) old input end)
           (λ input. sent_line name (page_count old.size) old (loaded_text readings) t.sent now t.sends sends_now input end x.is);
+      read = told_so (λ input. IsReadByRecord (page_count old.size) old name input readings)
+          (λ input. TellsReadings name (page_count old.size) old input t.sent now end) t.left
+          (λ input is. sent_read name (page_count old.size) old readings t.sent now t.sends sends_now input end x.is is) s.read;
       honest = λ h. kept_told mid new x.kept (s.honest h);
       goes_on = goes_then old mid new s.goes_on (goes_by mid new (Now mid) (λ sent. (sent_now mid ≤ sent) × (sent ≤ sent_now new)) x.time);
     }

@@ -1,6 +1,6 @@
 -- What a load does over a store on a disk, in the words of the disk.
 use Rattle.std.proofs.Common.{◌≡◌, ◌≢◌, ◌↔◌, ℕ, ◌≤◌, ◌<◌, ◌⊎◌, pos, Bool, List, [], length, Option, Some, None, Result, Ok, Err, IfSome, refl, sym, ap, subst, inl, inr, arith, ◌∙◌}
-use Rattle.std.specs.Prelude.{IfErr, OnOk, bytes_eq}
+use Rattle.std.specs.Prelude.{IfErr, IfOk, OnOk, bytes_eq}
 use Rattle.std.proofs.lemmas.List.Quantifiers.{position-Some}
 use Rattle.block_disk.specs.View.{Image, View, Honest, Passes, sent_now}
 use Rattle.gate_pages.specs.GatePages.{IsClosed, pages_view}
@@ -28,7 +28,7 @@ use Rattle.store_commands.specs.Books.{OfBook, Never, IsOnBook, HoldsPages}
 use Rattle.store_commands.proofs.Held.{RestsNew, stands_held, within_held, holds_pages}
 use Rattle.store_commands.proofs.Moments.{since_worked, on_book}
 use Rattle.store_commands.specs.Lacking.{LacksRecord}
-use Rattle.store_commands.specs.Loaded.{IsAtLine, OfSeries, RefusesRun, Unnamed}
+use Rattle.store_commands.specs.Loaded.{IsAtLine, IsReadByRecord, OfSeries, RefusesRun, Unnamed}
 use Rattle.store_commands.specs.Storing.{StopsAt, IsEndCause, Stores}
 use Rattle.store_commands.specs.Traffic.{IsLong, Traffic, WasRead}
 
@@ -208,9 +208,10 @@ module _ (name : List ℕ) (count count' : ℕ) (sound sound' : Bool) (old new :
         so.1,
       )
 
-  pub stores_by : (answer : Result ℕ End) (total_now : ℕ) → Comes answer → Finds answer → (answer ≡ Err UnknownSeries → LacksRecord count old name) → IfErr answer (λ e. IfSome t.left (λ input. IsAtLine name count old input e)) → OnOk answer (WasRead t.left t.left_now) → (answer ≡ Err InputTooLong → IsLong t.left) → total_now ≤ count' → IfErr answer (λ e. IsLoadCause e (Honest new) total_now (pages_view count sound old) (pages_view count' sound' new) t.reads t.reads_now)
+  pub stores_by : (answer : Result ℕ End) (total_now : ℕ) → Comes answer → Finds answer → (answer ≡ Err UnknownSeries → LacksRecord count old name) → IfErr answer (λ e. IfSome t.left (λ input. IsAtLine name count old input e))
+      → IfOk answer (λ readings. IfSome t.left (λ input. IsReadByRecord count old name input readings)) → OnOk answer (WasRead t.left t.left_now) → (answer ≡ Err InputTooLong → IsLong t.left) → total_now ≤ count' → IfErr answer (λ e. IsLoadCause e (Honest new) total_now (pages_view count sound old) (pages_view count' sound' new) t.reads t.reads_now)
       → (answer ≢ Err DiskFault → IsClosed new) → (answer ≡ Err UnknownSeries → (new ≡ old) × (t.left_now ≡ t.left)) → t.sent_now ≡ t.sent → t.sends_now ≡ t.sends → old.faults ≤ new.faults → Stores name count old new t answer
-  stores_by (Ok readings) total_now comes finds lacks line within long few cause closed stays sent_is sends_is faults = record {
+  stores_by (Ok readings) total_now comes finds lacks line read within long few cause closed stays sent_is sends_is faults = record {
     done = done_by t.left readings (λ total book series honest stands named. (comes total book series honest stands named).done) (closed (λ is. cc));
     within = within;
     long = long;
@@ -221,6 +222,7 @@ module _ (name : List ℕ) (count count' : ℕ) (sound sound' : Bool) (old new :
     unnamed = unnamed_by_load (Ok readings) finds;
     lacks = lacks;
     line = tt;
+    read = read;
     untouched = untouched_by (Ok readings) stays;
     moments = moments_by (Ok readings) comes;
     quiet = quiet_by (Ok readings) comes finds (λ is. (stays is).0);
@@ -230,7 +232,7 @@ module _ (name : List ℕ) (count count' : ℕ) (sound sound' : Bool) (old new :
     honest = told;
     goes_on = goes;
   }
-  stores_by (Err e) total_now comes finds lacks line within long few cause closed stays sent_is sends_is faults = record {
+  stores_by (Err e) total_now comes finds lacks line read within long few cause closed stays sent_is sends_is faults = record {
     done = tt;
     within = tt;
     long = long;
@@ -241,6 +243,7 @@ module _ (name : List ℕ) (count count' : ℕ) (sound sound' : Bool) (old new :
     unnamed = unnamed_by_load (Err e) finds;
     lacks = lacks;
     line = line;
+    read = tt;
     untouched = untouched_by (Err e) stays;
     moments = moments_by (Err e) comes;
     quiet = quiet_by (Err e) comes finds (λ is. (stays is).0);

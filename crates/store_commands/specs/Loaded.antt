@@ -17,7 +17,7 @@ use Rattle.stored_book.specs.Standing.{KeepsOldStore, book_pages, RecoversTo}
 use Rattle.chart_service.specs.Moments.{Since}
 use Rattle.series_load.specs.Runs.{Run, AreFirst}
 use Rattle.series_load.specs.Sets.{IsNamed, IsAfterSome, Loads, OfRefusal}
-use Rattle.series_load.specs.Ends.{IsLoaded, IsAtBad, IsAtRefusal, IsBadLine, IsTaken, IsPast}
+use Rattle.series_load.specs.Ends.{IsLoaded, IsAtBad, IsAtRefusal, IsBadLine, IsRead, IsTaken, IsPast}
 use Rattle.run_ends.specs.Statuses.{block_of, refused_at}
 use Rattle.run_ends.specs.declared.ending.End.{End}
 use Rattle.run_ends.specs.declared.ending.End.TheVariants.{Done, NoMemory, ReadFault, SendFault, DiskFault, DamagedPage}
@@ -132,6 +132,21 @@ abbrev pub IsAtLine : List ℕ → ℕ → View → List ℕ → End → Type 0
 IsAtLine name count disk input (BadInput at) = IsBadByRecord count disk name input at
 IsAtLine name count disk input end = ⊤
 
+-- Whatever the disk holds: all lines of the input are rows, by the scale that the record of the name says, and so many of them
+-- have a reading.
+pub record IsReadByRecord (count : ℕ) (disk : View) (name : List ℕ) (input : List ℕ) (readings : ℕ) : Type 0 where
+  pub scale : ℕ
+  pub tells : TellsScale count disk name scale
+  pub read : IsRead scale input readings
+
+-- where a load was done that number was sent, and where a send failed a part of it
+abbrev pub TellsReadings : List ℕ → ℕ → View → List ℕ → Option (List ℕ) → Option (List ℕ) → End → Type 0
+TellsReadings name count disk input before now Done =
+    (readings : ℕ) × IsReadByRecord count disk name input readings × (now ≡ sent_after (loaded_text readings) before)
+TellsReadings name count disk input before now SendFault =
+    (readings : ℕ) × IsReadByRecord count disk name input readings × SendsPartOf (loaded_text readings) before now
+TellsReadings name count disk input before now end = ⊤
+
 -- why a load ended, and what was done and sent
 abbrev pub IsLoadEnd : End → List ℕ → View → View → Traffic → Type 0
 IsLoadEnd Done name old new t =
@@ -163,6 +178,7 @@ pub record LoadEnds (name : List ℕ) (old new : View) (t : Traffic) (end : End)
   pub kept : LeavesUnnamed name (page_count old.size) old new
   pub costs : IfSome t.left (LoadsFew name (page_count old.size) old new)
   pub line : IfSome t.left (λ input. IsAtLine name (page_count old.size) old input end)
+  pub read : IfSome t.left (λ input. TellsReadings name (page_count old.size) old input t.sent t.sent_now end)
   -- reads give what a crash may leave, where they did
   pub honest : Honest old → Honest new
   pub goes_on : GoesOn old new

@@ -19,7 +19,7 @@ use Rattle.store_commands.specs.Traffic.{IsLong, Traffic, WasRead}
 use Rattle.store_commands.specs.Damaged.{IsDamagedLater}
 use Rattle.store_commands.specs.Books.{OfBook, Never, IsOnBook, HoldsPages}
 use Rattle.store_commands.specs.Lacking.{LacksRecord}
-use Rattle.store_commands.specs.Loaded.{IsAtLine, LoadsTaken, LoadsToBad, LoadsWithin, OfSeries, RefusesRun, Unnamed}
+use Rattle.store_commands.specs.Loaded.{IsAtLine, IsReadByRecord, LoadsTaken, LoadsToBad, LoadsWithin, OfSeries, RefusesRun, Unnamed}
 
 -- what was done of an input that wasn't loaded to its end
 abbrev pub StopsAt : List ℕ → ℕ → View → View → List ℕ → Option (List ℕ) → End → Type 0
@@ -49,6 +49,7 @@ pub record Stores (name : List ℕ) (count : ℕ) (old new : View) (t : Traffic)
   pub some : answer ≢ Err DiskFault → OfSeries count old name (λ total book series. HoldsPages count total (IsAfterSome total name book series t.left) new)
   pub stops : IfErr answer (λ end. IfSome t.left (λ input. StopsAt name count old new input t.left_now end))
   pub line : IfErr answer (λ end. IfSome t.left (λ input. IsAtLine name count old input end))
+  pub read : IfOk answer (λ readings. IfSome t.left (λ input. IsReadByRecord count old name input readings))
   pub cause : IfErr answer (λ end. IsEndCause end count old new t.reads t.reads_now)
   pub named : OfSeries count old name (λ total book series. answer ≢ Err UnknownSeries)
   pub unnamed : Unnamed count old name (λ total book. answer ≡ Err UnknownSeries)

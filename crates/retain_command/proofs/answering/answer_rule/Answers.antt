@@ -7,8 +7,9 @@ use Rattle.retain_command.specs.Answers.{swept_text}
 use Rattle.chart_world.specs.Faults.{fault_in}
 use Rattle.chart_world.specs.FaultLaws.{counts_then}
 use Rattle.run_ends.specs.Faults.{end_fault}
+use Rattle.retain_command.specs.Shown.{IsBadOn}
 use Rattle.retain_command.proofs.Counting.{sweep_counts}
-use Rattle.retain_command.proofs.DoingLemmas.{costs_of, rule_answered, rule_stopped, says_some, sweep_lacks, swept_there, unsent_lacks}
+use Rattle.retain_command.proofs.DoingLemmas.{costs_of, rule_answered, rule_stopped, says_so, sweep_fails, swept_there, unsent_fails}
 use Rattle.retain_command.proofs.WorkLemmas.{sweep_short}
 use Rattle.retain_command.proofs.answering.answer_rule.Goals as goal
 
@@ -58,14 +59,27 @@ returns-in-Ok-clause-says g c =
     let pages = shown.pages c.args.store.now in
     let mid = shown.pages c.sweep.new.store in
     let pages' = shown.pages c.send_swept.new.store in
-    says_some c.send_swept.result (swept_text c.in-Ok.swept.clears c.in-Ok.swept.used) (sent pages) (sent mid) (sent pages')
+    says_so c.send_swept.result c.in-Ok.swept.clears c.in-Ok.swept.used (sent pages) (sent mid) (sent pages')
     (sym (w.beside_sent mid) ∙ ap (λ (b : Beside). b.sent) c.in-Ok.ensures.carries.beside ∙ w.beside_sent pages) c.send_swept.ensures.whole
 
-pub returns-in-Ok-clause-lacking : goal.returns-in-Ok-clause-lacking
-returns-in-Ok-clause-lacking g c = unsent_lacks c.send_swept.result c.args.rule.now c.args.at (shown.catalog c.send_swept.new.store) _ _ _ c.send_swept.ensures.stops
+pub returns-in-Ok-clause-fails : goal.returns-in-Ok-clause-fails
+returns-in-Ok-clause-fails g c =
+    let sent = g.P.Streams.sent in
+    let w = g.met.P.PageWorld in
+    let pages = shown.pages c.args.store.now in
+    let mid = shown.pages c.sweep.new.store in
+    unsent_fails c.send_swept.result c.args.rule.now c.args.at (IsBadOn c.send_swept.new.store) (shown.catalog c.send_swept.new.store) c.in-Ok.swept.clears c.in-Ok.swept.used
+    (sent pages) (sent mid) (sent (shown.pages c.send_swept.new.store))
+    (sym (w.beside_sent mid) ∙ ap (λ (b : Beside). b.sent) c.in-Ok.ensures.carries.beside ∙ w.beside_sent pages) c.send_swept.ensures.stops
 
-pub returns-in-Err-clause-lacking : goal.returns-in-Err-clause-lacking
-returns-in-Err-clause-lacking g c =
+pub returns-in-Err-clause-fails : goal.returns-in-Err-clause-fails
+returns-in-Err-clause-fails g c =
+    let sent = g.P.Streams.sent in
+    let w = g.met.P.PageWorld in
+    let pages = shown.pages c.args.store.now in
+    let mid = shown.pages c.sweep.new.store in
     let e = c.in-Err.ensures in
-    sweep_lacks c.in-Err.error c.args.rule.now c.args.at (shown.catalog c.sweep.new.store) c.end_at.result c.end_at.ensures
+    sweep_fails c.in-Err.error c.args.rule.now c.args.at (IsBadOn c.sweep.new.store) (shown.catalog c.sweep.new.store) (sent pages) (sent mid) c.end_at.result c.end_at.ensures
     (λ is. let P : List StoredSeries → Type 0 = λ items. LacksNamed items c.args.rule.now in subst P (sym (ap (λ s. shown.catalog s) (e.untouched is))) (e.lacks is))
+    e.blames
+    (sym (w.beside_sent mid) ∙ ap (λ (b : Beside). b.sent) e.carries.beside ∙ w.beside_sent pages)

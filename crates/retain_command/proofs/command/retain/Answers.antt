@@ -52,7 +52,7 @@ returns-in-Ok-clause-ends g c =
     (λ honest. no_record (pages_of end_pages.count (view new).image) (shown.numbers after) (shown.catalog after) name after.count (after.told sound honest) lacks) in
     let all = retained_by pages.count end_pages.count pages.sound end_pages.sound (view first) (view old) (view new) (shown.total before) (shown.total after) (traffic left sent reads sends old new) made.goes
     (rests_new pages.count (view old) (shown.numbers before) (pages.at_rest opened.sound) (before.space.spelled opened.sound)) (omega (arith, before.space.rules.total_high)) opened.count opened.opens opened.quiet
-    end (λ done. was_read (left old) (left new) (made.within done) (made.whole done)) made.long made.cause made.ends made.crash closed made.costs (shown.catalog after) made.faulty lacking in
+    end (λ done. was_read (left old) (left new) (made.within done) (made.whole done)) made.long made.cause made.ends made.crash closed made.costs (shown.catalog after) made.faulty lacking made.answered in
     let same = traffic_over view left sent reads sends w.beside_left w.beside_sent w.beside_read_faults w.beside_send_faults first old new opened.opens.beside_is in
     let T : Traffic → Type 0 = λ t. RetainEnds (view first) (view new) t end in
     let D : g.row.W.Denot → Type 0 = λ d. RetainEnds (view first) (view d) (traffic left sent reads sends first d) end in

@@ -9,9 +9,9 @@ use Rattle.run_ends.specs.declared.ending.End.TheVariants.{Done, DiskFault, Inpu
 use Rattle.series_store.specs.Shown as shown
 use Rattle.store_commands.specs.Sides.{side_of}
 use Rattle.retain_command.specs.Doing.{IsCause}
-use Rattle.retain_command.specs.Shown.{EndsOn, IsAtFault}
+use Rattle.retain_command.specs.Shown.{EndsOn, IsAnsweredSo, IsAtFault, IsBadOn}
 use Rattle.retain_command.specs.Working.{IsHeld}
-use Rattle.retain_command.proofs.RunLemmas.{costs_begun, costs_told, counted_by, ends_of, ends_told, faults_told, held_by, lasts_none, lasts_told, never_known, no_faults, none_costs, none_swept, unknown}
+use Rattle.retain_command.proofs.RunLemmas.{answers_told, costs_begun, costs_told, counted_by, ends_of, ends_told, faults_told, held_by, lasts_none, lasts_told, never_known, no_answers, no_faults, none_costs, none_swept, unknown}
 use Rattle.retain_command.proofs.sweeping.sweep_lines.Goals as goal
 
 pub returns-in_default-clause-ends : goal.returns-in_default-clause-ends
@@ -43,7 +43,7 @@ returns-clause-ends g c = λ total book told stands.
     let E : End → Type 0 = λ end. EndsOn g.P.Streams total book old new end in
     subst E (sym c.run_end.ensures)
     (ends_of total book (shown.view old) (shown.view new) (left pages) (left (shown.pages new)) (sent pages) (sent (shown.pages new)) (run_end c.run_lines-answer.result)
-    (ends_told total book (counted_by (shown.view old)) (shown.IsTold new) (shown.view new) (shown.catalog new) (left pages) (left (shown.pages new)) (sent pages) (sent (shown.pages new))
+    (ends_told total book (counted_by (shown.view old)) (shown.IsTold new) (shown.view new) (IsBadOn new) (shown.catalog new) (left pages) (left (shown.pages new)) (sent pages) (sent (shown.pages new))
     (g.P.Streams.pieces pages) (g.P.Streams.pieces (shown.pages new)) c.run_lines-answer.result e.within
     (e.done held is) (e.stops held is)))
 
@@ -58,7 +58,7 @@ returns-clause-costs g c = λ total book told stands.
     let held = held_by total book (counted_by (shown.view old)) in
     let is : held.known ≡ true → IsHeld (shown.IsTold old) (shown.view old) held = λ known. (told, stands, costs_begun (shown.view old)) in
     costs_told total book (shown.view old) (shown.view new) (left pages) (left (shown.pages new)) (sent pages) (sent (shown.pages new)) (run_end c.run_lines-answer.result)
-    (ends_told total book (counted_by (shown.view old)) (shown.IsTold new) (shown.view new) (shown.catalog new) (left pages) (left (shown.pages new)) (sent pages) (sent (shown.pages new))
+    (ends_told total book (counted_by (shown.view old)) (shown.IsTold new) (shown.view new) (IsBadOn new) (shown.catalog new) (left pages) (left (shown.pages new)) (sent pages) (sent (shown.pages new))
     (g.P.Streams.pieces pages) (g.P.Streams.pieces (shown.pages new)) c.run_lines-answer.result e.within
     (e.done held is) (e.stops held is))
 
@@ -71,9 +71,26 @@ returns-clause-faulty g c =
     let new = c.run_lines-answer.new.from in
     let F : End → Type 0 = λ end. IsAtFault g.P.Streams old new end in
     subst F (sym c.run_end.ensures)
-    (faults_told (shown.IsTold new) (shown.view new) (shown.catalog new) (left pages) (left (shown.pages new)) (sent pages) (sent (shown.pages new))
+    (faults_told (shown.IsTold new) (shown.view new) (IsBadOn new) (shown.catalog new) (left pages) (left (shown.pages new)) (sent pages) (sent (shown.pages new))
     (g.P.Streams.pieces pages) (g.P.Streams.pieces (shown.pages new)) c.run_lines-answer.result
     (c.run_lines-answer.ensures.stops unknown (λ known. never_known known)))
+
+pub returns-in_default-clause-answered : goal.returns-in_default-clause-answered
+returns-in_default-clause-answered g c = no_answers (g.P.Streams.sent (shown.pages c.args.store.now)) (g.P.Streams.left (shown.pages c.args.store.now))
+
+pub returns-clause-answered : goal.returns-clause-answered
+returns-clause-answered g c =
+    let left = g.P.Streams.left in
+    let sent = g.P.Streams.sent in
+    let old = c.args.store.now in
+    let pages = shown.pages old in
+    let new = c.run_lines-answer.new.from in
+    let e = c.run_lines-answer.ensures in
+    let F : End → Type 0 = λ end. IsAnsweredSo g.P.Streams old new end in
+    subst F (sym c.run_end.ensures)
+    (answers_told (shown.IsTold new) (shown.view new) (IsBadOn new) (shown.catalog new) (left pages) (left (shown.pages new)) (sent pages) (sent (shown.pages new))
+    (g.P.Streams.pieces pages) (g.P.Streams.pieces (shown.pages new)) c.run_lines-answer.result
+    (e.done unknown (λ known. never_known known)) (e.stops unknown (λ known. never_known known)))
 
 pub returns-clause-crash : goal.returns-clause-crash
 returns-clause-crash g c = λ total book told stands.

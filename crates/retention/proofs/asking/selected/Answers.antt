@@ -11,6 +11,7 @@ use Rattle.series_store.specs.Asking.{IsTreeAt}
 use Rattle.stored_book.specs.Standing.{StandsForBook}
 use Rattle.tree_walk.specs.declared.tree.Tree.{Tree}
 use Rattle.chart_world.specs.Faults.{faults_of}
+use Rattle.retention.proofs.DamageLemmas.{bad_there}
 use Rattle.retention.proofs.asking.selected.Goals as goal
 
 -- a catalog that stays has the same series
@@ -46,3 +47,9 @@ returns-clause-whole g c = λ total book series told stands at page is.
 
 pub returns-clause-faults : goal.returns-clause-faults
 returns-clause-faults g c = ap (λ (x : Space _ _). faults_of (spaces.view x)) c.select.ensures.space
+
+pub returns-clause-bad_at : goal.returns-clause-bad_at
+returns-clause-bad_at g c = λ page is.
+    let new = c.select.new.self in
+    let S : Space _ _ → Type 0 = λ x. spaces.IsSound x in
+    bad_there new c.args.id page (subst S (sym c.select.ensures.space) c.requires.sound) (still_there c.select.ensures.catalog c.requires.there) (selects c.args.id c.select.ensures.catalog c.select.ensures.slots) is

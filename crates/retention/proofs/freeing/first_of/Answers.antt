@@ -4,6 +4,8 @@ use Rattle.chart_world.specs.FaultLaws.{counts_then}
 use Rattle.retention.specs.Faults.{sweep_fault}
 use Rattle.retention.proofs.LookLemmas.{ask_outside, looks_then}
 use Rattle.retention.proofs.NextLemmas.{kept_none, kept_some, none_first, some_first}
+use Rattle.retention.specs.Damage.{IsBadAt}
+use Rattle.retention.proofs.DamageLemmas.{ask_blames, bad_on}
 use Rattle.retention.proofs.freeing.first_of.Goals as goal
 
 pub returns-in-Err-clause-outside : goal.returns-in-Err-clause-outside
@@ -40,3 +42,15 @@ returns-in_default-clause-looks g c = looks_then _ _ _ _ _ _ _ _ _ _ _ _ _ _ _ c
 
 pub returns-clause-looks : goal.returns-clause-looks
 returns-clause-looks g c = looks_then _ _ _ _ _ _ _ _ _ _ _ _ _ _ _ c.selected-axis.ensures.looks c.in-Ok.ensures.looks
+
+pub returns-in-Err-clause-blames : goal.returns-in-Err-clause-blames
+returns-in-Err-clause-blames g c =
+    let mid = c.selected-axis.new.store in
+    let new = c.first_stored.new.store in
+    let looks = c.in-Err.ensures.looks in
+    ask_blames c.in-Err.error (shown.nodes mid) (shown.nodes new)
+    (λ page. shown.IsTold new → IsBadAt c.args.id (shown.view new).size (shown.image new) page)
+    (λ page bad told.
+    let was = looks.was_told told in
+    bad_on (IsBadAt c.args.id) (shown.view mid) (shown.view new) page (looks.image was) looks.size (c.selected-axis.ensures.bad_at page bad was))
+    c.in-Err.ensures.cause

@@ -8,6 +8,10 @@ use Rattle.retention.proofs.Counting.{no_memory_counts}
 use Rattle.retention.proofs.FreeLemmas.{free_enough, free_none}
 use Rattle.retention.proofs.NextLemmas.{free_result, le_false, le_true, none_kept, some_kept}
 use Rattle.retention.proofs.OldestLemmas.{oldest_is}
+use Rattle.std.specs.Prelude.{⊤}
+use Rattle.retention.specs.Damage.{Asks, IsBadForLook}
+use Rattle.retention.specs.declared.rule.Rule.TheVariants.{Free}
+use Rattle.retention.proofs.DamageLemmas.{bad_free, blames_by}
 use Rattle.retention.proofs.freeing.next_free.Goals as goal
 
 pub returns-then-pages-from-clause-next : goal.returns-then-pages-from-clause-next
@@ -34,3 +38,10 @@ returns-clause-next g c = λ total book told stands.
 
 pub returns-clause-faults : goal.returns-clause-faults
 returns-clause-faults g c = no_memory_counts c.clear_page.result (shown.view c.args.store.now) (shown.view c.oldest.new.store) c.clear_page.ensures.err c.in-Ok.ensures.faults
+
+pub returns-in-Err-clause-blames : goal.returns-in-Err-clause-blames
+returns-in-Err-clause-blames g c =
+    let new = c.oldest.new.store in
+    blames_by c.in-Err.error (λ page. shown.IsTold new → IsBadForLook (λ name. ⊤) (shown.view new).size (shown.image new) page)
+    (λ page. shown.IsTold new → IsBadForLook (Asks (Free c.args.pages)) (shown.view new).size (shown.image new) page)
+    (λ page bad told. bad_free c.args.pages (shown.view new).size page (shown.image new) (bad told)) c.in-Err.ensures.blames

@@ -10,6 +10,9 @@ use Rattle.retention.specs.Faults.{sweep_fault}
 use Rattle.series_store.proofs.AskLemmas.{there}
 use Rattle.retention.proofs.LookLemmas.{looks_none, looks_then}
 use Rattle.retention.proofs.NextLemmas.{kept_all, kept_more, kept_zero}
+use Rattle.std.specs.Prelude.{⊤}
+use Rattle.retention.specs.Damage.{IsBadAt, IsBadForLook}
+use Rattle.retention.proofs.DamageLemmas.{bad_any, blames_by}
 use Rattle.retention.proofs.freeing.oldest.Goals as goal
 
 pub loop-id-init : goal.loop-id-init
@@ -58,3 +61,10 @@ returns-in-Err-clause-reads g c = omega (arith, c.loop-id.invariant.reads, c.in-
 
 pub returns-clause-reads : goal.returns-clause-reads
 returns-clause-reads g c = omega (arith, c.loop-id.invariant.reads, c.loop-id.auto.id-end, c.len-count.ensures.few)
+
+pub returns-in-Err-clause-blames : goal.returns-in-Err-clause-blames
+returns-in-Err-clause-blames g c =
+    let new = c.first_of.new.store in
+    blames_by c.in-Err.error (λ page. shown.IsTold new → IsBadAt c.loop-id.id (shown.view new).size (shown.image new) page)
+    (λ page. shown.IsTold new → IsBadForLook (λ name. ⊤) (shown.view new).size (shown.image new) page)
+    (λ page bad told. bad_any c.loop-id.id (shown.view new).size page (shown.image new) (bad told)) c.in-Err.ensures.blames

@@ -10,6 +10,9 @@ use Rattle.retention.proofs.LookLemmas.{carries_looks, carries_then, commits_loo
 use Rattle.chart_world.specs.FaultLaws.{counts_then, disk_stays}
 use Rattle.retention.specs.Faults.{sweep_fault}
 use Rattle.retention.proofs.SweepLemmas.{err_ok, looks_sound, next_none, next_some, ok_apart, step_done, step_fails, step_none, step_stops}
+use Rattle.retention.specs.Damage.{Asks, IsBadForLook, IsBadForSweep}
+use Rattle.stored_book.specs.Damage.{IsBadForEdit}
+use Rattle.retention.proofs.DamageLemmas.{blames_by, clear_bad, look_bad}
 use Rattle.retention.proofs.sweeping.clear_next.Goals as goal
 
 -- commits
@@ -119,3 +122,17 @@ returns-clause-cause g c =
 
 pub returns-clause-sound_for : goal.returns-clause-sound_for
 returns-clause-sound_for g c = c.in-Err-do_clear.ensures.sound_for
+
+pub returns-in-Err-clause-blames : goal.returns-in-Err-clause-blames
+returns-in-Err-clause-blames g c =
+    let new = c.next_clear.new.store in
+    blames_by c.in-Err.error (λ page. shown.IsTold new → IsBadForLook (Asks c.args.rule.now) (shown.view new).size (shown.image new) page)
+    (λ page. shown.IsTold new → IsBadForSweep c.args.rule.now (shown.view new).size (shown.image new) page)
+    (λ page bad told. look_bad c.args.rule.now (shown.view new).size page (shown.image new) (bad told)) c.in-Err.ensures.blames
+
+pub returns-clause-blames : goal.returns-clause-blames
+returns-clause-blames g c =
+    let new = c.do_clear.new.store in
+    blames_by c.in-Err-do_clear.error (λ page. shown.IsTold new → IsBadForEdit (shown.view new).size (shown.image new) page)
+    (λ page. shown.IsTold new → IsBadForSweep c.args.rule.now (shown.view new).size (shown.image new) page)
+    (λ page bad told. clear_bad c.args.rule.now (shown.view new).size page (shown.image new) (bad told)) c.in-Err-do_clear.ensures.blames

@@ -4,6 +4,8 @@ use Rattle.chart_world.specs.FaultLaws.{counts_then, disk_stays}
 use Rattle.retention.specs.Faults.{sweep_fault}
 use Rattle.retention.proofs.LookLemmas.{carries_looks, carries_none, carries_then, commits_looks, commits_more, commits_then, read_later, read_sweeps}
 use Rattle.retention.proofs.SweepLemmas.{going_commits, going_few, going_more, going_none, is_known, later_moments, look_commits, look_moments, look_stops, looks_sound, swept_end, swept_last, swept_stops}
+use Rattle.retention.specs.Damage.{Asks, IsBadForLook, IsBadForSweep}
+use Rattle.retention.proofs.DamageLemmas.{blames_by, look_bad}
 use Rattle.retention.proofs.sweeping.clear_some.Goals as goal
 
 -- ---- a clear failed
@@ -265,3 +267,15 @@ pub returns-clause-few_reads : goal.returns-clause-few_reads
 returns-clause-few_reads g c = λ total book told stands.
     let was = c.clearing.invariant in
     omega (arith, was.reads, c.in-Ok-next_clear.ensures.reads, going_few total book c.args.rule.now c.args.most c.clearing.clears (shown.view c.args.store.now) (shown.view c.clearing.store) was.few (was.going total book told stands))
+
+-- ---- the page that is called damaged
+
+pub returns-in-Err-clause-blames : goal.returns-in-Err-clause-blames
+returns-in-Err-clause-blames g c = c.in-Err.ensures.blames
+
+pub returns-in-Err-next_clear-clause-blames : goal.returns-in-Err-next_clear-clause-blames
+returns-in-Err-next_clear-clause-blames g c =
+    let new = c.next_clear.new.store in
+    blames_by c.in-Err-next_clear.error (λ page. shown.IsTold new → IsBadForLook (Asks c.args.rule.now) (shown.view new).size (shown.image new) page)
+    (λ page. shown.IsTold new → IsBadForSweep c.args.rule.now (shown.view new).size (shown.image new) page)
+    (λ page bad told. look_bad c.args.rule.now (shown.view new).size page (shown.image new) (bad told)) c.in-Err-next_clear.ensures.blames

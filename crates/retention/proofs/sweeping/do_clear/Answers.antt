@@ -7,6 +7,9 @@ use Rattle.chart_world.specs.FaultLaws.{counts_no_disk}
 use Rattle.retention.specs.Faults.{sweep_fault}
 use Rattle.retention.proofs.Counting.{clear_counts}
 use Rattle.retention.proofs.SweepLemmas.{clear_cause, clear_does, clear_fails, clear_sound}
+use Rattle.retention.specs.Damage.{BlamesSo}
+use Rattle.stored_book.specs.Damage.{IsBadForEdit}
+use Rattle.retention.proofs.DamageLemmas.{edit_blames}
 use Rattle.retention.proofs.sweeping.do_clear.Goals as goal
 
 pub returns-in-Ok-clause-done : goal.returns-in-Ok-clause-done
@@ -46,3 +49,11 @@ returns-in-Ok-clause-commits g c = record { syncs = omega (arith, c.edit.ensures
 
 pub returns-in-Err-clause-commits : goal.returns-in-Err-clause-commits
 returns-in-Err-clause-commits g c = record { syncs = omega (arith, c.edit.ensures.moves.syncs.high); writes = omega (arith, c.edit.ensures.moves.writes.high) }
+
+pub returns-in-Err-clause-blames : goal.returns-in-Err-clause-blames
+returns-in-Err-clause-blames g c =
+    let store = c.args.store.now in
+    let new = c.edit.new.self in
+    let P : SweepError → Type 0 = λ e. BlamesSo IsBadForEdit e new in
+    subst P (sym c.clear_error.ensures) (edit_blames c.in-Err.cause (shown.IsTold store) (shown.IsTold new) (shown.numbers store) (shown.view store) (shown.view new) c.edit.ensures.moves.was_told c.edit.ensures.moves.size
+    (λ t. record { spelled = store.space.spelled c.requires.sound t; rules = store.space.rules }) c.in-Err.ensures.unchanged c.in-Err.ensures.cause)

@@ -1,6 +1,8 @@
 use Rattle.std.proofs.Common.{IfOk, sym, subst}
 use Rattle.retention.specs.Sweeping.{IsNextOrNone}
 use Rattle.retention.specs.declared.rule.Rule.{Rule}
+use Rattle.std.specs.Prelude.{IfErr}
+use Rattle.retention.specs.Damage.{Asks, BlamesSo, IsBadForLook}
 use Rattle.retention.proofs.sweeping.next_clear.Goals as goal
 
 pub returns-in-Before-clause-next : goal.returns-in-Before-clause-next
@@ -58,3 +60,15 @@ returns-in-Free-clause-faults g c = c.next_free.ensures.faults
 
 pub returns-in-Free-clause-looks : goal.returns-in-Free-clause-looks
 returns-in-Free-clause-looks g c = c.next_free.ensures.looks
+
+pub returns-in-Before-clause-blames : goal.returns-in-Before-clause-blames
+returns-in-Before-clause-blames g c = c.next_named.ensures.blames
+
+pub returns-in-Last-clause-blames : goal.returns-in-Last-clause-blames
+returns-in-Last-clause-blames g c = c.next_named-in-Last.ensures.blames
+
+pub returns-in-Free-clause-blames : goal.returns-in-Free-clause-blames
+returns-in-Free-clause-blames g c =
+    let new = c.next_free.new.store in
+    let R : Rule → Type 0 = λ r. IfErr c.next_free.result (λ e. BlamesSo (IsBadForLook (Asks r)) e new) in
+    subst R (sym c.in-Free.is) c.next_free.ensures.blames

@@ -75,3 +75,6 @@ returns-in-Ok-clause-few_reads g c = λ total book told stands. whole_reads tota
 
 pub returns-in-Err-clause-few_reads : goal.returns-in-Err-clause-few_reads
 returns-in-Err-clause-few_reads g c = λ total book told stands. whole_reads total book c.args.rule.now (shown.view c.args.store.now) (shown.view c.sweep_some.new.store) (c.in-Err.ensures.few_reads total book told stands)
+
+pub returns-in-Err-clause-blames : goal.returns-in-Err-clause-blames
+returns-in-Err-clause-blames g c = c.in-Err.ensures.blames

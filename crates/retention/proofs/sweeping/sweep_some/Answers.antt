@@ -76,3 +76,6 @@ returns-then-names_none-clause-few_reads g c = λ total book told stands. omega 
 
 pub returns-clause-few_reads : goal.returns-clause-few_reads
 returns-clause-few_reads g c = c.clear_some.ensures.few_reads
+
+pub returns-clause-blames : goal.returns-clause-blames
+returns-clause-blames g c = c.clear_some.ensures.blames

@@ -2,7 +2,7 @@ use Rattle.std.proofs.Common.{◌∙◌, ℕ, List, refl, subst}
 use Rattle.series_load.specs.Ends.{Outcome}
 use Rattle.series_load.proofs.Counting.{no_memory_on}
 use Rattle.series_load.specs.SideLaws.{goes_nowhere}
-use Rattle.series_load.proofs.Knowing.{at_bad_of, named_at, no_line, none_so, no_memory_line, not_named, found_so, no_memory_cause, no_memory_known, no_memory_short, no_memory_sound, no_value, some_at_first, unstarted}
+use Rattle.series_load.proofs.Knowing.{at_bad_of, named_at, no_line, none_so, no_memory_line, not_named, found_so, no_memory_cause, no_memory_known, no_count, no_memory_short, no_memory_sound, no_value, read_of, some_at_first, unstarted}
 use Rattle.series_load.specs.Shown.{side_of}
 use Rattle.series_store.specs.Shown as shown
 use Rattle.series_load.proofs.loading.load.Goals as goal
@@ -177,3 +177,14 @@ returns-clause-line g c =
 
 pub info-info-requires : goal.info-info-requires
 info-info-requires g c = c.in-Some.ensures.there
+
+pub returns-in_err-loader-clause-read : goal.returns-in_err-loader-clause-read
+returns-in_err-loader-clause-read g c = no_count c.from_residual.result c.in_err-loader.field-0.0 _ c.from_residual.ensures.1
+
+pub returns-in_err-lines-clause-read : goal.returns-in_err-lines-clause-read
+returns-in_err-lines-clause-read g c = no_count c.from_residual-in_err-lines.result c.in_err-lines.field-0.0 _ c.from_residual-in_err-lines.ensures.1
+
+pub returns-clause-read : goal.returns-clause-read
+returns-clause-read g c =
+    read_of (shown.catalog c.args.store.now) c.args.name.now (g.P.Streams.left (shown.pages c.args.store.now)) c.in-Some.found.id c.info-info.result c.in_ok-loader.loader.scale c.load_lines.result
+    c.in-Some.ensures.there c.in-Some.ensures.named c.info-info.ensures.stored c.in_ok-loader.ensures.scale c.load_lines.ensures.read

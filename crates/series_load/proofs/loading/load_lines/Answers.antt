@@ -1,4 +1,4 @@
-use Rattle.std.proofs.Common.{◌≡◌, ◌≢◌, ◌∙◌, Bool, Err, IfSome, refl, subst, sym, arith}
+use Rattle.std.proofs.Common.{◌≡◌, ◌≢◌, ◌∙◌, Err, IfSome, refl, subst, sym, arith}
 use Rattle.block_disk.specs.View.{sent_now}
 use Rattle.line_runs.specs.EndLaws.{input_long}
 use Rattle.line_runs.specs.Runs.{AreAll}
@@ -12,7 +12,7 @@ use Rattle.series_store.specs.Shown as shown
 use Rattle.series_load.proofs.BookedLemmas.{runs_booked, since_booked, stops_booked}
 use Rattle.series_load.proofs.Knowing.{err_is}
 use Rattle.series_load.proofs.Reached.{finished_so, start, start_stands, stopped_so}
-use Rattle.series_load.proofs.ScanLemmas.{line_told, unread}
+use Rattle.series_load.proofs.ScanLemmas.{line_told, read_told, unread}
 use Rattle.series_load.proofs.SetLemmas.{edits_none}
 use Rattle.series_load.proofs.loading.load_lines.Goals as goal
 
@@ -70,13 +70,25 @@ returns-in-Err-clause-line g c =
     let new = c.run_lines.new.from in
     let loader = c.args.loader.now in
     let begin = scan_of loader in
-    let F : Bool → Type 0 = λ b. unread loader.scale ≡ record { scale = loader.scale; first = b } in
-    let same : unread loader.scale ≡ begin = subst F (sym c.requires.first) refl in
+    let same : unread loader.scale ≡ begin = (λ i. record { scale = loader.scale; first = sym c.requires.first i; points = sym c.requires.points i }) in
     let E : End → Type 0 = λ e. IfSome (left (shown.pages old)) (λ input. EndsAtBad loader.scale input e) in
     subst E (sym c.stop_end.ensures)
     (line_told loader.scale (shown.view new) (StandsFor (shown.IsTold new) (shown.view new) c.run_lines.new.work) (left (shown.pages old)) (left (shown.pages new))
     (sent (shown.pages old)) (sent (shown.pages new)) (pieces (shown.pages old)) (pieces (shown.pages new)) c.in-Err.stop
     (c.in-Err.ensures.stops (Scanned (unread loader.scale)) same))
+
+pub returns-in-Ok-clause-read : goal.returns-in-Ok-clause-read
+returns-in-Ok-clause-read g c =
+    let left = g.P.Streams.left in
+    let sent = g.P.Streams.sent in
+    let pieces = g.P.Streams.pieces in
+    let old = c.args.store.now in
+    let new = c.run_lines.new.from in
+    let loader = c.args.loader.now in
+    let same : unread loader.scale ≡ scan_of loader = (λ i. record { scale = loader.scale; first = sym c.requires.first i; points = sym c.requires.points i }) in
+    read_told loader.scale (shown.IsTold new) (shown.view new) c.run_lines.new.work (left (shown.pages old))
+    (sent (shown.pages old)) (sent (shown.pages new)) (pieces (shown.pages old)) (pieces (shown.pages new))
+    (c.in-Ok.ensures.done (Scanned (unread loader.scale)) same)
 
 pub returns-in-Err-clause-long : goal.returns-in-Err-clause-long
 returns-in-Err-clause-long g c = λ is.

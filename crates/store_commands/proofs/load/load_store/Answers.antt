@@ -11,7 +11,7 @@ use Rattle.store_commands.specs.Loaded.{OfSeries}
 use Rattle.store_commands.specs.Storing.{Stores}
 use Rattle.store_commands.specs.Traffic.{traffic}
 use Rattle.store_commands.specs.TrafficLaws.{read_on}
-use Rattle.store_commands.proofs.Damages.{lacks_record, line_by}
+use Rattle.store_commands.proofs.Damages.{lacks_record, line_by, read_by}
 use Rattle.store_commands.proofs.Held.{rests_new}
 use Rattle.store_commands.proofs.Stores.{store_disk}
 use Rattle.store_commands.proofs.LoadStored.{costs_by, sound_after, stores_by}
@@ -45,6 +45,8 @@ returns-clause-stores g c =
     (λ honest. no_record (pages_of pages.count (view disk).image) (shown.numbers before) (shown.catalog before) name before.count (before.told c.requires honest) (made.lacks is)))
     (line_by pages.count (view disk) (shown.numbers before) (shown.catalog before) name (rests_new pages.count (view disk) (shown.numbers before) (pages.at_rest c.requires) (before.space.spelled c.requires))
     (λ honest. record { spelled = before.space.spelled c.requires honest; rules = before.space.rules }) before.count (before.told c.requires) (left disk) answer made.line)
+    (read_by pages.count (view disk) (shown.numbers before) (shown.catalog before) name (rests_new pages.count (view disk) (shown.numbers before) (pages.at_rest c.requires) (before.space.spelled c.requires))
+    (λ honest. record { spelled = before.space.spelled c.requires honest; rules = before.space.rules }) before.count (before.told c.requires) (left disk) answer made.read)
     (read_on answer (left disk) (left new) made.within made.whole) made.long (omega (arith, before.space.rules.total_high, made.goes.size)) made.cause closed (λ is. let same = store_disk after before (made.untouched is) in (ap view same, ap left same)) made.goes.sent_is made.goes.sends made.goes.faults in
     let D : g.row.W.Denot → Type 0 = λ d. Stores name pages.count (view disk) (view d) (traffic left sent reads sends disk d) answer in
     subst D (sym c.disk_of.ensures.disk) all

@@ -1,6 +1,7 @@
 use Rattle.series_store.specs.Shown as shown
 use Rattle.store_commands.specs.Sides.{side_of}
 use Rattle.retain_command.specs.Doing.{IsCause}
+use Rattle.retain_command.specs.Shown.{IsBadOn}
 use Rattle.retain_command.proofs.WorkLemmas.{cause_short, work_done, work_stops}
 use Rattle.retain_command.proofs.rule_work.RuleWorkLineWorkStoreEnd.line.Goals as goal
 
@@ -21,8 +22,8 @@ returns-clause-stops g c = λ held stands.
     let new = c.answer_line.new.store in
     let e = c.answer_line.ensures in
     work_stops held c.args.line.now c.args.at (shown.view old) (shown.view new) (sent (shown.pages old)) (sent (shown.pages new))
-    (shown.IsTold old) c.answer_line.result (shown.catalog new) stands
-    (λ known. e.does held.total held.book (stands known).0 (stands known).1) e.faulty
+    (shown.IsTold old) c.answer_line.result (IsBadOn new) (shown.catalog new) stands
+    (λ known. e.does held.total held.book (stands known).0 (stands known).1) e.fails
 
 pub returns-clause-leaves : goal.returns-clause-leaves
 returns-clause-leaves g c = λ held stands known. (c.answer_line.ensures.does held.total held.book (stands known).0 (stands known).1).moments

@@ -61,7 +61,7 @@ returns-clause-does g c = λ total book waiting old told stands keeps.
 -- ---- whatever the pages are
 
 pub returns-then-is_empty-clause-reads : goal.returns-then-is_empty-clause-reads
-returns-then-is_empty-clause-reads g c = inl (empty_text c.is_empty.result c.args.line.now c.is_empty.ensures c.if-is_empty.true, refl)
+returns-then-is_empty-clause-reads g c = inl (empty_text c.is_empty.result c.args.line.now c.is_empty.ensures c.if-is_empty.true, refl, refl)
 
 pub returns-in_err-said-clause-blames : goal.returns-in_err-said-clause-blames
 returns-in_err-said-clause-blames g c =
@@ -87,6 +87,7 @@ returns-then-is_full-clause-reads g c = so_on_ok c.commit.result (inr (
     said = c.in_ok-said.said;
     good = not_bad c.is_bad.result c.in_ok-said.said c.is_bad.ensures c.if-is_bad.false;
     says_it = c.in_ok-said.ensures.said;
+    counted = c.commit.ensures.points ∙ c.take_said.ensures.counts;
   },
   c.commit.ensures.first ∙ c.take_said.ensures.first,
 ))
@@ -103,6 +104,7 @@ returns-clause-reads g c = inr (
     said = c.in_ok-said.said;
     good = not_bad c.is_bad.result c.in_ok-said.said c.is_bad.ensures c.if-is_bad.false;
     says_it = c.in_ok-said.ensures.said;
+    counted = c.take_said.ensures.counts;
   },
   c.take_said.ensures.first,
 )
