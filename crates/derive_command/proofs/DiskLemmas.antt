@@ -1,5 +1,5 @@
 -- How lines end over the store of a disk, in the words of the disk.
-use Rattle.std.proofs.Common.{◌≡◌, ◌≢◌, ◌∙◌, ℕ, ◌<◌, ◌≤◌, Bool, List, Option, Some, None, IfSome, refl, sym, subst, inl, inr, arith}
+use Rattle.std.proofs.Common.{◌≡◌, ◌≢◌, ◌∙◌, ℕ, ◌<◌, ◌≤◌, Bool, List, Option, Some, None, IfSome, refl, sym, subst, arith}
 use Rattle.block_disk.proofs.Passing.{passes_weaker}
 use Rattle.block_disk.specs.SentLaws.{sent_none}
 use Rattle.block_disk.specs.View.{Image, View, Honest, Now, Passes, sent_now}
@@ -20,8 +20,6 @@ use Rattle.run_ends.specs.declared.ending.End.{End}
 use Rattle.run_ends.specs.declared.ending.End.TheVariants.{Done, NoMemory, ReadFault, SendFault, DiskFault, DamagedPage}
 use Rattle.run_ends.specs.declared.ending.End.TheVariants.{BadInput, InputTooLong, RefusedLine}
 use Rattle.series_book.specs.declared.one_series.Series.{Series}
-use Rattle.series_catalog.specs.declared.stored_series.StoredSeries.{StoredSeries}
-use Rattle.series_store.specs.Asking.{LacksName}
 use Rattle.stored_book.proofs.CurrentLemmas.{recovers_new, spelled_current}
 use Rattle.series_pair.specs.Damage.{IsBadForChart}
 use Rattle.stored_book.specs.Standing.{StandsForBook, RecoversTo}
@@ -33,14 +31,16 @@ use Rattle.store_commands.proofs.WorldLemmas.{IsUnopened}
 use Rattle.store_commands.specs.Books.{LeavesSame, OfBook}
 use Rattle.store_commands.specs.Codes.{too_small, unopened}
 use Rattle.store_commands.specs.Damaged.{IsDamagedLater}
-use Rattle.store_commands.specs.Lacking.{LacksRecord}
 use Rattle.store_commands.specs.Sides.{Side}
 use Rattle.store_commands.specs.Status.{opening_end}
 use Rattle.store_commands.specs.Traffic.{IsLong, Traffic, WasRead}
 use Rattle.derive_command.specs.Derived.{DeriveEnds, IsDeriveCause}
 use Rattle.derive_command.specs.Doing.{Goes, IsCause}
-use Rattle.derive_command.specs.Lines.{EndsSo, Faults}
+use Rattle.derive_command.specs.Answers.{Answering, IsAnswer, by_book}
+use Rattle.derive_command.specs.Catalogs.{by_disk}
+use Rattle.derive_command.specs.Lines.{EndsAnyhow, EndsSo}
 use Rattle.derive_command.proofs.LineLemmas.{no_lines}
+use Rattle.derive_command.proofs.RecordLemmas.{SaysMore, ends_anyhow}
 
 -- a page that was called damaged is so of the disk, whose pages are of version 2
 later_way : (count count' : ℕ) (new : View) (page : ℕ) → count' ≡ count → page < count' → (Honest new → IsBadForChart count' (pages_of count' new.image) page) → IsDamagedLater IsBadForChart count new (block_of page)
@@ -90,40 +90,22 @@ module _ (count count' : ℕ) (sound sound' : Bool) (first old new : View) (tota
   cause_on (RefusedLine at refusal) whole long cause = tt
   cause_on end whole long cause = absurd (cause (λ is. cc))
 
-  sent_on : (left : Option (List ℕ)) (end : End) → ((total : ℕ) (book : List Series) → Honest old → StandsForBook (pages_of count old.image) total book → IfSome left (λ input. EndsSo book input t.left_now t.sent t.sent_now end))
-      → IfSome left (λ input. OfBook (page_count first.size) first (λ total book. EndsSo book input t.left_now t.sent t.sent_now end))
+  sent_on : (left : Option (List ℕ)) (end : End) → ((total : ℕ) (book : List Series) → Honest old → StandsForBook (pages_of count old.image) total book → IfSome left (λ input. EndsSo (by_book book) input t.left_now t.sent t.sent_now end))
+      → IfSome left (λ input. OfBook (page_count first.size) first (λ total book. EndsSo (by_book book) input t.left_now t.sent t.sent_now end))
   sent_on None end ends = tt
   sent_on (Some input) end ends = λ total book holds. let here = held_open total book holds in ends total book here.honest (stands_held count total book old rests here)
 
-  -- the line that stopped the run
-  fault_on : (catalog : List StoredSeries) → ((name : List ℕ) → LacksName catalog name → LacksRecord count' new name) → (input : List ℕ) (end : End) → Faults (LacksName catalog) input end → Faults (LacksRecord (page_count first.size) new) input end
-  fault_on catalog lacking input (BadInput at) is = is
-  fault_on catalog lacking input (RefusedLine at number) is = record {
-    front = is.front;
-    rest = is.rest;
-    begins = is.begins;
-    at_is = is.at_is;
-    line = is.line;
-    next = is.next;
-    request = is.request;
-    says_it = is.says_it;
-    lacks = λ same. elim (is.lacks same) [
-      | inl first ↦ inl (on_disk is.request.first first)
-      | inr second ↦ inr (on_disk is.request.second second)
-    ];
-  }
-    where
-      on_disk : (name : List ℕ) → LacksName catalog name → LacksRecord (page_count first.size) new name
-      on_disk name lacks = let C : ℕ → Type 0 = λ n. LacksRecord n new name in subst C (goes.size ∙ counted) (lacking name lacks)
-  fault_on catalog lacking input end is = tt
-
   pub derived_by : (end : End) → (end ≡ Done → WasRead t.left t.left_now) → (end ≡ InputTooLong → IsLong t.left)
       → (end ≢ Done → IsCause end (disk_side count sound old total t.reads t.sends) (disk_side count' sound' new total' t.reads_now t.sends_now))
-      → ((total : ℕ) (book : List Series) → Honest old → StandsForBook (pages_of count old.image) total book → IfSome t.left (λ input. EndsSo book input t.left_now t.sent t.sent_now end))
-      → (catalog : List StoredSeries) → ((name : List ℕ) → LacksName catalog name → LacksRecord count' new name) → IfSome t.left (λ input. Faults (LacksName catalog) input end)
+      → ((total : ℕ) (book : List Series) → Honest old → StandsForBook (pages_of count old.image) total book → IfSome t.left (λ input. EndsSo (by_book book) input t.left_now t.sent t.sent_now end))
+      → (by : Answering) → (by_all : SaysMore by (by_disk count' new)) → IfSome t.left (λ input. EndsSo by input t.left_now t.sent t.sent_now end)
       → DeriveEnds first new t end
-  derived_by end whole long cause ends catalog lacking faults = record {
-    faulty = told_so (λ input. Faults (LacksName catalog) input end) (λ input. Faults (LacksRecord (page_count first.size) new) input end) t.left (λ input is. fault_on catalog lacking input end is) faults;
+  derived_by end whole long cause ends by more lines = record {
+    lines =
+        let C : ℕ → Type 0 = λ n. IfSome t.left (λ input. EndsAnyhow (by_disk n new) input t.left_now t.sent t.sent_now end) in
+        subst C (goes.size ∙ counted)
+        (told_so (λ input. EndsSo by input t.left_now t.sent t.sent_now end) (λ input. EndsAnyhow (by_disk count' new) input t.left_now t.sent t.sent_now end) t.left
+        (λ input is. ends_anyhow by (by_disk count' new) more input t.left_now t.sent t.sent_now end is) lines);
     cause = cause_on end whole long cause;
     sent = sent_on t.left end ends;
     crash = λ total book holds.
@@ -146,17 +128,18 @@ module _ (old new : View) (t : Traffic) where
   unopened_cause opening.DiskFault u = u.prevents
   unopened_cause opening.NoMemory u = tt
 
-  unopened_sent : (input : List ℕ) (cause : OpeningCause) → IsUnopened old new t.left t.left_now t.sent t.sent_now cause → OfBook (page_count old.size) old (λ total book. EndsSo book input t.left_now t.sent t.sent_now (opening_end cause))
+  unopened_sent : (input : List ℕ) (cause : OpeningCause) → IsUnopened old new t.left t.left_now t.sent t.sent_now cause → OfBook (page_count old.size) old (λ total book. EndsSo (by_book book) input t.left_now t.sent t.sent_now (opening_end cause))
   unopened_sent input (opening.TooSmall size) u = λ total book holds. absurd (too_small size (u.outside total book holds))
   unopened_sent input (opening.Damaged block) u = λ total book holds. absurd (unopened block (u.outside total book holds))
-  unopened_sent input opening.DiskFault u = λ total book holds. record { first = no_lines book input; sent = u.sent_is ∙ sent_none t.sent }
-  unopened_sent input opening.NoMemory u = λ total book holds. record { first = no_lines book input; sent = u.sent_is ∙ sent_none t.sent }
+  unopened_sent input opening.DiskFault u = λ total book holds. record { first = no_lines (IsAnswer book) input; sent = u.sent_is ∙ sent_none t.sent }
+  unopened_sent input opening.NoMemory u = λ total book holds. record { first = no_lines (IsAnswer book) input; sent = u.sent_is ∙ sent_none t.sent }
 
-  unopened_fault : (input : List ℕ) (cause : OpeningCause) → Faults (LacksRecord (page_count old.size) new) input (opening_end cause)
-  unopened_fault input (opening.TooSmall size) = tt
-  unopened_fault input (opening.Damaged block) = tt
-  unopened_fault input opening.DiskFault = tt
-  unopened_fault input opening.NoMemory = tt
+  unopened_lines : (by : Answering) (input : List ℕ) (cause : OpeningCause) → IsUnopened old new t.left t.left_now t.sent t.sent_now cause
+      → EndsAnyhow by input t.left_now t.sent t.sent_now (opening_end cause)
+  unopened_lines by input (opening.TooSmall size) u = u.sent_is
+  unopened_lines by input (opening.Damaged block) u = u.sent_is
+  unopened_lines by input opening.DiskFault u = record { first = no_lines by.answers input; sent = u.sent_is ∙ sent_none t.sent }
+  unopened_lines by input opening.NoMemory u = record { first = no_lines by.answers input; sent = u.sent_is ∙ sent_none t.sent }
 
   pub unopened_ends : (cause : OpeningCause) (end : End) → end ≡ opening_end cause → IsUnopened old new t.left t.left_now t.sent t.sent_now cause → DeriveEnds old new t end
   unopened_ends cause end same u =
@@ -164,7 +147,8 @@ module _ (old new : View) (t : Traffic) where
       subst E (sym same) (record {
         cause = unopened_cause cause u;
         sent = any_told t.left _ (λ input. unopened_sent input cause u);
-        faulty = any_told t.left (λ input. Faults (LacksRecord (page_count old.size) new) input (opening_end cause)) (λ input. unopened_fault input cause);
+        lines = any_told t.left (λ input. EndsAnyhow (by_disk (page_count old.size) new) input t.left_now t.sent t.sent_now (opening_end cause))
+            (λ input. unopened_lines (by_disk (page_count old.size) new) input cause u);
         crash = opened_since old new u.opens;
         holds = held old new u.opens;
         few = u.opens.few;

@@ -4,6 +4,7 @@ pub mod AskLemmas
 pub mod DoingLemmas
 pub mod WorkLemmas
 pub mod RunLemmas
+pub mod RecordLemmas
 pub mod DiskLemmas
 pub mod PictureLemmas
 pub mod GoodLemmas

@@ -4,7 +4,6 @@ use Rattle.std.specs.List.{filter}
 use Rattle.chart_service.specs.Serving.{told}
 use Rattle.chart_world.specs.Fronts.{says}
 use Rattle.chart_world.specs.LineLaws.{lines_none, says_text}
-use Rattle.series_book.specs.declared.one_series.Series.{Series}
 use Rattle.derive_command.specs.Lines.{AreAnswers, FirstLines}
 use Rattle.derive_command.specs.Requests.{Says, Spells}
 use Rattle.derive_command.specs.declared.request.Request.{Request}
@@ -19,8 +18,8 @@ says_true None request is = absurd is
 says_true (Some text) request is = says_text text (spells_some request text is)
 
 -- before the first line
-pub none_yet : (book : List Series) → AreAnswers book (told []) []
-none_yet book = let P : List (Option (List ℕ)) → Type 0 = λ l. AreAnswers book (filter says l) [] in subst P (sym lines_none) refl
+pub none_yet : (answers : Request → List ℕ → Type 0) → AreAnswers answers (told []) []
+none_yet answers = let P : List (Option (List ℕ)) → Type 0 = λ l. AreAnswers answers (filter says l) [] in subst P (sym lines_none) refl
 
-abbrev pub no_lines : (book : List Series) (input : List ℕ) → FirstLines book input
-no_lines book input = record { front = []; rest = input; begins = record { split = refl; whole = inl (inl refl) }; early = omega arith; text = []; answers = none_yet book }
+abbrev pub no_lines : (answers : Request → List ℕ → Type 0) (input : List ℕ) → FirstLines answers input
+no_lines answers input = record { front = []; rest = input; begins = record { split = refl; whole = inl (inl refl) }; early = omega arith; text = []; are = none_yet answers }

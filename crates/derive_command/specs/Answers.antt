@@ -88,14 +88,30 @@ number_of TooLarge = SUM_TOO_LARGE
 
 -- ---- lines
 
+-- What the answer to a request is, why it is refused, and which page is called damaged for it.
+pub record Answering : Type 1 where
+  pub answers : Request → List ℕ → Type 0
+  pub refuses : Request → DeriveRefusal → Type 0
+  pub damages : Request → ℕ → Type 0
+
+-- by a book: no page that stands for it is damaged
+abbrev pub by_book : List Series → Answering
+by_book book = record { answers = IsAnswer book; refuses = IsRefused book; damages = λ r page. ⊥ }
+
 -- a line says a request, and the text is its answer
-pub record AnswersLine (book : List Series) (line : Option (List ℕ)) (text : List ℕ) : Type 0 where
+pub record AnswersLine (answers : Request → List ℕ → Type 0) (line : Option (List ℕ)) (text : List ℕ) : Type 0 where
   pub request : Request
   pub says_it : Says line request
-  pub answer : IsAnswer book request text
+  pub answer : answers request text
 
 -- a line says a request that is refused
-pub record RefusesLine (book : List Series) (line : Option (List ℕ)) (refusal : DeriveRefusal) : Type 0 where
+pub record RefusesLine (refuses : Request → DeriveRefusal → Type 0) (line : Option (List ℕ)) (refusal : DeriveRefusal) : Type 0 where
   pub request : Request
   pub says_it : Says line request
-  pub refused : IsRefused book request refusal
+  pub refused : refuses request refusal
+
+-- a line says a request for which the page is called damaged
+pub record DamagesLine (damages : Request → ℕ → Type 0) (line : Option (List ℕ)) (page : ℕ) : Type 0 where
+  pub request : Request
+  pub says_it : Says line request
+  pub damaged : damages request page

@@ -14,42 +14,42 @@ use Rattle.series_book.specs.declared.one_series.Series.{Series}
 pub use Rattle.series_pair.specs.Damage.{IsBadForChart}
 use Rattle.store_commands.specs.Books.{LeavesSame, OfBook}
 use Rattle.store_commands.specs.Damaged.{IsDamagedAtFirst, IsDamagedLater}
-use Rattle.store_commands.specs.Lacking.{LacksRecord}
 use Rattle.store_commands.specs.Traffic.{IsLong, Traffic, WasRead}
-use Rattle.derive_command.specs.Answers.{number_of}
-use Rattle.derive_command.specs.Lines.{DrawsAll, DrawsFirst, DrawsPart, DrawsTaken, DrawsToBad, DrawsToRefused, DrawsWithin, EndsSo, Faults}
+use Rattle.derive_command.specs.Answers.{by_book, number_of}
+use Rattle.derive_command.specs.Catalogs.{by_disk}
+use Rattle.derive_command.specs.Lines.{DrawsAll, DrawsFirst, DrawsPart, DrawsTaken, DrawsToBad, DrawsToRefused, DrawsWithin, EndsAnyhow, EndsSo}
 use Rattle.derive_command.specs.declared.derive_refusal.DeriveRefusal.{DeriveRefusal}
 
 -- all lines of the input are requests, and their answers, by the book that the disk holds, were sent
 abbrev pub DerivesAll : ℕ → View → List ℕ → Option (List ℕ) → Option (List ℕ) → Type 0
-DerivesAll count disk input before now = OfBook count disk (λ total book. DrawsAll book input before now)
+DerivesAll count disk input before now = OfBook count disk (λ total book. DrawsAll (by_book book) input before now)
 
 -- the answers to some first lines were sent, and no byte more
 abbrev pub DerivesFirst : ℕ → View → List ℕ → Option (List ℕ) → Option (List ℕ) → Type 0
-DerivesFirst count disk input before now = OfBook count disk (λ total book. DrawsFirst book input before now)
+DerivesFirst count disk input before now = OfBook count disk (λ total book. DrawsFirst (by_book book) input before now)
 
 -- those to all lines whose line feeds were among the bytes taken, where the bytes left are told
 abbrev pub DerivesTaken : ℕ → View → List ℕ → Option (List ℕ) → Option (List ℕ) → Option (List ℕ) → Type 0
-DerivesTaken count disk input left before now = OfBook count disk (λ total book. DrawsTaken book input before now left)
+DerivesTaken count disk input left before now = OfBook count disk (λ total book. DrawsTaken (by_book book) input before now left)
 
 -- those to the lines that ended among the first 2^32 bytes, and there is a byte more
 abbrev pub DerivesWithin : ℕ → View → List ℕ → Option (List ℕ) → Option (List ℕ) → Type 0
-DerivesWithin count disk input before now = OfBook count disk (λ total book. DrawsWithin book input before now)
+DerivesWithin count disk input before now = OfBook count disk (λ total book. DrawsWithin (by_book book) input before now)
 
 -- those to some first lines, and a part of the next one's
 abbrev pub DerivesPart : ℕ → View → List ℕ → Option (List ℕ) → Option (List ℕ) → Type 0
-DerivesPart count disk input before now = OfBook count disk (λ total book. DrawsPart book input before now)
+DerivesPart count disk input before now = OfBook count disk (λ total book. DrawsPart (by_book book) input before now)
 
 -- those to the lines before the first bad one, which begins at this place
 abbrev pub DerivesToBad : ℕ → View → List ℕ → ℕ → Option (List ℕ) → Option (List ℕ) → Type 0
-DerivesToBad count disk input place before now = OfBook count disk (λ total book. DrawsToBad book input before now place)
+DerivesToBad count disk input place before now = OfBook count disk (λ total book. DrawsToBad (by_book book) input before now place)
 
 -- A line that begins at the offset is refused, and the place is 256 times the offset and the number of the refusal.
 pub record IsRefusedAt (book : List Series) (input : List ℕ) (before now : Option (List ℕ)) (place : ℕ) : Type 0 where
   pub at : ℕ
   pub refusal : DeriveRefusal
   pub place_is : place ≡ refused_at at (number_of refusal)
-  pub draws : DrawsToRefused book input before now at refusal
+  pub draws : DrawsToRefused (by_book book) input before now at refusal
 
 -- the answers to the lines before the first that is refused
 abbrev pub DerivesToRefused : ℕ → View → List ℕ → ℕ → Option (List ℕ) → Option (List ℕ) → Type 0
@@ -73,11 +73,11 @@ IsDeriveCause end old new t = ⊥
 -- Why `derive` ended, and what it sent by the book that the disk holds, which stays: at each moment a crash leaves it.
 pub record DeriveEnds (old new : View) (t : Traffic) (end : End) : Type 0 where
   pub cause : IsDeriveCause end old new t
-  pub sent : IfSome t.left (λ input. OfBook (page_count old.size) old (λ total book. EndsSo book input t.left_now t.sent t.sent_now end))
+  pub sent : IfSome t.left (λ input. OfBook (page_count old.size) old (λ total book. EndsSo (by_book book) input t.left_now t.sent t.sent_now end))
   pub crash : LeavesSame (page_count old.size) old new
   pub holds : OfBook (page_count old.size) old (λ total book. HoldsBook (page_count old.size) total book new)
-  -- whatever the disk holds
-  pub faulty : IfSome t.left (λ input. Faults (LacksRecord (page_count old.size) new) input end)
+  -- whatever the disk holds, by the records of its catalog
+  pub lines : IfSome t.left (λ input. EndsAnyhow (by_disk (page_count old.size) new) input t.left_now t.sent t.sent_now end)
   -- it syncs and writes no more than an opening
   pub few : WritesFew (page_count old.size) old new
   -- reads give what a crash may leave, where they did

@@ -13,14 +13,15 @@ use Rattle.run_ends.specs.declared.ending.End.{End}
 use Rattle.run_ends.specs.declared.ending.End.TheVariants.{NoMemory, ReadFault, SendFault, DiskFault, DamagedPage, BadInput, InputTooLong, RefusedLine}
 use Rattle.series_book.specs.declared.one_series.Series.{Series}
 use Rattle.series_catalog.specs.declared.stored_series.StoredSeries.{StoredSeries}
-use Rattle.series_store.specs.Asking.{LacksName}
+use Rattle.series_store.specs.Asking.{IsNamedAt, LacksName}
 use Rattle.series_pair.specs.Damage.{IsBadForChart}
 use Rattle.series_pair.specs.Derived.{AreShifted}
 use Rattle.series_pair.specs.declared.sum_error.SumError.{SumError}
 use Rattle.series_pair.specs.declared.sum_error.SumError.TheVariants as sum
 use Rattle.store_commands.specs.Sides.{Side}
-use Rattle.derive_command.specs.Answers.{AnswersLine, AreNamed, IsAnswer, IsGridOf, IsRefused, RefusesLine, asked_range, number_of}
-use Rattle.derive_command.specs.Requests.{Says, SaysNone, Spells}
+use Rattle.derive_command.specs.Answers.{Answering, AnswersLine, AreNamed, DamagesLine, IsGridOf, IsRefused, RefusesLine, asked_range, number_of}
+use Rattle.derive_command.specs.Catalogs.{AreOnGrid, HasTwoIn}
+use Rattle.derive_command.specs.Requests.{SaysNone}
 use Rattle.derive_command.specs.declared.asked.Asked.{Asked}
 use Rattle.derive_command.specs.declared.derive_refusal.DeriveRefusal.{DeriveRefusal}
 use Rattle.derive_command.specs.declared.derive_refusal.DeriveRefusal.TheVariants as refusal
@@ -52,32 +53,20 @@ pub record IsAsked (book : List Series) (r : Request) (asked : Asked) : Type 0 w
   pub grid_is : IsGridOf r asked.grid
   pub range_is : asked.range ≡ asked_range r.range
 
--- ---- what is so of a line, whatever the pages are
+-- the catalog has series of these names at these places
+pub record AreNamedIn (catalog : List StoredSeries) (r : Request) (x y : ℕ) : Type 0 where
+  pub first : IsNamedAt catalog r.first x
+  pub second : IsNamedAt catalog r.second y
+
+-- all that a request asks for, by the catalog that was read
+pub record IsAskedIn (catalog : List StoredSeries) (r : Request) (asked : Asked) : Type 0 where
+  pub named : AreNamedIn catalog r asked.x asked.y
+  pub on_grid : HasTwoIn AreOnGrid catalog r.first r.second
+  pub grid_is : IsGridOf r asked.grid
 
 -- the catalog lacks one of the two series that a request names
 abbrev pub LacksOne : List StoredSeries → Request → Type 0
 LacksOne catalog r = LacksName catalog r.first ⊎ LacksName catalog r.second
-
--- something was sent
-abbrev pub SaysSome : Option (List ℕ) → Option (List ℕ) → Type 0
-SaysSome before now = (text : List ℕ) × (now ≡ sent_after text before)
-
--- the line is empty or a request, and something was sent
-abbrev pub LineSays : List ℕ → Option (List ℕ) → Option (List ℕ) → Type 0
-LineSays line before now = ((line ≡ []) ⊎ ((request : Request) × Spells request line)) × SaysSome before now
-
--- the catalog lacks a series, where the end tells so
-abbrev pub IsLacking : Request → ℕ → List StoredSeries → End → Type 0
-IsLacking r at catalog (BadInput place) = ⊥
-IsLacking r at catalog (RefusedLine place number) = (place ≡ at) × (number ≡ number_of refusal.UnknownSeries → LacksOne catalog r)
-IsLacking r at catalog end = ⊤
-
--- the line is no request, or it is one and the catalog lacks a series, where the end tells so
-abbrev pub IsFaulty : Option (List ℕ) → ℕ → List StoredSeries → End → Type 0
-IsFaulty line at catalog (BadInput place) = (place ≡ at) × IsTrue (says line) × SaysNone line
-IsFaulty line at catalog (RefusedLine place number) =
-    (place ≡ at) × ((request : Request) × Says line request × (number ≡ number_of refusal.UnknownSeries → LacksOne catalog request))
-IsFaulty line at catalog end = ⊤
 
 -- ---- what is done of one line
 
@@ -99,45 +88,46 @@ TextStops text before now SendFault = PartSent text before now
 TextStops text before now end = ⊥
 
 -- the answer to a request was sent
-pub record SendsAnswer (book : List Series) (r : Request) (before now : Option (List ℕ)) : Type 0 where
+pub record SendsAnswer (answers : Request → List ℕ → Type 0) (r : Request) (before now : Option (List ℕ)) : Type 0 where
   pub text : List ℕ
-  pub answer : IsAnswer book r text
+  pub answer : answers r text
   pub sent : now ≡ sent_after text before
 
 -- a part of it was
-pub record SendsPartOfAnswer (book : List Series) (r : Request) (before now : Option (List ℕ)) : Type 0 where
+pub record SendsPartOfAnswer (answers : Request → List ℕ → Type 0) (r : Request) (before now : Option (List ℕ)) : Type 0 where
   pub text : List ℕ
-  pub answer : IsAnswer book r text
+  pub answer : answers r text
   pub part : PartSent text before now
 
 -- the request is refused for the reason of this number, and nothing was sent
-pub record RefusesAt (book : List Series) (r : Request) (at place number : ℕ) (before now : Option (List ℕ)) : Type 0 where
+pub record RefusesAt (refuses : Request → DeriveRefusal → Type 0) (r : Request) (at place number : ℕ) (before now : Option (List ℕ)) : Type 0 where
   pub place_is : place ≡ at
   pub why : DeriveRefusal
   pub number_is : number ≡ number_of why
-  pub refused : IsRefused book r why
+  pub refused : refuses r why
   pub unsent : now ≡ before
 
 -- why a request wasn't answered
-abbrev pub RequestStops : List Series → Request → ℕ → Option (List ℕ) → Option (List ℕ) → End → Type 0
-RequestStops book r at before now NoMemory = now ≡ before
-RequestStops book r at before now SendFault = SendsPartOfAnswer book r before now
-RequestStops book r at before now DiskFault = now ≡ before
-RequestStops book r at before now (RefusedLine place number) = RefusesAt book r at place number before now
-RequestStops book r at before now end = ⊥
+abbrev pub RequestStops : Answering → Request → ℕ → Option (List ℕ) → Option (List ℕ) → End → Type 0
+RequestStops by r at before now NoMemory = now ≡ before
+RequestStops by r at before now SendFault = SendsPartOfAnswer by.answers r before now
+RequestStops by r at before now DiskFault = now ≡ before
+RequestStops by r at before now (DamagedPage page) = by.damages r page × (now ≡ before)
+RequestStops by r at before now (RefusedLine place number) = RefusesAt by.refuses r at place number before now
+RequestStops by r at before now end = ⊥
 
 -- what a call does that answers a request
-pub record DoesRequest {T : Type 0} (book : List Series) (r : Request) (at : ℕ) (result : Result T End) (before now : Option (List ℕ)) : Type 0 where
-  pub done : OnOk result (SendsAnswer book r before now)
-  pub stops : IfErr result (RequestStops book r at before now)
+pub record DoesRequest {T : Type 0} (by : Answering) (r : Request) (at : ℕ) (result : Result T End) (before now : Option (List ℕ)) : Type 0 where
+  pub done : OnOk result (SendsAnswer by.answers r before now)
+  pub stops : IfErr result (RequestStops by r at before now)
 
 -- the text is what is sent for a line: none for an empty one, and else its answer
-abbrev pub IsSaid : List Series → Option (List ℕ) → List ℕ → Type 0
-IsSaid book line text = ((line ≡ Some []) × (text ≡ [])) ⊎ AnswersLine book line text
+abbrev pub IsSaid : (Request → List ℕ → Type 0) → Option (List ℕ) → List ℕ → Type 0
+IsSaid answers line text = ((line ≡ Some []) × (text ≡ [])) ⊎ AnswersLine answers line text
 
-pub record LineDone (book : List Series) (line : Option (List ℕ)) (before now : Option (List ℕ)) : Type 0 where
+pub record LineDone (answers : Request → List ℕ → Type 0) (line : Option (List ℕ)) (before now : Option (List ℕ)) : Type 0 where
   pub text : List ℕ
-  pub said : IsSaid book line text
+  pub said : IsSaid answers line text
   pub sent : now ≡ sent_after text before
 
 -- it isn't empty and says no request
@@ -148,26 +138,28 @@ pub record LineBad (line : Option (List ℕ)) (at place : ℕ) (before now : Opt
   pub unsent : now ≡ before
 
 -- it says a request that is refused for the reason of this number
-pub record LineRefused (book : List Series) (line : Option (List ℕ)) (at place number : ℕ) (before now : Option (List ℕ)) : Type 0 where
+pub record LineRefused (refuses : Request → DeriveRefusal → Type 0) (line : Option (List ℕ)) (at place number : ℕ) (before now : Option (List ℕ))
+    : Type 0 where
   pub place_is : place ≡ at
   pub why : DeriveRefusal
   pub number_is : number ≡ number_of why
-  pub refuses : RefusesLine book line why
+  pub refuses_it : RefusesLine refuses line why
   pub unsent : now ≡ before
 
 -- why a line wasn't answered
-abbrev pub LineStops : List Series → Option (List ℕ) → ℕ → Option (List ℕ) → Option (List ℕ) → End → Type 0
-LineStops book line at before now NoMemory = now ≡ before
-LineStops book line at before now SendFault = (text : List ℕ) × AnswersLine book line text × PartSent text before now
-LineStops book line at before now DiskFault = now ≡ before
-LineStops book line at before now (BadInput place) = LineBad line at place before now
-LineStops book line at before now (RefusedLine place number) = LineRefused book line at place number before now
-LineStops book line at before now end = ⊥
+abbrev pub LineStops : Answering → Option (List ℕ) → ℕ → Option (List ℕ) → Option (List ℕ) → End → Type 0
+LineStops by line at before now NoMemory = now ≡ before
+LineStops by line at before now SendFault = (text : List ℕ) × AnswersLine by.answers line text × PartSent text before now
+LineStops by line at before now DiskFault = now ≡ before
+LineStops by line at before now (DamagedPage page) = DamagesLine by.damages line page × (now ≡ before)
+LineStops by line at before now (BadInput place) = LineBad line at place before now
+LineStops by line at before now (RefusedLine place number) = LineRefused by.refuses line at place number before now
+LineStops by line at before now end = ⊥
 
 -- what a call does that answers a line
-pub record DoesLine {T : Type 0} (book : List Series) (line : Option (List ℕ)) (at : ℕ) (result : Result T End) (before now : Option (List ℕ)) : Type 0 where
-  pub done : OnOk result (LineDone book line before now)
-  pub stops : IfErr result (LineStops book line at before now)
+pub record DoesLine {T : Type 0} (by : Answering) (line : Option (List ℕ)) (at : ℕ) (result : Result T End) (before now : Option (List ℕ)) : Type 0 where
+  pub done : OnOk result (LineDone by.answers line before now)
+  pub stops : IfErr result (LineStops by line at before now)
 
 -- ---- what calls move, whatever the pages are
 

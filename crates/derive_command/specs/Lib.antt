@@ -1,5 +1,6 @@
 pub mod Requests
 pub mod Answers
+pub mod Catalogs
 pub mod Lines
 pub mod Doing
 pub mod Working

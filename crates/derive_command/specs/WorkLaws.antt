@@ -1,5 +1,5 @@
 -- What takes leave of the work of `derive`.
-use Rattle.std.proofs.Common.{◌≡◌, ◌∙◌, ℕ, ◌≤◌, List, Option, None, Some, ap, refl, sym, subst, arith}
+use Rattle.std.proofs.Common.{◌≡◌, ◌∙◌, ℕ, ◌≤◌, List, None, ap, refl, sym, subst, inl, inr, arith}
 use Rattle.block_disk.proofs.Passing.{passes_none, passes_weaker, sends_then_sends}
 use Rattle.block_disk.specs.View.{Image, View, DiskKept, Now, Passes, sent_now}
 use Rattle.chart_service.proofs.DiskKept.{risen_since}
@@ -12,19 +12,26 @@ use Rattle.page_space.specs.declared.superblock.Superblock.{Superblock}
 use Rattle.run_ends.specs.declared.ending.End.{End}
 use Rattle.run_ends.specs.declared.ending.End.TheVariants.{NoMemory, ReadFault, SendFault, DiskFault, DamagedPage, BadInput, InputTooLong, RefusedLine}
 use Rattle.series_book.specs.declared.one_series.Series.{Series}
+use Rattle.series_catalog.specs.Shown.{series_in}
+use Rattle.series_catalog.specs.declared.catalog.Catalog.{Catalog}
+use Rattle.series_catalog.specs.declared.stored_series.StoredSeries.{StoredSeries}
 use Rattle.stored_book.specs.Standing.{StandsForBook}
 use Rattle.store_commands.specs.Sides.{Side, AreBeside}
 use Rattle.derive_command.specs.Doing.{Goes, IsCause}
-use Rattle.derive_command.specs.Working.{StandFor, StandsSo}
+use Rattle.derive_command.specs.Working.{Known, StandFor, StandsSo}
 
 pub stand_kept : {Told Told' : Type 0} (old new : View) (book : List Series) → (Told → Told') → DiskKept old new → StandFor Told old.image book → StandFor Told' new.image book
 stand_kept {Told} {Told'} old new book told kept stand =
     let P : Image → Type 0 = λ i. StandsForBook i stand.1.0 book in
     (told stand.0, (stand.1.0, subst P (sym kept.image) stand.1.1))
 
-pub stands_kept : {Told Told' : Type 0} (old new : View) (book : Option (List Series)) → (Told → Told') → DiskKept old new → StandsSo Told old.image book → StandsSo Told' new.image book
-stands_kept {Told} {Told'} old new None told kept stands = tt
-stands_kept {Told} {Told'} old new (Some book) told kept stands = stand_kept old new book told kept stands
+pub stands_kept : {Told Told' : Type 0} (old new : View) (catalog catalog' : List StoredSeries) (known : Known) → catalog' ≡ catalog → (Told → Told')
+    → DiskKept old new → StandsSo Told old.image catalog known → StandsSo Told' new.image catalog' known
+stands_kept {Told} {Told'} old new catalog catalog' (inl book) same told kept stands = stand_kept old new book told kept stands
+stands_kept {Told} {Told'} old new catalog catalog' (inr read) same told kept stands = same ∙ stands
+
+pub same_series : {one other : Catalog} → other ≡ one → series_in other ≡ series_in one
+same_series {one} {other} is = ap (λ (c : Catalog). series_in c) is
 
 pub same_total : {one other : Superblock} → other ≡ one → other.total ≡ one.total
 same_total {one} {other} is = ap (λ (s : Superblock). s.total) is

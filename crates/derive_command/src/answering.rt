@@ -7,7 +7,9 @@ ghost use Rattle.pbm_writer.specs.Picture.{picture};
 ghost use Rattle.run_ends.specs.Faults.{end_fault};
 ghost use Rattle.series_store.specs.Shown as shown;
 ghost use Rattle.store_commands.specs.Sides.{side_of};
-ghost use Rattle.derive_command.specs.Doing.{DoesLine, DoesRequest, Goes, IsCause, IsFaulty, IsLacking, LineSays, SaysSome, TextStops, end_at, refused_at};
+ghost use Rattle.derive_command.specs.Answers.{by_book};
+ghost use Rattle.derive_command.specs.Catalogs.{by_memory};
+ghost use Rattle.derive_command.specs.Doing.{DoesLine, DoesRequest, Goes, IsCause, TextStops, end_at, refused_at};
 ghost use Rattle.derive_command.specs.Requests.{IsFactor};
 
 use crate::asking::asked_of;
@@ -82,9 +84,9 @@ fn answer_request<P: PageWorld>(
     requires sound { shown.IsSound store.old }
     requires a { IsFactor request.now.a }
     requires b { IsFactor request.now.b }
-    ensures says { OnOk result (SaysSome (P.sent (shown.pages store.old)) (P.sent (shown.pages store.new))) }
-    ensures lacking { IfErr result (IsLacking request.now at (shown.catalog store.new)) }
-    ensures does { shown.ForBook store.old (λ total book. DoesRequest book request.now at result (P.sent (shown.pages store.old)) (P.sent (shown.pages store.new))) }
+    ensures records { DoesRequest (by_memory (shown.catalog store.old) (side_of P.Streams store.new)) request.now at result (P.sent (shown.pages store.old)) (P.sent (shown.pages store.new)) }
+    ensures catalog { shown.catalog store.new ≡ shown.catalog store.old }
+    ensures does { shown.ForBook store.old (λ total book. DoesRequest (by_book book) request.now at result (P.sent (shown.pages store.old)) (P.sent (shown.pages store.new))) }
     ensures goes { Goes (side_of P.Streams store.old) (side_of P.Streams store.new) }
     ensures cause { IfErr result (λ e. IsCause e (side_of P.Streams store.old) (side_of P.Streams store.new)) }
     ensures long { result ≢ Err End.InputTooLong }
@@ -119,9 +121,9 @@ pub(crate) fn answer_line<P: PageWorld>(
     line: &[u8],
 ) -> Result<(), End>
     requires sound { shown.IsSound store.old }
-    ensures says { OnOk result (LineSays line.now (P.sent (shown.pages store.old)) (P.sent (shown.pages store.new))) }
-    ensures faulty { IfErr result (IsFaulty (Some line.now) at (shown.catalog store.new)) }
-    ensures does { shown.ForBook store.old (λ total book. DoesLine book (Some line.now) at result (P.sent (shown.pages store.old)) (P.sent (shown.pages store.new))) }
+    ensures records { DoesLine (by_memory (shown.catalog store.old) (side_of P.Streams store.new)) (Some line.now) at result (P.sent (shown.pages store.old)) (P.sent (shown.pages store.new)) }
+    ensures catalog { shown.catalog store.new ≡ shown.catalog store.old }
+    ensures does { shown.ForBook store.old (λ total book. DoesLine (by_book book) (Some line.now) at result (P.sent (shown.pages store.old)) (P.sent (shown.pages store.new))) }
     ensures goes { Goes (side_of P.Streams store.old) (side_of P.Streams store.new) }
     ensures cause { IfErr result (λ e. IsCause e (side_of P.Streams store.old) (side_of P.Streams store.new)) }
     ensures long { result ≢ Err End.InputTooLong }

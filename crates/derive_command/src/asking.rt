@@ -5,7 +5,8 @@ ghost use Rattle.derived_chart.specs.Sums.{IsSmall};
 ghost use Rattle.series_pair.specs.Derived.{MayShow};
 ghost use Rattle.series_store.specs.Shown as shown;
 ghost use Rattle.derive_command.specs.Answers.{IsRefused, asked_range};
-ghost use Rattle.derive_command.specs.Doing.{AreIdsOf, IsAsked, IsViewOf, LacksOne};
+ghost use Rattle.derive_command.specs.Catalogs.{IsRefusedBy, in_memory};
+ghost use Rattle.derive_command.specs.Doing.{AreIdsOf, AreNamedIn, IsAsked, IsAskedIn, IsViewOf, LacksOne};
 ghost use Rattle.derive_command.specs.Requests.{IsFactor};
 
 use crate::asked::Asked;
@@ -26,6 +27,7 @@ pub fn asked_of<P: Pages>(store: &Store<P>, request: &Request) -> Result<Asked, 
     requires b { IsFactor request.now.b }
     ensures asked { shown.ForSoundBook store.now (λ total book. MatchResult result (IsAsked book request.now) (IsRefused book request.now)) }
     // whatever the pages are
+    ensures records { MatchResult result (IsAskedIn (shown.catalog store.now) request.now) (IsRefusedBy (in_memory (shown.catalog store.now)) request.now) }
     ensures lacks { result ≡ Err DeriveRefusal.UnknownSeries → LacksOne (shown.catalog store.now) request.now }
     ensures first { IfOk result (λ asked. asked.x < length (shown.catalog store.now)) }
     ensures second { IfOk result (λ asked. asked.y < length (shown.catalog store.now)) }
@@ -68,7 +70,8 @@ fn sum_of(request: &Request, shift: i64) -> Sum
 /// The ids of the two series that a request names.
 fn ids_of<P: Pages>(store: &Store<P>, request: &Request) -> Result<(u16, u16), DeriveRefusal>
     ensures ids { shown.ForSoundBook store.now (λ total book. AreIdsOf book request.now result) }
-    ensures lacks { IfErr result (λ e. LacksOne (shown.catalog store.now) request.now) }
+    ensures lacks { IfErr result (λ e. (e ≡ DeriveRefusal.UnknownSeries) × LacksOne (shown.catalog store.now) request.now) }
+    ensures named { IfOk result (λ ids. AreNamedIn (shown.catalog store.now) request.now ids.0 ids.1) }
     ensures first { IfOk result (λ ids. ids.0 < length (shown.catalog store.now)) }
     ensures second { IfOk result (λ ids. ids.1 < length (shown.catalog store.now)) }
 {

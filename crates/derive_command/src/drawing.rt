@@ -5,8 +5,10 @@ ghost use Rattle.chart_world.specs.Reading.{IsReadUp};
 ghost use Rattle.run_ends.specs.Faults.{end_fault};
 ghost use Rattle.series_store.specs.Shown as shown;
 ghost use Rattle.store_commands.specs.Sides.{side_of};
+ghost use Rattle.derive_command.specs.Answers.{by_book};
+ghost use Rattle.derive_command.specs.Catalogs.{by_memory};
 ghost use Rattle.derive_command.specs.Doing.{Goes, IsCause};
-ghost use Rattle.derive_command.specs.Shown.{EndsOn, FaultsOn};
+ghost use Rattle.derive_command.specs.Shown.{EndsOn};
 
 use crate::request_work::RequestWork;
 use chart_world::Lines;
@@ -20,10 +22,11 @@ use std::alloc::Global;
 /// was read to its end. Nothing is written to the pages of the store.
 pub fn draw_lines<P: PageWorld>(alloc: Global, store: &mut Store<P>) -> End
     requires sound { shown.IsSound store.old }
-    ensures ends { shown.ForBook store.old (λ total book. EndsOn P.Streams book store.old store.new result) }
+    ensures ends { shown.ForBook store.old (λ total book. EndsOn P.Streams (by_book book) store.old store.new result) }
     ensures within { result ≡ End.Done → IfSome (P.left (shown.pages store.old)) (λ input. length input ≤ 2 ^ 32) }
-    ensures faulty { FaultsOn P.Streams store.old store.new result }
-    // whatever the pages are: a crash leaves at each moment what it might have left before
+    // whatever the pages are, by the catalog that was read
+    ensures lines { EndsOn P.Streams (by_memory (shown.catalog store.old) (side_of P.Streams store.new)) store.old store.new result }
+    // a crash leaves at each moment what it might have left before
     ensures whole { result ≡ End.Done → IsReadUp (P.left (shown.pages store.old)) (P.left (shown.pages store.new)) }
     ensures long { result ≡ End.InputTooLong → IfSome (P.left (shown.pages store.old)) (λ input. 2 ^ 32 < length input) }
     ensures goes { Goes (side_of P.Streams store.old) (side_of P.Streams store.new) }

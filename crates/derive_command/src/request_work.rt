@@ -1,13 +1,12 @@
 //! The work of `derive`: each line is a request.
-ghost use Rattle.std.specs.Prelude.{◌≢◌, ◌^◌, List, Option, ⊤};
+ghost use Rattle.std.specs.Prelude.{◌≢◌, ◌^◌, ⊤};
 ghost use Rattle.run_ends.specs.Faults.{end_fault};
 ghost use Rattle.run_ends.specs.declared.ending.End.TheVariants.{InputTooLong};
-ghost use Rattle.series_book.specs.declared.one_series.Series.{Series};
 ghost use Rattle.series_store.specs.Shown as shown;
 ghost use Rattle.store_commands.specs.Sides.{side_of};
 ghost use Rattle.derive_command.specs.Doing.{Goes, IsCause};
-ghost use Rattle.derive_command.specs.WorkLaws.{besides, cause_later, goes_further, goes_nowhere, goes_takes, no_less, same_total, stands_kept};
-ghost use Rattle.derive_command.specs.Working.{LineDoes, LineStopsSo, StandsSo};
+ghost use Rattle.derive_command.specs.WorkLaws.{besides, cause_later, goes_further, goes_nowhere, goes_takes, no_less, same_series, same_total, stands_kept};
+ghost use Rattle.derive_command.specs.Working.{Known, LineDoes, LineStopsSo, StandsSo};
 
 use crate::answering::answer_line;
 use gate_pages::PageWorld;
@@ -23,7 +22,7 @@ pub(crate) struct RequestWork {
 }
 
 impl<P: PageWorld> LineWork<Store<P>, End> for RequestWork {
-    ghost State = { Option (List Series) };
+    ghost State = { Known };
 
     ghost view = { λ store. shown.view store };
 
@@ -31,18 +30,18 @@ impl<P: PageWorld> LineWork<Store<P>, End> for RequestWork {
 
     ghost fit = { λ work store at. shown.IsSound store };
 
-    ghost stands = { λ book work store. StandsSo (shown.IsTold store) (shown.image store) book };
+    ghost stands = { λ known work store. StandsSo (shown.IsTold store) (shown.image store) (shown.catalog store) known };
 
     // what a crash leaves is said by `goes`, whatever the pages are
-    ghost lasting = { λ book. ⊥ };
+    ghost lasting = { λ known. ⊥ };
 
-    ghost rests = { λ book image. ⊤ };
+    ghost rests = { λ known image. ⊤ };
 
     ghost does = { LineDoes };
 
-    ghost stops = { λ book it end work store before. LineStopsSo book it (shown.catalog store) before (P.sent (shown.pages store)) end };
+    ghost stops = { λ known it end work store before. LineStopsSo known it (side_of P.Streams store) before (P.sent (shown.pages store)) end };
 
-    ghost leaves = { λ book it from image sent. ⊤ };
+    ghost leaves = { λ known it from image sent. ⊤ };
 
     ghost goes = { λ old new. Goes (side_of P.Streams old) (side_of P.Streams new) };
 
@@ -72,9 +71,9 @@ impl<P: PageWorld> LineWork<Store<P>, End> for RequestWork {
 
     ghost fit_taken = { λ work old new at takes. (P.take_keeps (shown.pages old) (shown.pages new) takes.pages_are).fit };
 
-    ghost stands_taken = { λ book work old new takes sent stands. stands_kept (shown.view old) (shown.view new) book (P.take_told (shown.pages old) (shown.pages new) takes.pages_are) (P.take_keeps (shown.pages old) (shown.pages new) takes.pages_are) stands };
+    ghost stands_taken = { λ known work old new takes sent stands. stands_kept (shown.view old) (shown.view new) (shown.catalog old) (shown.catalog new) known (same_series takes.catalog) (P.take_told (shown.pages old) (shown.pages new) takes.pages_are) (P.take_keeps (shown.pages old) (shown.pages new) takes.pages_are) stands };
 
-    ghost lasting_on = { λ book it text behind did lasting. lasting };
+    ghost lasting_on = { λ known it text behind did lasting. lasting };
 
     ghost take_keeps = { λ old new takes. P.take_keeps (shown.pages old) (shown.pages new) takes.pages_are };
 
@@ -82,7 +81,7 @@ impl<P: PageWorld> LineWork<Store<P>, End> for RequestWork {
 
     ghost take_goes = { λ old new takes sent reads sends pieces. goes_takes _ _ (P.take_keeps (shown.pages old) (shown.pages new) takes.pages_are) (P.take_passes (shown.pages old) (shown.pages new) takes.pages_are) (P.take_told (shown.pages old) (shown.pages new) takes.pages_are) (P.take_was_told (shown.pages old) (shown.pages new) takes.pages_are) (P.take_goes_on (shown.pages old) (shown.pages new) takes.pages_are) (same_total takes.superblock) reads (no_less sends) };
 
-    ghost now_rests = { λ book work from at fit stands lasting image left. tt };
+    ghost now_rests = { λ known work from at fit stands lasting image left. tt };
 
     ghost goes_none = { λ at. goes_nowhere _ };
 

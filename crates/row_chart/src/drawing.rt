@@ -1,4 +1,5 @@
 ghost use Rattle.std.specs.Prelude.{ℤ, ◌<◌, List, Option, All, IfOk};
+ghost use Rattle.chart_grid.specs.Projection.{HasCanvas};
 ghost use Rattle.chart_grid.specs.declared.axis.Axis.{Axis};
 ghost use Rattle.plain_chart.specs.Samples.{kept, sample_points};
 ghost use Rattle.whole_number.specs.Range.{IsValue};
@@ -24,8 +25,10 @@ pub fn chart_of_rows(
     requires drawable { All (IsDrawable grid.w) rows.now }
     requires scale { IsScale range }
     requires high { IsValue range.hi }
-    ensures { IfOk result (λ drawing. (axis : Axis) (slots : List (Option ℤ)) → 0 < axis.step →
+    ensures chart { IfOk result (λ drawing. (axis : Axis) (slots : List (Option ℤ)) → 0 < axis.step →
         AreRowsOf grid (sample_points (kept grid axis slots)) rows.now → IsChart grid range (kept grid axis slots) drawing) }
+    // whatever the rows are of
+    ensures size { IfOk result (λ drawing. HasCanvas grid drawing.w drawing.h) }
 {
     let mut bitmap = Bitmap::new(alloc, grid.w(), grid.h())?;
     draw_rows(&mut bitmap, rows, range.lo, range.hi);

@@ -31,7 +31,8 @@ use Rattle.series_store.proofs.SelectedLemmas.{book_there, own}
 use Rattle.series_pair.specs.AskLaws.{causes_later, count_is, pair_agrees, still_are_pair}
 use Rattle.series_pair.specs.Asking.{ArePair, Causes, GoesPair, IsReady, count}
 use Rattle.series_pair.specs.Costs.{ReadsSum}
-use Rattle.series_pair.specs.Derived.{AreRowsAnswer, AreSamplesOf, AreShifted, AreUnlike, IsChartCause, IsSumError, axis_of, sum_fault}
+use Rattle.series_catalog.specs.declared.stored_series.StoredSeries.{StoredSeries}
+use Rattle.series_pair.specs.Derived.{AreRowsAnswer, AreSamplesOf, AreShifted, AreShiftedIn, AreUnlike, AreUnlikeIn, IsChartCause, IsSumError, axis_of, sum_fault, times_of}
 use Rattle.series_pair.specs.Drawing.{error_of}
 use Rattle.series_pair.specs.Pairs.{slots_at, slots_of}
 use Rattle.series_pair.specs.declared.store_pair.StorePair.{StorePair}
@@ -73,6 +74,29 @@ shift_so book x y one other axis axis' None first second same also some none = �
 shift_so book x y one other axis axis' (Some d) first second same also some none =
     let A : Axis → Type 0 = λ a. IsShift a axis' d in
     let B : Axis → Type 0 = λ a. IsShift (axis_of one) a d in
+    record { one = one; other = other; first = first; second = second; shift = subst B also (subst A same some) }
+
+-- the same of the records of a catalog
+pub record_axis : (axis : Axis) (one : StoredSeries) → axis.start ≡ one.start → axis.step ≡ one.step → axis.slots ≡ one.tree.slots → axis ≡ times_of one
+record_axis axis one start step slots = λ i. record { start = start i; step = step i; slots = slots i }
+
+same_record : (catalog : List StoredSeries) (id : ℕ) (one two : StoredSeries) → slice_get catalog id ≡ Some one → slice_get catalog id ≡ Some two → one ≡ two
+same_record catalog id one two first second = ap (λ found. unwrap_or found one) (sym first ∙ second)
+
+pub shift_in : (catalog : List StoredSeries) (x y : ℕ) (one other : StoredSeries) (axis axis' : Axis) (shift : Option ℤ) → slice_get catalog x ≡ Some one
+    → slice_get catalog y ≡ Some other → axis ≡ times_of one → axis' ≡ times_of other → IfSome shift (IsShift axis axis')
+    → IfNone shift ((d : ℤ) → IsShift axis axis' d → ⊥) → MatchOption shift (AreUnlikeIn catalog x y) (AreShiftedIn catalog x y)
+shift_in catalog x y one other axis axis' None first second same also some none = λ d on.
+    let here : on.one ≡ one = same_record catalog x on.one one on.first first in
+    let there : on.other ≡ other = same_record catalog y on.other other on.second second in
+    let P : StoredSeries → Type 0 = λ s. IsShift (times_of s) (times_of on.other) d in
+    let Q : StoredSeries → Type 0 = λ s. IsShift (times_of one) (times_of s) d in
+    let A : Axis → Type 0 = λ a. IsShift a (times_of other) d in
+    let B : Axis → Type 0 = λ a. IsShift axis a d in
+    none d (subst B (sym also) (subst A (sym same) (subst Q there (subst P here on.shift))))
+shift_in catalog x y one other axis axis' (Some d) first second same also some none =
+    let A : Axis → Type 0 = λ a. IsShift a axis' d in
+    let B : Axis → Type 0 = λ a. IsShift (times_of one) a d in
     record { one = one; other = other; first = first; second = second; shift = subst B also (subst A same some) }
 
 module _ {P : Type 0} {g : Ghosts P} where
@@ -136,7 +160,7 @@ module _ {P : Type 0} {g : Ghosts P} where
   of_pages derived.NoMemory old new ready cause = tt
 
   pub error_cause : (e : DerivedError) (old new : StorePair P g) → IsReady old → IsCause (Causes old new) e
-      → IsChartCause (error_of e) (shown.IsTold new.store.now) (shown.total old.store.now) (shown.view old.store.now) (shown.view new.store.now)
+      → IsChartCause old.x old.y (error_of e) (shown.IsTold new.store.now) (shown.total old.store.now) (shown.view old.store.now) (shown.view new.store.now)
   error_cause (derived.TooLarge time) old new ready cause = tt
   error_cause (derived.Node node.DiskFault) old new ready cause = cause ready
   error_cause (derived.Node (node.Damaged page)) old new ready cause = (cause ready).0

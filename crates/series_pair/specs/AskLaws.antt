@@ -1,5 +1,5 @@
 -- Two series of a store as two trees: what asks and turns keep of them.
-use Rattle.std.proofs.Common.{◌≡◌, ◌∙◌, ℕ, ℤ, ◌<◌, Bool, false, true, List, length, Option, Some, refl, sym, ap, subst, arith}
+use Rattle.std.proofs.Common.{◌≡◌, ◌∙◌, ◌⊎◌, ℕ, ℤ, ◌<◌, Bool, false, true, List, length, Option, Some, refl, sym, ap, subst, inl, inr, arith}
 use Rattle.std.specs.List.{slice_get}
 use Rattle.block_disk.specs.Counts.{HasRisen}
 use Rattle.block_disk.specs.View.{Image}
@@ -34,6 +34,11 @@ use Rattle.series_pair.specs.declared.store_pair.StorePair.{StorePair}
 pub low_side : (second : Bool) (x y n : ℕ) → x < n → y < n → side_of second x y < n
 low_side false x y n first other = first
 low_side true x y n first other = other
+
+-- it is the one or the other
+one_side : (second : Bool) (x y : ℕ) → (side_of second x y ≡ x) ⊎ (side_of second x y ≡ y)
+one_side false x y = inl refl
+one_side true x y = inr refl
 
 -- what a tree of a catalog is of its series
 pub slots_there : (catalog : List StoredSeries) (id : ℕ) (tree : Tree) → id < length catalog → IsTreeAt catalog id tree → tree.slots ≡ slots_at catalog id
@@ -219,7 +224,8 @@ module _ {P : Type 0} {g : Ghosts P} where
       let id = side_of old.is_second old.x old.y in
       let low = low_side old.is_second old.x old.y (length (shown.catalog o)) ready.1.first ready.1.second in (
         way_later (shown.IsTold o) (shown.IsTold n) (shown.view o) (shown.view n) (shown.under o) (shown.under n) (shown.numbers o) (shown.numbers n)
-            (shown.kept_catalog o) (shown.kept_catalog n) (shown.total o) page (asks_look kept) (way_at o id page ready.0 low ready.1.selected bad),
+            (shown.kept_catalog o) (shown.kept_catalog n) old.x old.y (shown.total o) page (asks_look kept)
+            (way_at o old.x old.y id page (one_side old.is_second old.x old.y) ready.0 low ready.1.selected bad),
         whole_at o id page ready.0 low ready.1.selected bad,
       )
   asks_have_cause (Missing key) kept never = λ ready. never
@@ -231,8 +237,10 @@ module _ {P : Type 0} {g : Ghosts P} where
       subst R quiet (cause (still_ready going ready))
   causes_later (Damaged page) old mid new going quiet cause = λ ready.
       let is = cause (still_ready going ready) in
-      let N : Superblock → Type 0 = λ s. IsBadOnWay (shown.IsTold new.store.now) s.total (shown.view new.store.now) page in (
-        subst N going.looks.superblock is.0,
+      let N : Superblock → Type 0 = λ s. IsBadOnWay old.x old.y (shown.IsTold new.store.now) s.total (shown.view new.store.now) page in
+      let X : ℕ → Type 0 = λ n. IsBadOnWay n mid.y (shown.IsTold new.store.now) (shown.total mid.store.now) (shown.view new.store.now) page in
+      let Y : ℕ → Type 0 = λ n. IsBadOnWay old.x n (shown.IsTold new.store.now) (shown.total mid.store.now) (shown.view new.store.now) page in (
+        subst N going.looks.superblock (subst Y going.second (subst X going.first is.0)),
         λ total book told stands. is.1 total book (going.looks.told told) (stands_later old.store.now mid.store.now total book going.looks told stands),
       )
   causes_later (Missing key) old mid new going quiet cause = λ ready. cause (still_ready going ready)

@@ -68,7 +68,7 @@ module _ {P : Type 0} {g : Ghosts P} where
   abbrev pub IsAskCause : StorePair P g → StorePair P g → NodeError → Type 0
   IsAskCause old new DiskFault = HasRisen (shown.view old.store.now).faults (shown.view new.store.now).faults
   IsAskCause old new (Damaged page) =
-      IsBadOnWay (shown.IsTold new.store.now) (shown.total old.store.now) (shown.view new.store.now) page × shown.ForBook old.store.now (λ total book. ⊥)
+      IsBadOnWay old.x old.y (shown.IsTold new.store.now) (shown.total old.store.now) (shown.view new.store.now) page × shown.ForBook old.store.now (λ total book. ⊥)
   IsAskCause old new (Missing key) = ⊥
   IsAskCause old new (BadCoefficient key) = ⊥
 

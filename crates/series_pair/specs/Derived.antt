@@ -15,6 +15,7 @@ use Rattle.plain_chart.specs.Samples.{kept, sample_points, values_of, IsRange}
 use Rattle.plain_chart.specs.declared.sample.Sample.{Sample}
 use Rattle.plain_chart.specs.declared.value_range.ValueRange.{ValueRange}
 use Rattle.series_book.specs.declared.one_series.Series.{Series}
+use Rattle.series_catalog.specs.declared.stored_series.StoredSeries.{StoredSeries}
 use Rattle.whole_number.specs.Range.{IsValue}
 use Rattle.series_pair.specs.declared.sum_error.SumError.{SumError}
 use Rattle.series_pair.specs.declared.sum_error.SumError.TheVariants.{TooLarge, DiskFault, Damaged, NoMemory}
@@ -35,6 +36,21 @@ pub record AreShifted (book : List Series) (x y : ℕ) (d : ℤ) : Type 0 where
 -- they are on no common grid: the steps differ, or the starts differ by no multiple of the step
 abbrev pub AreUnlike : List Series → ℕ → ℕ → Type 0
 AreUnlike book x y = (d : ℤ) → AreShifted book x y d → ⊥
+
+-- the times of the slots of a series of a catalog
+abbrev pub times_of : StoredSeries → Axis
+times_of one = record { start = one.start; step = one.step; slots = one.tree.slots }
+
+-- so it is of two series by their records in a catalog
+pub record AreShiftedIn (catalog : List StoredSeries) (x y : ℕ) (d : ℤ) : Type 0 where
+  pub one : StoredSeries
+  pub other : StoredSeries
+  pub first : slice_get catalog x ≡ Some one
+  pub second : slice_get catalog y ≡ Some other
+  pub shift : IsShift (times_of one) (times_of other) d
+
+abbrev pub AreUnlikeIn : List StoredSeries → ℕ → ℕ → Type 0
+AreUnlikeIn catalog x y = (d : ℤ) → AreShiftedIn catalog x y d → ⊥
 
 -- The samples of a times the series at x and b times the series at y: one for each time of the window at which both store
 -- a value, in order of time.
@@ -99,13 +115,13 @@ abbrev pub IsChartAnswer : List Series → ℕ → ℕ → ℤ → ℤ → Grid 
 IsChartAnswer book x y a b g asked (Ok canvas) = IsDerivedChart book x y a b g asked canvas
 IsChartAnswer book x y a b g asked (Err error) = IsSumError book x y a b g error
 
--- why there is no chart, whatever the pages are: a page that is called damaged is one of so many, and is so where reads give what
--- the pages are
-abbrev pub IsChartCause : SumError → Type 0 → ℕ → View → View → Type 0
-IsChartCause (TooLarge time) told total old new = ⊤
-IsChartCause DiskFault told total old new = HasRisen old.faults new.faults
-IsChartCause (Damaged page) told total old new = IsBadOnWay told total new page
-IsChartCause NoMemory told total old new = ⊤
+-- why there is no chart of the series at x and at y, whatever the pages are: a page that is called damaged is one of so many, and
+-- is so, in the tree of one of the two, where reads give what the pages are
+abbrev pub IsChartCause : ℕ → ℕ → SumError → Type 0 → ℕ → View → View → Type 0
+IsChartCause x y (TooLarge time) told total old new = ⊤
+IsChartCause x y DiskFault told total old new = HasRisen old.faults new.faults
+IsChartCause x y (Damaged page) told total old new = IsBadOnWay x y told total new page
+IsChartCause x y NoMemory told total old new = ⊤
 
 -- the failed call of which an error of a chart tells
 abbrev pub sum_fault : SumError → Option Fault

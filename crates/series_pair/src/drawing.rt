@@ -1,5 +1,6 @@
 //! The rows and the chart of a sum of two series of a store.
 ghost use Rattle.std.specs.Prelude.{◌≡◌, ◌<◌, ◌≤◌, ℕ, List, false, length, All, IfErr, IfOk, IfSome};
+ghost use Rattle.chart_grid.specs.Projection.{HasCanvas};
 ghost use Rattle.chart_grid.specs.declared.grid.Grid.{Grid};
 ghost use Rattle.chart_world.specs.Faults.{CountsFault, fault_in};
 ghost use Rattle.derived_chart.specs.Rows.{IsCause, IsOrdered};
@@ -91,7 +92,7 @@ fn rows_of_pair<P: Pages>(
     ensures rising { IfOk result AreRising }
     ensures drawable { IfOk result (All (IsDrawable grid.w)) }
     ensures ordered { IfOk result (All IsOrdered) }
-    ensures cause { IfErr result (λ e. IsChartCause e (shown.IsTold pair.new.store.now) (shown.total pair.old.store.now) (shown.view pair.old.store.now) (shown.view pair.new.store.now)) }
+    ensures cause { IfErr result (λ e. IsChartCause pair.old.x pair.old.y e (shown.IsTold pair.new.store.now) (shown.total pair.old.store.now) (shown.view pair.old.store.now) (shown.view pair.new.store.now)) }
     ensures same_reference { pair.new.store.ghost_name ≡ pair.old.store.ghost_name }
     ensures goes { GoesPair pair.old pair.new }
     ensures reads { shown.ForBook pair.old.store.now (λ total book. ReadsSum book pair.old.x pair.old.y grid (shown.view pair.old.store.now).reads (shown.view pair.new.store.now).reads) }
@@ -127,7 +128,7 @@ pub fn rows_of_sum<P: Pages>(
     ensures rising { IfOk result AreRising }
     ensures drawable { IfOk result (All (IsDrawable grid.w)) }
     ensures ordered { IfOk result (All IsOrdered) }
-    ensures cause { IfErr result (λ e. IsChartCause e (shown.IsTold store.new) (shown.total store.old) (shown.view store.old) (shown.view store.new)) }
+    ensures cause { IfErr result (λ e. IsChartCause x y e (shown.IsTold store.new) (shown.total store.old) (shown.view store.old) (shown.view store.new)) }
     ensures looks { LooksOnly store.old store.new }
     ensures reads { shown.ForBook store.old (λ total book. ReadsSum book x y grid (shown.view store.old).reads (shown.view store.new).reads) }
     ensures faults { CountsFault (fault_in sum_fault result) (shown.view store.old) (shown.view store.new) }
@@ -165,7 +166,9 @@ pub fn chart_of_sum<P: Pages>(
     requires small { IsSmall sum }
     requires range { IfSome range MayShow }
     ensures answer { shown.ForBook store.old (λ total book. AreShifted book x y sum.shift → IsChartAnswer book x y sum.a sum.b grid range result) }
-    ensures cause { IfErr result (λ e. IsChartCause e (shown.IsTold store.new) (shown.total store.old) (shown.view store.old) (shown.view store.new)) }
+    // whatever the pages are
+    ensures size { IfOk result (λ canvas. HasCanvas grid canvas.w canvas.h) }
+    ensures cause { IfErr result (λ e. IsChartCause x y e (shown.IsTold store.new) (shown.total store.old) (shown.view store.old) (shown.view store.new)) }
     ensures looks { LooksOnly store.old store.new }
     ensures reads { shown.ForBook store.old (λ total book. ReadsSum book x y grid (shown.view store.old).reads (shown.view store.new).reads) }
     ensures faults { CountsFault (fault_in sum_fault result) (shown.view store.old) (shown.view store.new) }

@@ -1,7 +1,7 @@
 //! Whether two series of a store are on one grid.
 ghost use Rattle.std.specs.Prelude.{◌≡◌, ◌<◌, ◌≤◌, ◌*◌, ◌^◌, length, unsigned_abs, IfSome, MatchOption};
 ghost use Rattle.series_store.specs.Shown as shown;
-ghost use Rattle.series_pair.specs.Derived.{AreShifted, AreUnlike};
+ghost use Rattle.series_pair.specs.Derived.{AreShifted, AreShiftedIn, AreUnlike, AreUnlikeIn};
 
 use chart_grid::Axis;
 use derived_chart::shift_between;
@@ -14,6 +14,8 @@ pub fn shift_of<P: Pages>(store: &Store<P>, x: u16, y: u16) -> Option<i64>
     requires first { x < length (shown.catalog store.now) }
     requires second { y < length (shown.catalog store.now) }
     ensures shift { shown.ForSoundBook store.now (λ total book. MatchOption result (AreUnlike book x y) (AreShifted book x y)) }
+    // so it is by the catalog, whatever the pages are
+    ensures records { MatchOption result (AreUnlikeIn (shown.catalog store.now) x y) (AreShiftedIn (shown.catalog store.now) x y) }
     ensures small { IfSome result (λ d. unsigned_abs d ≤ 2 * 10 ^ 18) }
 {
     shift_between(axis_of(&store.info(x)), axis_of(&store.info(y)))

@@ -31,6 +31,7 @@ use Rattle.std.proofs.Common.{to_z, of_z}
 use Rattle.std.proofs.lemmas.Int.{to_z-of_z, fits_signed_from_abs}
 use Rattle.whole_number.specs.Range.{IsValue}
 use Rattle.series_pair.specs.Costs.{ReadsSum}
+use Rattle.series_pair.specs.DamageLaws.{chart_bad}
 use Rattle.series_pair.specs.Derived.{AreSamplesOf, AreSumRows, IsChartCause, IsSumError, MayShow, ShowsRange, sum_fault}
 use Rattle.series_pair.specs.declared.sum_error.SumError.{SumError}
 use Rattle.series_pair.specs.declared.sum_error.SumError.TheVariants as sum
@@ -110,11 +111,11 @@ error_outside book x y a b g sum.DiskFault error = inl refl
 error_outside book x y a b g (sum.Damaged page) error = absurd error
 error_outside book x y a b g sum.NoMemory error = inr refl
 
-pub error_cause : (e : SumError) (told : Type 0) (total : ℕ) (old new : View) → IsChartCause e told total old new → IfErr (error_reply e) (λ error. IsSumCause error told total old new)
-error_cause (sum.TooLarge time) told total old new cause = tt
-error_cause sum.DiskFault told total old new cause = cause
-error_cause (sum.Damaged page) told total old new cause = cause
-error_cause sum.NoMemory told total old new cause = tt
+pub error_cause : (x y : ℕ) (e : SumError) (told : Type 0) (total : ℕ) (old new : View) → IsChartCause x y e told total old new → IfErr (error_reply e) (λ error. IsSumCause error told total old new)
+error_cause x y (sum.TooLarge time) told total old new cause = tt
+error_cause x y sum.DiskFault told total old new cause = cause
+error_cause x y (sum.Damaged page) told total old new cause = (cause.0, λ t. chart_bad x y new.size new.image page (cause.1 t))
+error_cause x y sum.NoMemory told total old new cause = tt
 
 pub error_faults : (e : SumError) (old new : View) → CountsFault (sum_fault e) old new → CountsFault (fault_in step_fault (error_reply e)) old new
 error_faults (sum.TooLarge time) old new counts = counts

@@ -1,5 +1,5 @@
 -- What a session is answered for a sum of two series of a book.
-use Rattle.std.specs.Prelude.{◌≡◌, ℕ, List, length, Option, Result, Ok, Err, ⊤}
+use Rattle.std.specs.Prelude.{◌≡◌, ◌<◌, ℕ, List, length, Option, Result, Ok, Err, ⊤}
 use Rattle.block_disk.specs.Counts.{HasRisen}
 use Rattle.block_disk.specs.View.{View}
 use Rattle.chart_frames.specs.declared.frame.Frame.{Frame}
@@ -20,7 +20,7 @@ use Rattle.series_book.specs.declared.one_series.Series.{Series}
 use Rattle.series_pair.specs.Derived.{AreSumRows, ShowsRange}
 use Rattle.series_pair.specs.declared.sum_error.SumError.{SumError}
 use Rattle.series_pair.specs.declared.sum_error.SumError.TheVariants as sum
-use Rattle.series_pair.specs.Damage.{IsBadOnWay}
+use Rattle.series_pair.specs.Damage.{IsBadForChart}
 
 -- the frame of a refusal: it has the number that `derive` gives it, and carries no others
 abbrev pub refused : DeriveRefusal → Frame
@@ -72,5 +72,5 @@ error_reply sum.NoMemory = Err NoMemory
 -- why there was no answer, whatever the pages are
 abbrev pub IsSumCause : ServiceError → Type 0 → ℕ → View → View → Type 0
 IsSumCause DiskFault told total old new = HasRisen old.faults new.faults
-IsSumCause (Damaged page) told total old new = IsBadOnWay told total new page
+IsSumCause (Damaged page) told total old new = (page < total) × (told → IsBadForChart new.size new.image page)
 IsSumCause NoMemory told total old new = ⊤

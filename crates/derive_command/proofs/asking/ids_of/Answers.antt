@@ -12,7 +12,10 @@ returns-clause-ids g c = λ total book sound told stands.
     record { first = (c.in-Some.ensures.info total book sound told stands).0; second = (c.in-Some-series.ensures.info total book sound told stands).0 }
 
 pub returns-in_default-clause-lacks : goal.returns-in_default-clause-lacks
-returns-in_default-clause-lacks g c = inl c.in_default.ensures.named
+returns-in_default-clause-lacks g c = (refl, inl c.in_default.ensures.named)
 
 pub returns-in_default-series-clause-lacks : goal.returns-in_default-series-clause-lacks
-returns-in_default-series-clause-lacks g c = inr c.in_default-series.ensures.named
+returns-in_default-series-clause-lacks g c = (refl, inr c.in_default-series.ensures.named)
+
+pub returns-clause-named : goal.returns-clause-named
+returns-clause-named g c = record { first = c.in-Some.ensures.named; second = c.in-Some-series.ensures.named }

@@ -1,24 +1,24 @@
-use Rattle.std.proofs.Common.{ℕ, List, ap, subst, sym, arith}
+use Rattle.std.proofs.Common.{◌≡◌, ℕ, ap, subst, sym, arith}
+use Rattle.block_disk.specs.View.{Image}
 use Rattle.chart_world.specs.FaultLaws.{counts_no_disk, counts_then}
 use Rattle.chart_world.specs.Faults.{CountsFault}
 use Rattle.gate_pages.specs.GatePages.{IsClosed}
-use Rattle.gate_pages.specs.Journal.{pages_of}
+use Rattle.page_space.specs.Layout.{Keeps}
 use Rattle.run_ends.specs.Statuses.{status_of}
 use Rattle.run_ends.specs.Faults.{end_fault}
 use Rattle.run_ends.specs.declared.ending.End.{End}
-use Rattle.series_store.proofs.NameLemmas.{no_record}
-use Rattle.series_store.specs.Asking.{LacksName}
+use Rattle.series_catalog.specs.Catalogs.{AreAsTold}
 use Rattle.series_store.specs.Shown as shown
-use Rattle.store_commands.proofs.Damages.{lacks_record}
 use Rattle.store_commands.proofs.Held.{rests_new}
 use Rattle.store_commands.proofs.TurnedAway.{away_never}
 use Rattle.store_commands.proofs.WorldLemmas.{away_over, traffic_over, unopened_over}
-use Rattle.store_commands.specs.Lacking.{LacksRecord}
 use Rattle.store_commands.specs.Faulting.{counts_unopened_end}
 use Rattle.store_commands.specs.Traffic.{Traffic, traffic}
 use Rattle.store_commands.specs.TrafficLaws.{was_read}
 use Rattle.derive_command.specs.Derived.{DeriveEnds}
-use Rattle.derive_command.proofs.DiskLemmas.{derived_by, unopened_ends}
+use Rattle.derive_command.specs.Catalogs.{by_memory}
+use Rattle.derive_command.proofs.DiskLemmas.{derived_by, disk_side, unopened_ends}
+use Rattle.derive_command.proofs.RecordLemmas.{says_more}
 use Rattle.derive_command.proofs.command.derive.Goals as goal
 
 pub returns-in-Ok-clause-ends : goal.returns-in-Ok-clause-ends
@@ -42,13 +42,22 @@ returns-in-Ok-clause-ends g c =
     let P : g.row.W.Denot → Type 0 = λ d. IsClosed (view d) in
     let closed : IsClosed (view new) = subst P c.disk_of.ensures.disk (c.disk_of.ensures.rests (made.goes.fit opened.sound)) in
     let sound = made.goes.fit opened.sound in
-    let lacking : (name : List ℕ) → LacksName (shown.catalog after) name → LacksRecord end_pages.count (view new) name =
-    λ name lacks. lacks_record end_pages.count (view new) (shown.numbers after) name (rests_new end_pages.count (view new) (shown.numbers after) (end_pages.at_rest sound) (after.space.spelled sound))
-    (λ honest. record { spelled = after.space.spelled sound honest; rules = after.space.rules })
-    (λ honest. no_record (pages_of end_pages.count (view new).image) (shown.numbers after) (shown.catalog after) name after.count (after.told sound honest) lacks) in
+    let s = shown.numbers before in
+    let image : shown.IsTold after → shown.image after ≡ shown.image before = λ told. made.goes.image (made.goes.was_told told) in
+    let C : ℕ → Type 0 = λ n. Keeps n s (shown.image after 0) in
+    let side = disk_side end_pages.count end_pages.sound (view new) (shown.total after) (reads new) (sends new) in
+    let more = says_more end_pages.count (view new) side (shown.catalog before) s
+    (rests_new end_pages.count (view new) (shown.numbers after) (end_pages.at_rest sound) (after.space.spelled sound)) before.count
+    (λ honest.
+    let I : Image → Type 0 = λ i. Keeps pages.count s (i 0) in
+    subst C (sym made.goes.size) (subst I (sym (image honest)) (record { spelled = before.space.spelled opened.sound (made.goes.was_told honest); rules = before.space.rules })))
+    (λ honest.
+    let I : Image → Type 0 = λ i. AreAsTold i (shown.catalog before) in
+    subst I (sym (image honest)) (before.told opened.sound (made.goes.was_told honest)))
+    (omega (arith, after.space.rules.total_high)) (λ first second page bad. bad) in
     let all = derived_by pages.count end_pages.count pages.sound end_pages.sound (view first) (view old) (view new) (shown.total before) (shown.total after) t made.goes
     (rests_new pages.count (view old) (shown.numbers before) (pages.at_rest opened.sound) (before.space.spelled opened.sound)) closed (omega (arith, before.space.rules.total_high)) opened.count opened.opens opened.quiet
-    c.draw_lines-end.result (λ done. was_read (left old) (left new) (made.within done) (made.whole done)) made.long made.cause made.ends (shown.catalog after) lacking made.faulty in
+    c.draw_lines-end.result (λ done. was_read (left old) (left new) (made.within done) (made.whole done)) made.long made.cause made.ends (by_memory (shown.catalog before) side) more made.lines in
     let same = traffic_over view left sent reads sends w.beside_left w.beside_sent w.beside_read_faults w.beside_send_faults first old new opened.opens.beside_is in
     let T : Traffic → Type 0 = λ x. DeriveEnds (view first) (view new) x c.draw_lines-end.result in
     let D : g.row.W.Denot → Type 0 = λ d. DeriveEnds (view first) (view d) (traffic left sent reads sends first d) c.draw_lines-end.result in

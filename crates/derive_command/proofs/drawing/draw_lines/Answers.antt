@@ -1,4 +1,4 @@
-use Rattle.std.proofs.Common.{◌≡◌, ◌≢◌, ◌≤◌, ◌<◌, ◌^◌, IfSome, None, Some, length, refl, sym, subst}
+use Rattle.std.proofs.Common.{◌≡◌, ◌≢◌, ◌≤◌, ◌<◌, ◌^◌, IfSome, length, refl, sym, subst, inl, inr}
 use Rattle.chart_world.specs.Faults.{CountsFault}
 use Rattle.chart_world.specs.Reading.{IsReadUp}
 use Rattle.line_runs.specs.EndLaws.{came_to_end, causes_so, end_cause, input_long, same_fault}
@@ -8,15 +8,17 @@ use Rattle.run_ends.specs.declared.ending.End.TheVariants.{Done, InputTooLong}
 use Rattle.series_store.specs.Shown as shown
 use Rattle.store_commands.specs.Sides.{side_of}
 use Rattle.derive_command.specs.Doing.{IsCause}
-use Rattle.derive_command.specs.Shown.{EndsOn, FaultsOn}
+use Rattle.derive_command.specs.Answers.{by_book}
+use Rattle.derive_command.specs.Catalogs.{by_memory}
+use Rattle.derive_command.specs.Shown.{EndsOn}
 use Rattle.derive_command.specs.Working.{StandsSo}
-use Rattle.derive_command.proofs.RunLemmas.{ends_told, faults_told, no_faults, none_told}
+use Rattle.derive_command.proofs.RunLemmas.{ends_told, none_told}
 use Rattle.derive_command.proofs.drawing.draw_lines.Goals as goal
 
 pub returns-in_default-clause-ends : goal.returns-in_default-clause-ends
 returns-in_default-clause-ends g c = λ total book told stands.
     let pages = shown.pages c.args.store.now in
-    none_told book (g.P.Streams.left pages) (g.P.Streams.left pages) (g.P.Streams.sent pages)
+    none_told (by_book book) (g.P.Streams.left pages) (g.P.Streams.left pages) (g.P.Streams.sent pages)
 
 pub returns-clause-ends : goal.returns-clause-ends
 returns-clause-ends g c = λ total book told stands.
@@ -25,26 +27,31 @@ returns-clause-ends g c = λ total book told stands.
     let pages = shown.pages c.args.store.now in
     let new = c.run_lines-answer.new.from in
     let e = c.run_lines-answer.ensures in
-    let E : End → Type 0 = λ end. EndsOn g.P.Streams book c.args.store.now new end in
+    let E : End → Type 0 = λ end. EndsOn g.P.Streams (by_book book) c.args.store.now new end in
     subst E (sym c.run_end.ensures)
-    (ends_told book (λ b. StandsSo (shown.IsTold new) (shown.image new) b) (shown.catalog new) (left pages) (left (shown.pages new)) (sent pages) (sent (shown.pages new))
-    (g.P.Streams.pieces pages) (g.P.Streams.pieces (shown.pages new)) c.run_lines-answer.result
-    (e.done (Some book) (told, (total, stands))) (e.stops (Some book) (told, (total, stands))))
+    (ends_told (inl book) (λ k. StandsSo (shown.IsTold new) (shown.image new) (shown.catalog new) k) (side_of g.P.Streams new) (left pages) (left (shown.pages new)) (sent pages)
+    (sent (shown.pages new)) (g.P.Streams.pieces pages) (g.P.Streams.pieces (shown.pages new)) c.run_lines-answer.result
+    (e.done (inl book) (told, (total, stands))) (e.stops (inl book) (told, (total, stands))))
 
-pub returns-in_default-clause-faulty : goal.returns-in_default-clause-faulty
-returns-in_default-clause-faulty g c = no_faults (shown.catalog c.args.store.now) (g.P.Streams.left (shown.pages c.args.store.now))
+pub returns-in_default-clause-lines : goal.returns-in_default-clause-lines
+returns-in_default-clause-lines g c =
+    let store = c.args.store.now in
+    let pages = shown.pages store in
+    none_told (by_memory (shown.catalog store) (side_of g.P.Streams store)) (g.P.Streams.left pages) (g.P.Streams.left pages) (g.P.Streams.sent pages)
 
-pub returns-clause-faulty : goal.returns-clause-faulty
-returns-clause-faulty g c =
+pub returns-clause-lines : goal.returns-clause-lines
+returns-clause-lines g c =
     let left = g.P.Streams.left in
     let sent = g.P.Streams.sent in
     let old = c.args.store.now in
     let pages = shown.pages old in
     let new = c.run_lines-answer.new.from in
-    let F : End → Type 0 = λ end. FaultsOn g.P.Streams old new end in
-    subst F (sym c.run_end.ensures)
-    (faults_told (λ b. StandsSo (shown.IsTold new) (shown.image new) b) (shown.catalog new) (left pages) (left (shown.pages new)) (sent pages) (sent (shown.pages new))
-    (g.P.Streams.pieces pages) (g.P.Streams.pieces (shown.pages new)) c.run_lines-answer.result (c.run_lines-answer.ensures.stops None tt))
+    let e = c.run_lines-answer.ensures in
+    let E : End → Type 0 = λ end. EndsOn g.P.Streams (by_memory (shown.catalog old) (side_of g.P.Streams new)) old new end in
+    subst E (sym c.run_end.ensures)
+    (ends_told (inr (shown.catalog old)) (λ k. StandsSo (shown.IsTold new) (shown.image new) (shown.catalog new) k) (side_of g.P.Streams new) (left pages) (left (shown.pages new)) (sent pages)
+    (sent (shown.pages new)) (g.P.Streams.pieces pages) (g.P.Streams.pieces (shown.pages new)) c.run_lines-answer.result
+    (e.done (inr (shown.catalog old)) refl) (e.stops (inr (shown.catalog old)) refl))
 
 pub returns-clause-within : goal.returns-clause-within
 returns-clause-within g c =

@@ -5,8 +5,8 @@ use Rattle.plain_chart.proofs.Charted.{charted}
 use Rattle.row_chart.proofs.Picture.{raster_of_kept}
 use Rattle.row_chart.proofs.drawing.chart_of_rows.Goals as goal
 
-pub returns : goal.returns
-returns c = λ axis slots step own.
+pub returns-clause-chart : goal.returns-clause-chart
+returns-clause-chart c = λ axis slots step own.
     let low_fits : SFits w64 c.args.range.lo = search rules in
     let high_fits : SFits w64 c.args.range.hi = search rules in
     charted c.args.grid c.args.range (kept c.args.grid axis slots) c.in_ok-bitmap.bitmap c.draw_rows.new.bitmap c.w.result c.h.result

@@ -10,5 +10,5 @@ returns-clause-answer g c = λ total book told stands on.
       values = rows.values;
       range = c.shown_range-range.result;
       shows = c.shown_range-range.ensures.shows c.args.grid (kept c.args.grid rows.axis rows.sums) rows.rows_are;
-      chart = c.in_ok-bitmap.ensures rows.axis rows.sums rows.step rows.rows_are;
+      chart = c.in_ok-bitmap.ensures.chart rows.axis rows.sums rows.step rows.rows_are;
     }

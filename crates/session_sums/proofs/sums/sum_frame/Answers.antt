@@ -40,7 +40,7 @@ returns-in-Err-rows_of_sum-clause-cause g c =
     let old = c.args.store.now in
     let new = c.rows_of_sum.new.store in
     let R : Result Frame ServiceError → Type 0 = λ r. IfErr r (λ e. IsSumCause e (shown.IsTold new) (shown.total old) (shown.view old) (shown.view new)) in
-    subst R (sym c.error_reply.ensures.reply) (error_cause c.in-Err-rows_of_sum.error (shown.IsTold new) (shown.total old) (shown.view old) (shown.view new) c.in-Err-rows_of_sum.ensures.cause)
+    subst R (sym c.error_reply.ensures.reply) (error_cause _ _ c.in-Err-rows_of_sum.error (shown.IsTold new) (shown.total old) (shown.view old) (shown.view new) c.in-Err-rows_of_sum.ensures.cause)
 
 pub returns-in-Err-rows_of_sum-clause-faults : goal.returns-in-Err-rows_of_sum-clause-faults
 returns-in-Err-rows_of_sum-clause-faults g c =
