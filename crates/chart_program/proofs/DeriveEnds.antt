@@ -13,6 +13,7 @@ use Rattle.store_commands.specs.Traffic.{Traffic}
 use Rattle.stored_book.specs.Damage.{IsBadForRequest}
 use Rattle.store_commands.specs.Damaged.{IsDamagedLater}
 use Rattle.derive_command.specs.Derived.{IsBadForChart, DeriveEnds, DerivesTaken, DerivesToRefused, IsDeriveCause}
+use Rattle.derive_command.specs.Answers.{by_book}
 use Rattle.derive_command.specs.Lines.{DrawsToNumber, EndsSo}
 use Rattle.program_words.specs.declared.words.Command.TheVariants.{Derive}
 use Rattle.chart_program.specs.CommandStatuses.{codes_of}
@@ -39,7 +40,7 @@ by_request old new place is = record {
 }
 
 -- a line that is refused, by its place
-refused : (old : View) (left before now : Option (List ℕ)) (at number : ℕ) → IfSome left (λ input. OfBook (page_count old.size) old (λ total book. DrawsToNumber book input before now at number))
+refused : (old : View) (left before now : Option (List ℕ)) (at number : ℕ) → IfSome left (λ input. OfBook (page_count old.size) old (λ total book. DrawsToNumber (by_book book) input before now at number))
     → IfSome left (λ input. DerivesToRefused (page_count old.size) old input (refused_at at number) before now)
 refused old None before now at number all = tt
 refused old (Some input) before now at number all = λ total book holds.
@@ -50,14 +51,19 @@ module _ (old new : View) (left left' before now : Option (List ℕ)) (faults : 
   abbrev passed : Traffic
   passed = record { left = left; left_now = left'; sent = before; sent_now = now; reads = faults.reads; reads_now = faults.reads_now; sends = faults.sends; sends_now = faults.sends_now }
 
-  derive_came : (end : End) → IsDeriveCause end old new passed → IfSome left (λ input. OfBook (page_count old.size) old (λ total book. EndsSo book input left' before now end)) → Came Derive old new left left' before now faults end
+  derive_came : (end : End) → IsDeriveCause end old new passed → IfSome left (λ input. OfBook (page_count old.size) old (λ total book. EndsSo (by_book book) input left' before now end)) → Came Derive old new left left' before now faults end
   derive_came Done cause sent = (cause, sent, tt)
   derive_came NoMemory cause sent = sent
   derive_came ReadFault cause sent = (cause, taken old left left' before now sent)
   derive_came SendFault cause sent = (cause, sent)
   derive_came DiskFault cause sent = (cause, sent)
   derive_came (DamagedBlock block) cause sent = (inl cause.0, sent, inl (cause.0.0, cause.1))
-  derive_came (DamagedPage page) cause sent = (inr cause, sent, inr (by_request old new (block_of page) cause))
+  derive_came (DamagedPage page) cause sent = (inr cause, never left sent, inr (by_request old new (block_of page) cause))
+    where
+      never : (input : Option (List ℕ)) → IfSome input (λ bytes. OfBook (page_count old.size) old (λ total book. EndsSo (by_book book) bytes left' before now (DamagedPage page)))
+          → IfSome input (λ bytes. OfBook (page_count old.size) old (λ total book. ⊥))
+      never None all = tt
+      never (Some bytes) all = λ total book holds. (all total book holds).damages.damaged
   derive_came (BadInput at) cause sent = sent
   derive_came InputTooLong cause sent = told_long left _ cause sent
   derive_came (TooSmall blocks) cause sent = cause

@@ -3,6 +3,7 @@ use Rattle.std.proofs.Common.{ℕ, List, IfSome, ap, arith}
 use Rattle.block_disk.specs.View.{View}
 use Rattle.chart_world.specs.LineLaws.{told_so}
 use Rattle.derive_command.specs.Derived.{DeriveEnds, DerivesToRefused, IsDeriveCause}
+use Rattle.derive_command.specs.Answers.{by_book}
 use Rattle.derive_command.specs.Lines.{EndsSo}
 use Rattle.derive_command.proofs.GoodLemmas.{bad_never, refused_never}
 use Rattle.gate_pages.specs.Journal.{page_count}
@@ -22,7 +23,7 @@ module _ (old new : View) (t : Traffic) where
 
   -- what was sent for an input, by the book that the disk holds
   abbrev Sends : End → List ℕ → Type 0
-  Sends end input = OfBook (page_count old.size) old (λ total book. EndsSo book input t.left_now t.sent t.sent_now end)
+  Sends end input = OfBook (page_count old.size) old (λ total book. EndsSo (by_book book) input t.left_now t.sent t.sent_now end)
 
   -- a line that is refused, by its place
   refused : (offset number : ℕ) (input : List ℕ) → Sends (RefusedLine offset number) input → DerivesToRefused (page_count old.size) old input (refused_at offset number) t.sent t.sent_now
@@ -37,7 +38,8 @@ module _ (old new : View) (t : Traffic) where
   derive_does SendFault cause sent = sent
   derive_does DiskFault cause sent = sent
   derive_does (DamagedBlock block) cause sent = (record { at_first = cause.0; took_nothing = cause.1.0; sent_nothing = cause.1.1 }, sent)
-  derive_does (DamagedPage page) cause sent = (cause, sent)
+  derive_does (DamagedPage page) cause sent =
+      (cause, told_so (Sends (DamagedPage page)) (λ input. OfBook (page_count old.size) old (λ total book. ⊥)) t.left (λ input is total book holds. (is total book holds).damages.damaged) sent)
   derive_does (BadInput offset) cause sent = sent
   derive_does InputTooLong cause sent = (cause, sent)
   derive_does (TooSmall blocks) cause sent = cause
@@ -53,6 +55,7 @@ module _ (old new : View) (t : Traffic) where
   derive_good SendFault cause input sent r = tt
   derive_good DiskFault cause input sent r = absurd (r.whole cause)
   derive_good (BadInput offset) cause input sent r = absurd (bad_never r.book input t.sent t.sent_now offset r.text r.answers (sent r.total r.book r.holds))
+  derive_good (DamagedPage page) cause input sent r = absurd (sent r.total r.book r.holds).damages.damaged
   derive_good InputTooLong cause input sent r = absurd (omega (arith, r.short, (sent r.total r.book r.holds).past))
   derive_good (RefusedLine offset number) cause input sent r =
       let is = sent r.total r.book r.holds in
@@ -65,6 +68,6 @@ module _ (old new : View) (t : Traffic) where
     store = record { goes_on = e.goes_on; away = away };
     kept = record { holds = e.holds; crash = e.crash };
     few = e.few;
-    line = e.faulty;
+    lines = e.lines;
     good = told_so (Sends end) (λ input. AreDerived old new input → IsDoneOrCut end) t.left (derive_good end e.cause) e.sent;
   }

@@ -4,7 +4,9 @@ use Rattle.block_disk.specs.Counts.{HasRisen}
 use Rattle.block_disk.specs.View.{View}
 use Rattle.chart_service.specs.Serving.{told}
 use Rattle.derive_command.specs.Derived.{IsBadForChart, DerivesAll, DerivesFirst, DerivesPart, DerivesTaken, DerivesToBad, DerivesToRefused, DerivesWithin}
-use Rattle.derive_command.specs.Lines.{AreAnswers, Faults}
+use Rattle.derive_command.specs.Answers.{IsAnswer}
+use Rattle.derive_command.specs.Catalogs.{by_disk}
+use Rattle.derive_command.specs.Lines.{AreAnswers, EndsAnyhow}
 use Rattle.disk_store.specs.Held.{HoldsBook}
 use Rattle.gate_pages.specs.Journal.{page_count}
 use Rattle.run_ends.specs.Statuses.{refused_at}
@@ -14,7 +16,6 @@ use Rattle.run_ends.specs.declared.ending.End.TheVariants.{BadInput, InputTooLon
 use Rattle.series_book.specs.declared.one_series.Series.{Series}
 use Rattle.chart_program.specs.Course.{Course, FoundDamaged, FoundPage, HasFewBlocks, HeldNoBook, IsDoneOrCut, IsLonger, IsShort, KeptBook, OfInput, WritesLittle}
 use Rattle.chart_program.specs.Course.{OverStore, Told, count}
-use Rattle.store_commands.specs.Lacking.{LacksRecord}
 
 -- what it sent, by how it ended
 abbrev pub DeriveDoes : Course → End → Type 0
@@ -39,15 +40,15 @@ pub record AreDerived (old new : View) (input : List ℕ) : Type 0 where
   pub book : List Series
   pub holds : HoldsBook (page_count old.size) total book old
   pub text : List ℕ
-  pub answers : AreAnswers book (told input) text
+  pub answers : AreAnswers (IsAnswer book) (told input) text
   pub whole : HasRisen old.faults new.faults → ⊥
 
--- The same, and what is so however it ended. Whatever the disk holds, a line that is told is the first that is no request, or names
--- a series that the catalog lacks, where it is refused for that.
+-- The same, and what is so however it ended. Whatever the disk holds, a picture of its size answered each line before the one that
+-- stopped the run, which is no request, is refused by its numbers and the records, or names the series of the page.
 pub record OfDerive (c : Course) (end : End) : Type 0 where
   pub does : DeriveDoes c end
   pub store : OverStore c end
   pub kept : KeptBook c
-  pub line : OfInput c (λ input. Faults (LacksRecord (count c) c.new) input end)
+  pub lines : OfInput c (λ input. EndsAnyhow (by_disk (count c) c.new) input c.left_now c.sent c.sent_now end)
   pub few : WritesLittle c
   pub good : OfInput c (λ input. AreDerived c.old c.new input → IsDoneOrCut end)
