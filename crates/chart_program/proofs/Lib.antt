@@ -36,6 +36,7 @@ pub mod RetainPage
 pub mod LivePage
 pub mod HostPage
 pub mod ServePage
+pub mod Blamed
 pub mod StorePages
 pub mod StreamPages
 pub mod LoadPage

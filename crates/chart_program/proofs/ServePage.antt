@@ -17,6 +17,7 @@ use Rattle.store_commands.specs.Status.{opening_end}
 use Rattle.store_commands.specs.Traffic.{Traffic}
 use Rattle.chart_program.specs.CommandStatuses.{OpensFirst}
 use Rattle.chart_program.specs.Course.{Course, IsDoneOrCut}
+use Rattle.chart_program.specs.Blamed.{IsBlamed}
 use Rattle.chart_program.specs.LineAnswers.{AreDrawnTexts, AreSpellings, NoneIsPassed}
 use Rattle.chart_program.specs.Ended.{status_by}
 use Rattle.chart_program.specs.Run.{OfRun, RejectsKey, RunDoes}
@@ -150,9 +151,9 @@ module _ {T : Type 0} (old new : View) (t : Traffic) (faults : Faults) where
         }
 
   pub of_serve : (answer : Result T LinesEnd) → Did Spelled ⊥ answer → OpensFirst old t answer → TurnsAway old t (status_by answer)
-      → NoneIsPassed AreSpellings (passed old new t) (end_of answer) → OfServe (passed old new t) (end_of answer)
-  of_serve answer s first away none = (serve_does answer s first, serves_lines Spelled ⊥ answer s away, none)
+      → NoneIsPassed AreSpellings (passed old new t) (end_of answer) → IsBlamed AreSpellings (passed old new t) (end_of answer) → OfServe (passed old new t) (end_of answer)
+  of_serve answer s first away none blamed = (serve_does answer s first, serves_lines Spelled ⊥ answer s away, none, blamed)
 
   pub of_run : (answer : Result T LinesEnd) → Did AreTexts (Unit {0}) answer → OpensFirst old t answer → TurnsAway old t (status_by answer)
-      → NoneIsPassed AreDrawnTexts (passed old new t) (end_of answer) → OfRun (passed old new t) (end_of answer)
-  of_run answer s first away none = (run_does answer s first, serves_lines AreTexts (Unit {0}) answer s away, none)
+      → NoneIsPassed AreDrawnTexts (passed old new t) (end_of answer) → IsBlamed AreDrawnTexts (passed old new t) (end_of answer) → OfRun (passed old new t) (end_of answer)
+  of_run answer s first away none blamed = (run_does answer s first, serves_lines AreTexts (Unit {0}) answer s away, none, blamed)

@@ -12,6 +12,7 @@ pub mod CommandStatuses
 pub mod Faulting
 pub mod Course
 pub mod LineAnswers
+pub mod Blamed
 pub mod Replies
 pub mod Plot
 pub mod Load

@@ -6,6 +6,7 @@ use Rattle.chart_frames.specs.Frames.{key_number}
 use Rattle.om3_coeff.specs.declared.key.Key.{Key}
 use Rattle.run_ends.specs.declared.ending.End.{End}
 use Rattle.run_ends.specs.declared.ending.End.TheVariants.{Missing, BadCoefficient}
+use Rattle.chart_program.specs.Blamed.{IsBlamed}
 use Rattle.chart_program.specs.Course.{Course, HeldNoBook, OfInput}
 use Rattle.chart_program.specs.LineAnswers.{AreDrawnTexts, NoneIsPassed}
 use Rattle.chart_program.specs.Serve.{ServeDoes, ServesLines}
@@ -22,6 +23,7 @@ RunDoes c (Missing number) = OfInput c (λ input. HeldNoBook c × RejectsKey c c
 RunDoes c (BadCoefficient number) = OfInput c (λ input. HeldNoBook c × RejectsKey c client.BadCoefficient number)
 RunDoes c end = ServeDoes AreTexts c end
 
--- The texts of the frames are sent; whatever the disk holds, no line was passed over where the command was done.
+-- The texts of the frames are sent. Whatever the disk holds, no line was passed over where the command was done, and a page is
+-- called damaged by the line behind the answered ones.
 abbrev pub OfRun : Course → End → Type 0
-OfRun c end = RunDoes c end × ServesLines AreTexts c end × NoneIsPassed AreDrawnTexts c end
+OfRun c end = RunDoes c end × ServesLines AreTexts c end × NoneIsPassed AreDrawnTexts c end × IsBlamed AreDrawnTexts c end

@@ -9,6 +9,7 @@ use Rattle.run_ends.specs.declared.ending.End.TheVariants.{Done, NoMemory, ReadF
 use Rattle.run_ends.specs.declared.ending.End.TheVariants.{InputTooLong, TooSmall}
 use Rattle.series_book.specs.declared.one_series.Series.{Series}
 use Rattle.stored_book.specs.Damage.{IsBadForRequest}
+use Rattle.chart_program.specs.Blamed.{IsBlamed}
 use Rattle.chart_program.specs.Course.{AtEachMoment, Course, FoundDamaged, FoundPage, HasFewBlocks, HeldNoBook, IsDoneOrCut, IsLonger, IsShort}
 use Rattle.chart_program.specs.Course.{OfInput, OverStore, Told, ToldLeft}
 use Rattle.chart_program.specs.LineAnswers.{AreSpellings, NoneIsPassed}
@@ -46,6 +47,7 @@ pub record ServesLines (IsText : Says) (c : Course) (end : End) : Type 0 where
   pub syncs : OfInput c (SyncsServing c.old c.new)
   pub good : OfInput c (λ input. AreLines c.old c.new input → IsDoneOrCut end)
 
--- The spellings of the frames are sent; whatever the disk holds, no line was passed over where the command was done.
+-- The spellings of the frames are sent. Whatever the disk holds, no line was passed over where the command was done, and a page is
+-- called damaged by the line behind the answered ones.
 abbrev pub OfServe : Course → End → Type 0
-OfServe c end = ServeDoes Spelled c end × ServesLines Spelled c end × NoneIsPassed AreSpellings c end
+OfServe c end = ServeDoes Spelled c end × ServesLines Spelled c end × NoneIsPassed AreSpellings c end × IsBlamed AreSpellings c end

@@ -1,10 +1,11 @@
-ghost use Rattle.std.specs.Prelude.{◌≡◌, []};
+ghost use Rattle.std.specs.Prelude.{◌≡◌, [], IfErr};
 ghost use Rattle.chart_world.specs.Faults.{CountsFault, fault_in};
 ghost use Rattle.gate_pages.specs.Shown.{AreSound, disk};
 ghost use Rattle.series_store.specs.Shown as stored;
 ghost use Rattle.chart_service.specs.Shown as shown;
 ghost use Rattle.store_commands.specs.Status.{code_fault};
 ghost use Rattle.store_commands.specs.Traffic.{traffic};
+ghost use Rattle.chart_program.specs.Blamed.{PagesBlamed, WorldBlames};
 ghost use Rattle.chart_program.specs.CommandStatuses.{OpensFirst};
 ghost use Rattle.chart_program.specs.Ended.{status_by};
 ghost use Rattle.chart_program.specs.Faulting.{run_fault};
@@ -32,6 +33,7 @@ use std::alloc::Global;
 pub fn serve_world<W: World>(alloc: Global, world: W) -> (Result<(), LinesEnd>, W)
     ensures serves { WorldServed Spelled ⊥ (W.view world) (W.view result.1) (traffic W.left W.sent W.read_faults W.send_faults world result.1) result.0 }
     ensures answers { AnswersTold AreSpellings (W.left world) (W.sent world) (W.sent result.1) result.0 }
+    ensures blames { IfErr result.0 (WorldBlames AreSpellings (W.view world) (W.view result.1) (W.left world) (W.sent world) (W.sent result.1)) }
     ensures first { OpensFirst (W.view world) (traffic W.left W.sent W.read_faults W.send_faults world result.1) result.0 }
     ensures faults { CountsFault (code_fault (status_by result.0).code) (W.view world) (W.view result.1) }
 {
@@ -49,6 +51,7 @@ pub fn serve_world<W: World>(alloc: Global, world: W) -> (Result<(), LinesEnd>, 
 pub fn run_world<W: World>(alloc: Global, world: W) -> (Result<(), LinesEnd>, W)
     ensures serves { WorldServed AreTexts (Unit {0}) (W.view world) (W.view result.1) (traffic W.left W.sent W.read_faults W.send_faults world result.1) result.0 }
     ensures answers { AnswersTold AreDrawnTexts (W.left world) (W.sent world) (W.sent result.1) result.0 }
+    ensures blames { IfErr result.0 (WorldBlames AreDrawnTexts (W.view world) (W.view result.1) (W.left world) (W.sent world) (W.sent result.1)) }
     ensures first { OpensFirst (W.view world) (traffic W.left W.sent W.read_faults W.send_faults world result.1) result.0 }
     ensures faults { CountsFault (code_fault (status_by result.0).code) (W.view world) (W.view result.1) }
 {
@@ -66,6 +69,7 @@ fn serve_lines<W: World>(alloc: Global, store: Store<GatePages<W>>) -> (Result<(
     requires { AreSound (stored.pages store) }
     ensures serves { let pages = stored.pages store in PagesServed Spelled ⊥ W.view pages result.1 (traffic W.left W.sent W.read_faults W.send_faults (disk pages) result.1) result.0 }
     ensures answers { AnswersTold AreSpellings (W.left (disk (stored.pages store))) (W.sent (disk (stored.pages store))) (W.sent result.1) result.0 }
+    ensures blames { let pages = stored.pages store in IfErr result.0 (PagesBlamed AreSpellings W.view pages result.1 (W.left (disk pages)) (W.sent (disk pages)) (W.sent result.1)) }
     ensures faults { CountsFault (fault_in run_fault result.0) (W.view (disk (stored.pages store))) (W.view result.1) }
 {
     match Service::new(alloc, store) {
@@ -78,6 +82,7 @@ fn run_lines<W: World>(alloc: Global, store: Store<GatePages<W>>) -> (Result<(),
     requires { AreSound (stored.pages store) }
     ensures serves { let pages = stored.pages store in PagesServed AreTexts (Unit {0}) W.view pages result.1 (traffic W.left W.sent W.read_faults W.send_faults (disk pages) result.1) result.0 }
     ensures answers { AnswersTold AreDrawnTexts (W.left (disk (stored.pages store))) (W.sent (disk (stored.pages store))) (W.sent result.1) result.0 }
+    ensures blames { let pages = stored.pages store in IfErr result.0 (PagesBlamed AreDrawnTexts W.view pages result.1 (W.left (disk pages)) (W.sent (disk pages)) (W.sent result.1)) }
     ensures faults { CountsFault (fault_in run_fault result.0) (W.view (disk (stored.pages store))) (W.view result.1) }
 {
     match Service::new(alloc, store) {
@@ -95,6 +100,7 @@ fn serve_service<W: World>(
     requires alone { shown.sessions service ≡ [] }
     ensures serves { let pages = shown.pages service in PagesServed Spelled ⊥ W.view pages result.1 (traffic W.left W.sent W.read_faults W.send_faults (disk pages) result.1) result.0 }
     ensures answers { AnswersTold AreSpellings (W.left (disk (shown.pages service))) (W.sent (disk (shown.pages service))) (W.sent result.1) result.0 }
+    ensures blames { let pages = shown.pages service in IfErr result.0 (PagesBlamed AreSpellings W.view pages result.1 (W.left (disk pages)) (W.sent (disk pages)) (W.sent result.1)) }
     ensures faults { CountsFault (fault_in run_fault result.0) (W.view (disk (shown.pages service))) (W.view result.1) }
 {
     let answer = serve(alloc, &mut service);
@@ -109,6 +115,7 @@ fn run_service<W: World>(
     requires alone { shown.sessions service ≡ [] }
     ensures serves { let pages = shown.pages service in PagesServed AreTexts (Unit {0}) W.view pages result.1 (traffic W.left W.sent W.read_faults W.send_faults (disk pages) result.1) result.0 }
     ensures answers { AnswersTold AreDrawnTexts (W.left (disk (shown.pages service))) (W.sent (disk (shown.pages service))) (W.sent result.1) result.0 }
+    ensures blames { let pages = shown.pages service in IfErr result.0 (PagesBlamed AreDrawnTexts W.view pages result.1 (W.left (disk pages)) (W.sent (disk pages)) (W.sent result.1)) }
     ensures faults { CountsFault (fault_in run_fault result.0) (W.view (disk (shown.pages service))) (W.view result.1) }
 {
     one_frame_a_spelling();

@@ -8,6 +8,7 @@ ghost use Rattle.chart_service.specs.Answering.{SendsAll, LastsBy, ReadsByLines,
 ghost use Rattle.chart_service.specs.Knowing.{KnowsOpen};
 ghost use Rattle.chart_service.specs.Serving.{Serves};
 ghost use Rattle.chart_service.specs.Shown as shown;
+ghost use Rattle.chart_program.specs.Blamed.{ShowBlamesOf};
 ghost use Rattle.chart_program.specs.Faulting.{run_fault};
 ghost use Rattle.chart_program.specs.Known.{Follows, EndsKnown, ShowsBy};
 ghost use Rattle.chart_program.specs.LineAnswers.{ShowsEach};
@@ -68,6 +69,8 @@ pub fn run_on<P: PageWorld, V: Show>(
     ensures named { ShowsBy V.gives show.old show.new (shown.sessions service.old) (P.sent (shown.pages service.old)) (P.sent (shown.pages service.new)) result }
     // with `Ok` there is one a line, and each may answer its line
     ensures answers { OnOk result (IfSome (P.left (shown.pages service.old)) (λ input. ShowsEach V.gives show.old show.new (shown.sessions service.old) input (P.sent (shown.pages service.old)) (P.sent (shown.pages service.new)))) }
+    // a page is called damaged by the line behind the answered ones
+    ensures blames { IfErr result (ShowBlamesOf P.left P.sent V.gives show.old show.new service.old service.new) }
     ensures bad { IfErr result (EndsAtBad (shown.IsTold service.new) (shown.view service.new).size (shown.image service.new)) }
     ensures serves { Serves (shown.IsTold service.old) (shown.IsTold service.new) (shown.view service.old) (shown.view service.new) }
     ensures goes_on { GoesOn (shown.under service.old) (shown.under service.new) }

@@ -11,6 +11,8 @@ use Rattle.chart_program.proofs.Telling.{texts_none}
 use Rattle.chart_program.proofs.LinesServed.{made_none}
 use Rattle.store_commands.proofs.Stores.{store_disk, store_count, store_sound}
 use Rattle.chart_program.specs.LineAnswers.{AnswersTold, AreDrawnTexts}
+use Rattle.std.proofs.Common.{IfErr}
+use Rattle.chart_program.specs.Blamed.{RunBlames}
 use Rattle.chart_program.proofs.lines.run_lines.Goals as goal
 
 pub run_service-requires-clause-sound : goal.run_service-requires-clause-sound
@@ -64,3 +66,16 @@ returns-in-Ok-clause-answers g c =
     let s = g.W.Streams in
     let D : g.row.W.Denot → Type 0 = λ d. AnswersTold AreDrawnTexts (s.left d) (s.sent d) (s.sent c.run_service.result.1) c.run_service.result.0 in
     subst D (store_disk c.in-Ok.service.store c.args.store c.in-Ok.ensures.store) c.run_service.ensures.answers
+
+pub returns-in-Ok-clause-blames : goal.returns-in-Ok-clause-blames
+returns-in-Ok-clause-blames g c =
+    let view = g.W.Disk.view in
+    let s = g.W.Streams in
+    let store = c.args.store in
+    let made = c.in-Ok.service.store in
+    let disk = (stored.pages store).disk in
+    let new = c.run_service.result.1 in
+    let answer = c.run_service.result.0 in
+    let D : g.row.W.Denot → Type 0 = λ d. IfErr answer (RunBlames AreDrawnTexts (stored.pages made).count (view new) (s.left d) (s.sent d) (s.sent new)) in
+    let C : ℕ → Type 0 = λ n. IfErr answer (RunBlames AreDrawnTexts n (view new) (s.left disk) (s.sent disk) (s.sent new)) in
+    subst C (store_count made store c.in-Ok.ensures.store) (subst D (store_disk made store c.in-Ok.ensures.store) c.run_service.ensures.blames)

@@ -19,6 +19,9 @@ use Rattle.store_commands.proofs.Held.{rests_new}
 use Rattle.store_commands.proofs.Stores.{store_disk, store_sound}
 use Rattle.chart_program.specs.LineAnswers.{AnswersTold, AreDrawnTexts}
 use Rattle.chart_program.proofs.LineAnswers.{each_drawn}
+use Rattle.std.proofs.Common.{IfErr}
+use Rattle.chart_program.specs.Blamed.{RunBlames}
+use Rattle.chart_program.proofs.Blamed.{drawn_blames}
 use Rattle.chart_program.proofs.lines.run_service.Goals as goal
 
 pub returns-in-Ok-clause-serves : goal.returns-in-Ok-clause-serves
@@ -97,3 +100,20 @@ returns-in-Ok-clause-answers g c =
     subst D (sym same_disk)
     (each_drawn c.one_frame_a_spelling.ensures c.in-Ok.screen c.run_on-answer.new.show c.args.service.sessions left (sent disk)
     (sent (shown.pages after).disk) answer c.in-Ok.ensures c.requires.alone c.run_on-answer.ensures.answers)
+
+pub returns-in-Ok-clause-blames : goal.returns-in-Ok-clause-blames
+returns-in-Ok-clause-blames g c =
+    let view = g.W.Disk.view in
+    let sent = g.W.Streams.sent in
+    let pages = shown.pages c.args.service in
+    let disk = pages.disk in
+    let left = g.W.Streams.left disk in
+    let after = c.run_on-answer.new.service in
+    let end_pages = shown.pages after in
+    let answer = c.run_on-answer.result in
+    let made = c.run_on-answer.ensures in
+    let same_disk = c.disk_of.ensures.disk ∙ store_disk c.into_store.result after.store c.into_store.ensures in
+    let D : g.row.W.Denot → Type 0 = λ d. IfErr answer (RunBlames AreDrawnTexts pages.count (view d) left (sent disk) (sent d)) in
+    subst D (sym same_disk)
+    (drawn_blames c.args.service.sessions (sent disk) (sent end_pages.disk) pages.count end_pages.count (view end_pages.disk) c.requires.alone made.serves.size
+    c.one_frame_a_spelling.ensures c.in-Ok.screen c.run_on-answer.new.show c.in-Ok.ensures left answer made.blames)

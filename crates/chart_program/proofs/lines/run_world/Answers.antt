@@ -16,6 +16,7 @@ use Rattle.store_commands.specs.Traffic.{traffic}
 use Rattle.chart_program.proofs.FirstOpened.{first_so}
 use Rattle.chart_program.specs.LineAnswers.{AreDrawnTexts}
 use Rattle.chart_program.proofs.LineAnswers.{told_opened}
+use Rattle.chart_program.proofs.Blamed.{opened_blames}
 use Rattle.chart_program.proofs.lines.run_world.Goals as goal
 
 pub returns-in-Ok-clause-serves : goal.returns-in-Ok-clause-serves
@@ -104,3 +105,19 @@ returns-in-Ok-clause-answers g c =
     (sym (w.beside_left mid) ∙ ap (λ (b : Beside). b.left) beside ∙ w.beside_left old)
     (sym (w.beside_sent mid) ∙ ap (λ (b : Beside). b.sent) beside ∙ w.beside_sent old)
     c.of_answering.ensures c.run_lines-answer.ensures.answers
+
+pub returns-in-Ok-clause-blames : goal.returns-in-Ok-clause-blames
+returns-in-Ok-clause-blames g c =
+    let view = g.W.Disk.view in
+    let left = g.W.Streams.left in
+    let sent = g.W.Streams.sent in
+    let old = c.args.world in
+    let mid = (stored.pages c.in-Ok.store).disk in
+    let new = c.run_lines-answer.result.1 in
+    let beside = c.in-Ok.ensures.opens.beside_is in
+    let w = g.met.W.World in
+    opened_blames AreDrawnTexts (view old) (view new) (stored.pages c.in-Ok.store).count (left mid) (left old) (sent mid) (sent old) (sent new) c.run_lines-answer.result.0 c.of_answering.result
+    c.in-Ok.ensures.count
+    (sym (w.beside_left mid) ∙ ap (λ (b : Beside). b.left) beside ∙ w.beside_left old)
+    (sym (w.beside_sent mid) ∙ ap (λ (b : Beside). b.sent) beside ∙ w.beside_sent old)
+    c.of_answering.ensures c.run_lines-answer.ensures.blames

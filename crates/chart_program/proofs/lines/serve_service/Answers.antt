@@ -17,6 +17,9 @@ use Rattle.store_commands.proofs.Held.{rests_new}
 use Rattle.store_commands.proofs.Stores.{store_disk, store_sound}
 use Rattle.chart_program.specs.LineAnswers.{AnswersTold, AreSpellings}
 use Rattle.chart_program.proofs.LineAnswers.{each_spelled, told_again}
+use Rattle.std.proofs.Common.{IfErr}
+use Rattle.chart_program.specs.Blamed.{RunBlames}
+use Rattle.chart_program.proofs.Blamed.{spelled_blames}
 use Rattle.chart_program.proofs.lines.serve_service.Goals as goal
 
 pub returns-clause-serves : goal.returns-clause-serves
@@ -74,3 +77,21 @@ returns-clause-answers g c =
     told_again AreSpellings left (sent disk) (sent c.disk_of.result) (served answer) c.of_serving.result c.of_serving.ensures
     (subst D (sym same_disk)
     (each_spelled c.args.service.sessions left (sent disk) (sent (shown.pages after).disk) answer c.requires.alone c.serve-answer.ensures.answers))
+
+pub returns-clause-blames : goal.returns-clause-blames
+returns-clause-blames g c =
+    let view = g.W.Disk.view in
+    let sent = g.W.Streams.sent in
+    let pages = shown.pages c.args.service in
+    let disk = pages.disk in
+    let left = g.W.Streams.left disk in
+    let after = c.serve-answer.new.service in
+    let end_pages = shown.pages after in
+    let answer = c.serve-answer.result in
+    let made = c.serve-answer.ensures in
+    let same_disk = c.disk_of.ensures.disk ∙ store_disk c.into_store.result after.store c.into_store.ensures in
+    let D : g.row.W.Denot → Type 0 = λ d. IfErr (served answer) (RunBlames AreSpellings pages.count (view d) left (sent disk) (sent d)) in
+    let A : Result (Unit {0}) RunEnd → Type 0 = λ r. IfErr r (RunBlames AreSpellings pages.count (view c.disk_of.result) left (sent disk) (sent c.disk_of.result)) in
+    subst A (sym c.of_serving.ensures)
+    (subst D (sym same_disk)
+    (spelled_blames c.args.service.sessions (sent disk) (sent end_pages.disk) pages.count end_pages.count (view end_pages.disk) c.requires.alone made.serves.size left answer made.blames))

@@ -17,6 +17,8 @@ use Rattle.chart_program.proofs.Running.{done_shown, ends_shown, lasts_shown, ru
 use Rattle.chart_program.proofs.ShownFrames.{named_shown}
 use Rattle.chart_program.proofs.LineAnswers.{each_shown}
 use Rattle.chart_program.specs.LineAnswers.{ShowsEach}
+use Rattle.chart_program.specs.Blamed.{ShowBlames}
+use Rattle.chart_program.proofs.Blamed.{shown_blames}
 use Rattle.chart_program.proofs.run.run_on.Goals as goal
 
 pub returns-clause-done : goal.returns-clause-done
@@ -133,3 +135,17 @@ returns-clause-answers g c =
     let w = c.answer_lines-answer.new.kept in
     subst (λ r. OnOk r (IfSome left (λ input. ShowsEach gives v w old.sessions input before now))) (sym c.of_answers.ensures)
     (each_shown gives v w old.sessions before now left new.sessions c.answer_lines-answer.result c.answer_lines-answer.ensures.gives)
+
+pub returns-clause-blames : goal.returns-clause-blames
+returns-clause-blames g c =
+    let gives = g.V.Show.gives in
+    let old = c.args.service.now in
+    let new = c.answer_lines-answer.new.service in
+    let left = g.P.Streams.left (shown.pages old) in
+    let before = g.P.Streams.sent (shown.pages old) in
+    let now = g.P.Streams.sent (shown.pages new) in
+    let v = c.args.show.now in
+    let w = c.answer_lines-answer.new.kept in
+    let unmade = c.answer_lines-answer.ensures.known _ (all_follow gives) (all_known v old.sessions) in
+    subst (λ r. IfErr r (ShowBlames gives v w old.sessions left before now (shown.IsTold new) (shown.view new).size (shown.image new))) (sym c.of_answers.ensures)
+    (shown_blames gives v w old.sessions before now (shown.IsTold new) (shown.view new).size (shown.image new) left c.answer_lines-answer.result unmade c.answer_lines-answer.ensures.blames)

@@ -7,6 +7,7 @@ use Rattle.chart_program.specs.Ended.{status_by}
 use Rattle.chart_program.proofs.CommandCodes.{serve_codes}
 use Rattle.chart_program.proofs.FirstOpened.{away_served, barred_served}
 use Rattle.chart_program.specs.LineAnswers.{AreSpellings}
+use Rattle.chart_program.proofs.Blamed.{is_blamed}
 use Rattle.chart_program.proofs.NonePassed.{none_passed}
 use Rattle.chart_program.proofs.ServePage.{end_of, of_serve, status_is}
 use Rattle.chart_program.proofs.serving.serve_status.Goals as goal
@@ -59,7 +60,7 @@ returns-clause-does g c =
     let answer = c.serve_world-answer.result.0 in
     let e = c.serve_world-answer.ensures in
     let away = away_served ⊥ (view old) (view new) t faults answer (status_by answer) refl e.first e.serves.cause in
-    (end_of answer, c.lines_status.ensures ∙ status_is answer, of_serve (view old) (view new) t faults answer e.serves e.first away (none_passed AreSpellings (view old) (view new) t answer e.answers))
+    (end_of answer, c.lines_status.ensures ∙ status_is answer, of_serve (view old) (view new) t faults answer e.serves e.first away (none_passed AreSpellings (view old) (view new) t answer e.answers) (is_blamed AreSpellings (view old) (view new) t answer e.blames))
 
 pub returns-clause-own : goal.returns-clause-own
 returns-clause-own g c =
