@@ -15,10 +15,11 @@ use Rattle.chart_service.specs.Stepping.{IsBadPage}
 use Rattle.chart_service.specs.declared.failure.ServiceError.TheVariants as step
 use Rattle.chart_world.specs.Fronts.{IsWhole, says}
 use Rattle.chart_world.specs.LineLaws.{lines_none, told_behind}
+use Rattle.gate_pages.specs.Journal.{pages_of}
 use Rattle.host_lines.specs.Grammar.{host_line}
 use Rattle.host_lines.specs.declared.asked.HostLine.{HostLine}
 use Rattle.host_lines.specs.declared.asked.HostLine.TheVariants.{List as ListLine, Values, Sum, Sweep, Bad, Other}
-use Rattle.host_replies.specs.Replies.{IsReportCause}
+use Rattle.host_replies.specs.Replies.{IsBadForReport, IsReportCause}
 use Rattle.line_runs.specs.Given.{AreBeforeWithin, Given, IsNextWithin, Line, Pause, End as EndOf}
 use Rattle.line_runs.specs.Runs.{StopsSoWithin}
 use Rattle.line_runs.specs.Ends.{run_end, stop_end}
@@ -37,6 +38,9 @@ use Rattle.series_book.specs.declared.edits.Edit.{Edit}
 use Rattle.served_lines.proofs.BlameLemmas.{more_blamed}
 use Rattle.served_lines.proofs.Carried.{lines_all, said_first, told_are}
 use Rattle.served_lines.specs.Turning.{lines_of}
+use Rattle.stored_book.proofs.CurrentLemmas.{spelled_current}
+use Rattle.stored_book.specs.Damage.{IsBadForRequest}
+use Rattle.stored_book.specs.Standing.{book_pages}
 use Rattle.hosted_lines.specs.Answers.{MayAnswerHost, Sends, Watched, followed_behind}
 use Rattle.hosted_lines.specs.Blaming.{BlamesAlone, BlamesBy, BlamesFirst, BlamesHost, BlamesNext, FirstBlames, NextBlames, OfDamaged}
 use Rattle.hosted_lines.specs.Hosting.{FramesStop}
@@ -45,7 +49,7 @@ use Rattle.hosted_lines.specs.Standing.{Any, DoesFrom, Named, Stand, StopsFrom}
 use Rattle.hosted_lines.proofs.AnswersLemmas.{sends_host}
 use Rattle.hosted_lines.proofs.AnyLemmas.{answered}
 use Rattle.hosted_lines.proofs.AskLemmas.{asks_nothing}
-use Rattle.hosted_lines.proofs.BlameLemmas.{blames_before, blames_behind, blames_so, told_blames}
+use Rattle.hosted_lines.proofs.BlameLemmas.{blames_before, blames_behind, blames_so, line_current, told_blames}
 use Rattle.hosted_lines.proofs.RowLemmas.{ArePassed}
 
 -- frames that weren't all sent call no page damaged
@@ -212,3 +216,54 @@ module _ (limit : ℕ) where
     pub all_blames : {T : Type 0} (answer : Result T (LinesStop End)) (o : Option (List ℕ)) → IfErr answer (StopsSoWithin limit DoesFrom Stopping IsNow (Any begin) o left before now pieces pieces') → Blamed o (run_end answer)
     all_blames {T} (Ok v) o stops = tt
     all_blames {T} (Err why) o stops = stopped o why stops
+
+-- ---- of a run that begins with no session, on a disk
+
+alone_more : (asked : HostLine) (text : List ℕ) (one other : ℕ → ℕ → Type 0) (is_told : Type 0) (count : ℕ) (image : Image) (page : ℕ) → ((n id : ℕ) → one n id → other n id)
+    → BlamesAlone asked text one is_told count image page → BlamesAlone asked text other is_told count image page
+alone_more ListLine text one other is_told count image page more blames = blames
+alone_more (Values name t0 t1) text one other is_told count image page more blames = blames
+alone_more (Sum session request) text one other is_told count image page more blames = blames
+alone_more (Sweep rule) text one other is_told count image page more blames = blames
+alone_more (Bad at) text one other is_told count image page more blames = blames
+alone_more Other text one other is_told count image page more blames = more_blamed (Some text) one other is_told count image page more blames
+
+host_more : (line : Option (List ℕ)) (one other : ℕ → ℕ → Type 0) (is_told : Type 0) (count : ℕ) (image : Image) (page : ℕ) → ((n id : ℕ) → one n id → other n id)
+    → BlamesHost line one is_told count image page → BlamesHost line other is_told count image page
+host_more None one other is_told count image page more blames = absurd blames
+host_more (Some text) one other is_told count image page more blames = alone_more (host_line text) text one other is_told count image page more blames
+
+pub host_told : (is_told : Type 0) (count : ℕ) (image : Image) (e : End) (o : Option (List ℕ)) (old : Watched) (before now : Option (List ℕ)) → old.sessions ≡ [] → old.followed ≡ []
+    → OfDamaged (λ page. IfSome o (λ input. BlamesFirst MayAnswerHost followed_behind BlamesHost (told input) old before now is_told count image page)) e
+    → OfDamaged (λ page. IfSome o (λ input. BlamesNext MayAnswerHost followed_behind BlamesHost input before now is_told count image page)) e
+host_told is_told count image e o old before now none alone blames =
+    told_blames MayAnswerHost followed_behind BlamesHost is_told count image (λ page line one other more blamed. host_more line one other is_told count image page more blamed) e o old before now none alone blames
+
+-- what page 0 says of the pages of a disk, they say where they are of version 2
+report_current : (asked : HostLine) (count : ℕ) (image : Image) (page : ℕ) → IsBadForReport asked count (pages_of count image) page → IsBadForReport asked count (book_pages count image) page
+report_current ListLine count image page bad = absurd bad
+report_current (Values name t0 t1) count image page bad =
+    let Says : Image → Type 0 = λ pages. IsBadForReport (Values name t0 t1) count pages page in subst Says (sym (spelled_current (pages_of count image) bad.numbers bad.keeps.spelled)) bad
+report_current (Sum session request) count image page bad =
+    let Says : Image → Type 0 = λ pages. IsBadForReport (Sum session request) count pages page in subst Says (sym (spelled_current (pages_of count image) bad.numbers bad.keeps.spelled)) bad
+report_current (Sweep rule) count image page bad = absurd bad
+report_current (Bad at) count image page bad = absurd bad
+report_current Other count image page bad = absurd bad
+
+request_current : (count : ℕ) (image : Image) (page : ℕ) → IsBadForRequest count (pages_of count image) page → IsBadForRequest count (book_pages count image) page
+request_current count image page bad =
+    let Says : Image → Type 0 = λ pages. IsBadForRequest count pages page in subst Says (sym (spelled_current (pages_of count image) bad.numbers bad.keeps.spelled)) bad
+
+alone_current : (asked : HostLine) (text : List ℕ) (last : ℕ → ℕ → Type 0) (is_told : Type 0) (count : ℕ) (image : Image) (page : ℕ) → BlamesAlone asked text last is_told count (pages_of count image) page
+    → BlamesAlone asked text last is_told count (book_pages count image) page
+alone_current ListLine text last is_told count image page blames = (blames.0, λ t. report_current ListLine count image page (blames.1 t))
+alone_current (Values name t0 t1) text last is_told count image page blames = (blames.0, λ t. report_current (Values name t0 t1) count image page (blames.1 t))
+alone_current (Sum session request) text last is_told count image page blames = (blames.0, λ t. report_current (Sum session request) count image page (blames.1 t))
+alone_current (Sweep rule) text last is_told count image page blames = (blames.0, λ t. request_current count image page (blames.1 t))
+alone_current (Bad at) text last is_told count image page blames = (blames.0, λ t. report_current (Bad at) count image page (blames.1 t))
+alone_current Other text last is_told count image page blames = line_current (Some text) last is_told count image page blames
+
+pub host_current : (line : Option (List ℕ)) (last : ℕ → ℕ → Type 0) (is_told : Type 0) (count : ℕ) (image : Image) (page : ℕ) → BlamesHost line last is_told count (pages_of count image) page
+    → BlamesHost line last is_told count (book_pages count image) page
+host_current None last is_told count image page blames = absurd blames
+host_current (Some text) last is_told count image page blames = alone_current (host_line text) text last is_told count image page blames

@@ -1,4 +1,4 @@
-use Rattle.std.proofs.Common.{◌∙◌, length, ap, sym, Some, inl, ◌≡◌}
+use Rattle.std.proofs.Common.{◌∙◌, length, ap, sym, Some, inl, ◌≡◌, [], ◌∷◌}
 use Rattle.block_disk.specs.View.{Beside}
 use Rattle.chart_frames.specs.Frames.{spelling}
 use Rattle.chart_world.specs.FaultLaws.{counts_then}
