@@ -5,6 +5,7 @@ use Rattle.chart_world.specs.LineLaws.{told_so}
 use Rattle.gate_pages.specs.Journal.{page_count}
 use Rattle.host_command.specs.Ended.{CostsHosting, HostEnds, IsHostCause}
 use Rattle.hosted_lines.specs.Answers.{MayAnswerHost, SendsAnswers, followed_behind}
+use Rattle.hosted_lines.specs.Blaming.{BlamesHost}
 use Rattle.hosted_lines.specs.Running.{EndsSo}
 use Rattle.hosted_lines.specs.Begun.{begun_live}
 use Rattle.run_ends.specs.Faults.{end_fault}
@@ -17,7 +18,7 @@ use Rattle.store_commands.specs.Books.{Holds, OfBook}
 use Rattle.store_commands.specs.Traffic.{Traffic}
 use Rattle.chart_program.specs.Course.{Course, IsDoneOrCut}
 use Rattle.chart_program.specs.Host.{HostDoes, OfHost, hosting_end}
-use Rattle.chart_program.specs.LineAnswers.{NoneIsPassedBy}
+use Rattle.chart_program.specs.LineAnswers.{IsBlamedBy, NoneIsPassedBy}
 use Rattle.chart_program.specs.Serve.{AreLines}
 
 -- the call that failed stays, and so does the code
@@ -73,13 +74,21 @@ module _ (old new : View) (t : Traffic) where
   host_passed Done answered = answered refl
   host_passed end answered = tt
 
+  abbrev Blamed : End → Type 0
+  Blamed end = IsBlamedBy MayAnswerHost followed_behind BlamesHost at end
+
+  host_blamed : (end : End) → Blamed end → Blamed (hosting_end end)
+  host_blamed InputTooLong blamed = tt
+  host_blamed end blamed = blamed
+
   pub of_host : (end : End) → HostEnds old new t end → TurnsAway old t (status_of end)
-      → IfSome t.left (CostsHosting old new) → (end ≡ Done → AreAnswered) → OfHost at (hosting_end end)
-  of_host end e away costs answered = record {
+      → IfSome t.left (CostsHosting old new) → (end ≡ Done → AreAnswered) → Blamed end → OfHost at (hosting_end end)
+  of_host end e away costs answered blamed = record {
     does = host_does end e.cause e.does;
     store = record { goes_on = e.goes_on; away = (let A : ℕ → Type 0 = λ n. old.size < 128 → IsTurnedAway t.left t.left_now t.sent t.sent_now n in subst A (sym (hosted_code end)) away) };
     crash = e.crash;
     costs = costs;
     good = good_host end e;
     passed = host_passed end answered;
+    blamed = host_blamed end blamed;
   }

@@ -4,6 +4,7 @@ use Rattle.std.specs.Prelude.{◌≡◌, ℕ, List, Option}
 use Rattle.block_disk.specs.View.{View}
 use Rattle.host_command.specs.Ended.{CostsHosting, LeavesHosted}
 use Rattle.hosted_lines.specs.Answers.{MayAnswerHost, followed_behind}
+use Rattle.hosted_lines.specs.Blaming.{BlamesHost}
 use Rattle.hosted_lines.specs.HostCauses.{IsBadForHost}
 use Rattle.hosted_lines.specs.Input.{most_bytes}
 use Rattle.hosted_lines.specs.Running.{SendsAll, SendsLines, SendsPart, SendsSome, SendsTaken, SendsWithin}
@@ -15,7 +16,7 @@ use Rattle.store_commands.specs.Books.{Holds, OfBook}
 use Rattle.store_commands.specs.Traffic.{IsPast, WasReadWithin}
 use Rattle.chart_program.specs.Course.{AtEachMoment, Course, FoundDamaged, FoundPage, HasFewBlocks, HeldNoBook}
 use Rattle.chart_program.specs.Course.{IsDoneOrCut, OfInput, OverStore, Told}
-use Rattle.chart_program.specs.LineAnswers.{NoneIsPassedBy}
+use Rattle.chart_program.specs.LineAnswers.{IsBlamedBy, NoneIsPassedBy}
 use Rattle.chart_program.specs.Serve.{AreLines}
 
 -- all lines of the input are answered, all pushes are made, and all these frames were sent
@@ -75,3 +76,5 @@ pub record OfHost (c : Course) (end : End) : Type 0 where
   pub good : OfInput c (λ input. AreLines c.old c.new input → IsDoneOrCut end)
   -- whatever the disk holds, where it was done no line was passed over, and each push showed a view of a followed session
   pub passed : NoneIsPassedBy MayAnswerHost followed_behind c end
+  -- and a page is called damaged by the line behind the answered ones, or by a push to a session that is followed then
+  pub blamed : IsBlamedBy MayAnswerHost followed_behind BlamesHost c end

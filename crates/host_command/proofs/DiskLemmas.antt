@@ -43,6 +43,7 @@ use Rattle.hosted_lines.specs.Input.{most_bytes}
 use Rattle.hosted_lines.specs.Running.{CostsLines, EndsSo, FirstLines, IsAhead, SendsAll}
 use Rattle.hosted_lines.proofs.AmidLemmas.{amid_book, amid_same}
 use Rattle.hosted_lines.specs.Begun.{begun_live}
+use Rattle.hosted_lines.specs.Blaming.{OfDamaged}
 use Rattle.hosted_lines.proofs.CountLemmas.{few_none}
 use Rattle.hosted_lines.proofs.DiskSides.{disk_side}
 use Rattle.host_command.specs.Ended.{CostsFrom, CostsHosting, HostEnds, IsHostCause, LeavesHosted}
@@ -374,3 +375,10 @@ opening_done (opening.TooSmall blocks) is = cc
 opening_done (opening.Damaged block) is = cc
 opening_done opening.DiskFault is = cc
 opening_done opening.NoMemory is = cc
+
+-- nor was a page of a store called damaged
+pub opening_unblamed : (cause : OpeningCause) (end : End) (IsSo : ℕ → Type 0) → end ≡ opening_end cause → OfDamaged IsSo end
+opening_unblamed (opening.TooSmall blocks) end IsSo is = let E : End → Type 0 = OfDamaged IsSo in subst E (sym is) tt
+opening_unblamed (opening.Damaged block) end IsSo is = let E : End → Type 0 = OfDamaged IsSo in subst E (sym is) tt
+opening_unblamed opening.DiskFault end IsSo is = let E : End → Type 0 = OfDamaged IsSo in subst E (sym is) tt
+opening_unblamed opening.NoMemory end IsSo is = let E : End → Type 0 = OfDamaged IsSo in subst E (sym is) tt

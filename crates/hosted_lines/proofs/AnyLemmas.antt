@@ -29,12 +29,12 @@ some_then old mid new lines more text later one two = record {
   answers = answers_then MayAnswerHost followed_behind one.front two.front old.watched mid.watched new.watched text later one.answers two.answers;
 }
 
-record Answered (old : Named) (given : List Given) (text : List ℕ) (stand : Stand) : Type 0 where
+pub record Answered (old : Named) (given : List Given) (text : List ℕ) (stand : Stand) : Type 0 where
   pub new : Named
   pub is : stand ≡ Any new
   pub some : AnswersSome old (lines_all given) text new
 
-answered : (given : List Given) (old : Named) (text : List ℕ) (stand : Stand) → Carries DoesFrom (Any old) given text stand → Answered old given text stand
+pub answered : (given : List Given) (old : Named) (text : List ℕ) (stand : Stand) → Carries DoesFrom (Any old) given text stand → Answered old given text stand
 answered [] old text stand all =
     let T : List ℕ → Type 0 = λ t. AnswersSome old [] t old in record { new = old; is = all.1; some = subst T (sym all.0) (some_none old) }
 answered (it ∷ later) old text stand all =

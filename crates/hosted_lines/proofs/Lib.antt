@@ -19,6 +19,7 @@ pub mod StandLemmas
 pub mod OverLemmas
 pub mod TurnLemmas
 pub mod AnyLemmas
+pub mod HostBlames
 pub mod FrontLemmas
 pub mod EndLemmas
 pub mod SendLemmas

@@ -60,7 +60,7 @@ module _ (old : Hosted) where
 
     module _ (limit : ℕ) (input left before : Option (List ℕ)) (pieces pieces' : ℕ) where
       abbrev Stopping : Stand → Given → End → Option (List ℕ) → Type 0
-      Stopping stand it end earlier = StopsFrom stand it view.image now view.reads view.syncs end
+      Stopping stand it end earlier = StopsFrom stand it told view.size view.image earlier now view.reads view.syncs end
 
       abbrev Stopped : Hosted → Given → End → Option (List ℕ) → Type 0
       Stopped hosted it end earlier = Stops hosted it view.image now view.reads view.syncs end

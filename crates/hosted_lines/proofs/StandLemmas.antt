@@ -19,6 +19,7 @@ use Rattle.served_lines.specs.Turning.{lines_of, pauses_of}
 use Rattle.stored_book.specs.Standing.{StandsForBook}
 use Rattle.zoom_session.specs.declared.session.Session.{Session}
 use Rattle.hosted_lines.specs.Answers.{Answers, MayAnswerHost, Sends, Watched, followed_behind}
+use Rattle.hosted_lines.specs.Blaming.{BlamesFirst, BlamesHost, OfDamaged}
 use Rattle.hosted_lines.specs.Doing.{Held, held_with}
 use Rattle.hosted_lines.specs.Groups.{GroupsBy}
 use Rattle.hosted_lines.specs.Hosting.{DoesHost}
@@ -26,10 +27,6 @@ use Rattle.hosted_lines.specs.Standing.{Any, DoesFrom, IsNamed, LastsFrom, Leave
 use Rattle.hosted_lines.specs.Working.{Does, Hosted, IsHosted, KeepsNone}
 use Rattle.hosted_lines.proofs.AnswersLemmas.{answers_none}
 use Rattle.hosted_lines.proofs.WorkLemmas.{host_does, host_keeps, host_lacks, host_leaves, host_stops, none_kept, sound_of}
-
-any_stops : {T E : Type 0} (r : Result T E) → IfErr r (λ end. ⊤)
-any_stops {T} {E} (Ok v) = tt
-any_stops {T} {E} (Err end) = tt
 
 module _ (edits : List Edit) (told : Type 0) (view : View) (held : Held) (before : Option (List ℕ)) (it : Given) where
   -- ---- calls that settle what was kept back, and what is given behind it
@@ -68,9 +65,13 @@ module _ (edits : List Edit) (told : Type 0) (view : View) (held : Held) (before
           (host_does hosted edits told view held before is it view' held' now told' (more is.told_so) edits' none (by hosted.ahead is.spell) result idle
           (does hosted.ahead is.spell hosted.total hosted.book is.told_so is.stands (sound_of is)))
 
-    pub stand_stops : (stand : Stand) → Stands stand edits told view held before → IfErr result (λ end. StopsFrom stand it view'.image now view'.reads view'.syncs end)
-    stand_stops (Any named) is = any_stops result
-    stand_stops (Over hosted) is =
+    pub stand_stops : (told' : Type 0)
+        → ((lines : List (Option (List ℕ))) → SpellEdits lines edits → IfErr result (OfDamaged (BlamesFirst MayAnswerHost followed_behind BlamesHost (lines ++ lines_of it) (watched_of held) before now told' view'.size view'.image)))
+        → (stand : Stand) → Stands stand edits told view held before → IfErr result (λ end. StopsFrom stand it told' view'.size view'.image before now view'.reads view'.syncs end)
+    stand_stops told' blames (Any named) is =
+        let W : Watched → Type 0 = λ w. IfErr result (OfDamaged (BlamesFirst MayAnswerHost followed_behind BlamesHost (named.ahead ++ lines_of it) w before now told' view'.size view'.image)) in
+        subst W (sym is.watched_are) (blames named.ahead is.spell)
+    stand_stops told' blames (Over hosted) is =
         host_stops hosted edits told view held before is it view' held' now result (does hosted.ahead is.spell hosted.total hosted.book is.told_so is.stands (sound_of is))
 
     pub stand_leaves : (stand : Stand) → Stands stand edits told view held before → LastsFrom stand → runs.Through view view' (LeavesFrom stand it (sent_now view))
@@ -100,6 +101,6 @@ module _ (edits : List Edit) (told : Type 0) (view : View) (held : Held) (before
       record { text = d.text; behind = Over d.behind; done = d.done; stands = d.stands; sent = d.sent }
 
   -- there was no memory
-  pub stand_lacks : (stand : Stand) → Stands stand edits told view held before → StopsFrom stand it view.image before view.reads view.syncs NoMemory
+  pub stand_lacks : (stand : Stand) → Stands stand edits told view held before → StopsFrom stand it told view.size view.image before before view.reads view.syncs NoMemory
   stand_lacks (Any named) is = tt
   stand_lacks (Over hosted) is = host_lacks hosted edits told view held before is it

@@ -7,6 +7,7 @@ use Rattle.run_ends.specs.declared.ending.End.{End}
 use Rattle.series_book.specs.declared.edits.Edit.{Edit}
 use Rattle.served_lines.specs.Turning.{lines_of}
 use Rattle.hosted_lines.specs.Answers.{Answers, MayAnswerHost, Watched, followed_behind}
+use Rattle.hosted_lines.specs.Blaming.{BlamesFirst, BlamesHost, OfDamaged}
 use Rattle.hosted_lines.specs.Doing.{Held}
 use Rattle.hosted_lines.specs.Working.{Does, Hosted, IsHosted, KeepsNone, Lasting, Leaves, Rests, Stops}
 
@@ -44,9 +45,11 @@ DoesFrom (Any old) it text (Over new) = ⊥
 DoesFrom (Over old) it text (Any new) = ⊥
 DoesFrom (Over old) it text (Over new) = Does old it text new
 
-abbrev pub StopsFrom : Stand → Given → Image → Option (List ℕ) → ℕ → ℕ → End → Type 0
-StopsFrom (Any old) it image now reads syncs end = ⊤
-StopsFrom (Over old) it image now reads syncs end = Stops old it image now reads syncs end
+-- whatever the pages are, it is told which line or push blames a page that the end calls damaged
+abbrev pub StopsFrom : Stand → Given → Type 0 → ℕ → Image → Option (List ℕ) → Option (List ℕ) → ℕ → ℕ → End → Type 0
+StopsFrom (Any old) it is_told count image before now reads syncs end =
+    OfDamaged (BlamesFirst MayAnswerHost followed_behind BlamesHost (old.ahead ++ lines_of it) old.watched before now is_told count image) end
+StopsFrom (Over old) it is_told count image before now reads syncs end = Stops old it image now reads syncs end
 
 abbrev pub LeavesFrom : Stand → Given → ℕ → Image → ℕ → Type 0
 LeavesFrom (Any old) it from image count = ⊤

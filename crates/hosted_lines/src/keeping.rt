@@ -10,6 +10,7 @@ ghost use Rattle.live_view.specs.Live as follows;
 ghost use Rattle.run_ends.specs.Faults.{end_fault};
 ghost use Rattle.series_book.specs.Edits.{IsEdit};
 ghost use Rattle.hosted_lines.specs.Answers.{MayAnswerHost, SendsFor, followed_behind};
+ghost use Rattle.hosted_lines.specs.Blaming.{BlamesFor, BlamesHost};
 ghost use Rattle.hosted_lines.specs.Doing.{Goes, side_of};
 ghost use Rattle.hosted_lines.specs.Hosting.{HostsFor};
 ghost use Rattle.hosted_lines.specs.Hosts.{IsPassed};
@@ -42,6 +43,7 @@ fn answer_other<P: PageWorld>(
     requires passed { IsPassed (Some line.now) }
     ensures does { SpelledBy turns.old.edits.items (λ lines. ForSound live.old (λ total book. HostsFor P.Streams 1 (lines ++ unless_empty (Some line.now)) total book result live.old live.new)) }
     ensures sends { SpelledBy turns.old.edits.items (λ lines. OnOk result (SendsFor P.Streams MayAnswerHost followed_behind (lines ++ unless_empty (Some line.now)) live.old live.new)) }
+    ensures blames { SpelledBy turns.old.edits.items (λ lines. IfErr result (BlamesFor P.Streams MayAnswerHost followed_behind BlamesHost (lines ++ unless_empty (Some line.now)) live.old live.new)) }
     ensures none { turns.new.edits.items ≡ [] }
     ensures goes { Goes (side_of P.Streams live.old) (side_of P.Streams live.new) }
     ensures cause { IfErr result (λ e. CausesEnd e (side_of P.Streams live.old) (side_of P.Streams live.new)) }
@@ -76,6 +78,7 @@ pub(crate) fn answer_alone<P: PageWorld>(
     requires range { IsInRange asked.now }
     ensures does { SpelledBy turns.old.edits.items (λ lines. ForSound live.old (λ total book. HostsFor P.Streams 1 (lines ++ unless_empty (Some line.now)) total book result live.old live.new)) }
     ensures sends { SpelledBy turns.old.edits.items (λ lines. OnOk result (SendsFor P.Streams MayAnswerHost followed_behind (lines ++ unless_empty (Some line.now)) live.old live.new)) }
+    ensures blames { SpelledBy turns.old.edits.items (λ lines. IfErr result (BlamesFor P.Streams MayAnswerHost followed_behind BlamesHost (lines ++ unless_empty (Some line.now)) live.old live.new)) }
     ensures none { turns.new.edits.items ≡ [] }
     ensures goes { Goes (side_of P.Streams live.old) (side_of P.Streams live.new) }
     ensures cause { IfErr result (λ e. CausesEnd e (side_of P.Streams live.old) (side_of P.Streams live.new)) }
@@ -104,6 +107,7 @@ pub(crate) fn refuse_long<P: PageWorld>(
     requires are_edits { All IsEdit turns.old.edits.items }
     ensures does { SpelledBy turns.old.edits.items (λ lines. ForSound live.old (λ total book. HostsFor P.Streams 1 (lines ++ None ∷ []) total book result live.old live.new)) }
     ensures sends { SpelledBy turns.old.edits.items (λ lines. OnOk result (SendsFor P.Streams MayAnswerHost followed_behind (lines ++ None ∷ []) live.old live.new)) }
+    ensures blames { SpelledBy turns.old.edits.items (λ lines. IfErr result (BlamesFor P.Streams MayAnswerHost followed_behind BlamesHost (lines ++ None ∷ []) live.old live.new)) }
     ensures none { turns.new.edits.items ≡ [] }
     ensures goes { Goes (side_of P.Streams live.old) (side_of P.Streams live.new) }
     ensures cause { IfErr result (λ e. CausesEnd e (side_of P.Streams live.old) (side_of P.Streams live.new)) }

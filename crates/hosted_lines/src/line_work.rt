@@ -43,7 +43,7 @@ impl<P: PageWorld> LineWork<Live<ServiceStepper<P>>, End> for HostTurns {
 
     ghost does = { DoesFrom };
 
-    ghost stops = { λ stand it end turns live before. StopsFrom stand it (its.view live).image (P.sent (pages live)) (its.view live).reads (its.view live).syncs end };
+    ghost stops = { λ stand it end turns live before. StopsFrom stand it (shown.IsTold (its.service live)) (its.view live).size (its.view live).image before (P.sent (pages live)) (its.view live).reads (its.view live).syncs end };
 
     ghost leaves = { LeavesFrom };
 

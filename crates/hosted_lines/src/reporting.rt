@@ -10,6 +10,7 @@ ghost use Rattle.live_view.specs.Live as follows;
 ghost use Rattle.run_ends.specs.Faults.{end_fault};
 ghost use Rattle.series_book.specs.Edits.{IsEdit};
 ghost use Rattle.hosted_lines.specs.Answers.{MayAnswerHost, SendsFor, followed_behind};
+ghost use Rattle.hosted_lines.specs.Blaming.{BlamesFor, BlamesHost};
 ghost use Rattle.hosted_lines.specs.Doing.{Goes, side_of};
 ghost use Rattle.hosted_lines.specs.Hosting.{HostsFor};
 ghost use Rattle.hosted_lines.specs.Reporting.{Makes, MayMake};
@@ -73,6 +74,7 @@ fn send_report<P: PageWorld>(
     requires idle { follows.IsIdle live.old }
     ensures does { (line : List ℕ) → host_line line ≡ asked.now → ForSound live.old (λ total book. HostsFor P.Streams 0 (Some line ∷ []) total book result live.old live.new) }
     ensures sends { (line : List ℕ) → host_line line ≡ asked.now → OnOk result (SendsFor P.Streams MayAnswerHost followed_behind (Some line ∷ []) live.old live.new) }
+    ensures blames { (line : List ℕ) → host_line line ≡ asked.now → IfErr result (BlamesFor P.Streams MayAnswerHost followed_behind BlamesHost (Some line ∷ []) live.old live.new) }
     ensures goes { Goes (side_of P.Streams live.old) (side_of P.Streams live.new) }
     ensures cause { IfErr result (λ e. CausesEnd e (side_of P.Streams live.old) (side_of P.Streams live.new)) }
     ensures faults { CountsFault (fault_in end_fault result) (its.view live.old) (its.view live.new) }
@@ -101,6 +103,7 @@ pub(crate) fn answer_asked<P: PageWorld>(
     requires range { IsInRange asked.now }
     ensures does { (line : List ℕ) → host_line line ≡ asked.now → SpelledBy turns.old.edits.items (λ lines. ForSound live.old (λ total book. HostsFor P.Streams 1 (lines ++ Some line ∷ []) total book result live.old live.new)) }
     ensures sends { (line : List ℕ) → host_line line ≡ asked.now → SpelledBy turns.old.edits.items (λ lines. OnOk result (SendsFor P.Streams MayAnswerHost followed_behind (lines ++ Some line ∷ []) live.old live.new)) }
+    ensures blames { (line : List ℕ) → host_line line ≡ asked.now → SpelledBy turns.old.edits.items (λ lines. IfErr result (BlamesFor P.Streams MayAnswerHost followed_behind BlamesHost (lines ++ Some line ∷ []) live.old live.new)) }
     ensures none { turns.new.edits.items ≡ [] }
     ensures goes { Goes (side_of P.Streams live.old) (side_of P.Streams live.new) }
     ensures cause { IfErr result (λ e. CausesEnd e (side_of P.Streams live.old) (side_of P.Streams live.new)) }

@@ -7,6 +7,7 @@ ghost use Rattle.live_service.specs.Shown as its;
 ghost use Rattle.live_view.specs.Live as follows;
 ghost use Rattle.run_ends.specs.Faults.{end_fault};
 ghost use Rattle.hosted_lines.specs.Answers.{MayAnswerHost, SendsFor, followed_behind};
+ghost use Rattle.hosted_lines.specs.Blaming.{BlamesHost, BlamesInput};
 ghost use Rattle.hosted_lines.specs.Doing.{Goes, side_of};
 ghost use Rattle.hosted_lines.specs.HostCauses.{IsHostCause};
 ghost use Rattle.hosted_lines.specs.Input.{most_bytes};
@@ -42,6 +43,8 @@ pub fn host_lines<P: PageWorld>(alloc: Global, live: &mut Live<ServiceStepper<P>
     // whatever the pages are
     // each frame names sessions that are open by those before it, and after `Done` one answers each line; the others are pushes
     ensures answers { result ≡ End.Done → IfSome (P.left (pages live.old)) (λ input. SendsFor P.Streams MayAnswerHost followed_behind (told input) live.old live.new) }
+    // a page that is called damaged is so for the line behind the answered ones, or for a push
+    ensures blames { BlamesInput P.Streams MayAnswerHost followed_behind BlamesHost live.old live.new result }
     ensures whole { result ≡ End.Done → IsReadUp (P.left (pages live.old)) (P.left (pages live.new)) }
     ensures long { result ≡ End.InputTooLong → IfSome (P.left (pages live.old)) (λ input. most_bytes < length input) }
     ensures goes { Goes (side_of P.Streams live.old) (side_of P.Streams live.new) }

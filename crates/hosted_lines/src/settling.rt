@@ -8,6 +8,7 @@ ghost use Rattle.live_view.specs.Live as follows;
 ghost use Rattle.run_ends.specs.Faults.{end_fault};
 ghost use Rattle.series_book.specs.Edits.{IsEdit};
 ghost use Rattle.hosted_lines.specs.Answers.{MayAnswerHost, SendsFor, followed_behind};
+ghost use Rattle.hosted_lines.specs.Blaming.{BlamesFor, BlamesHost};
 ghost use Rattle.hosted_lines.specs.Doing.{Goes, side_of};
 ghost use Rattle.hosted_lines.specs.Hosting.{HostsFor};
 ghost use Rattle.hosted_lines.specs.Shown.{ForSound, pages};
@@ -36,6 +37,7 @@ fn answer_group<P: PageWorld>(
     requires are_edits { All IsEdit edits.now }
     ensures does { SpelledBy edits.now (λ lines. ForSound live.old (λ total book. HostsFor P.Streams 1 lines total book result live.old live.new)) }
     ensures sends { SpelledBy edits.now (λ lines. OnOk result (SendsFor P.Streams MayAnswerHost followed_behind lines live.old live.new)) }
+    ensures blames { SpelledBy edits.now (λ lines. IfErr result (BlamesFor P.Streams MayAnswerHost followed_behind BlamesHost lines live.old live.new)) }
     ensures goes { Goes (side_of P.Streams live.old) (side_of P.Streams live.new) }
     ensures cause { IfErr result (λ e. CausesEnd e (side_of P.Streams live.old) (side_of P.Streams live.new)) }
     ensures faults { CountsFault (fault_in end_fault result) (its.view live.old) (its.view live.new) }
@@ -61,6 +63,7 @@ fn do_group<P: PageWorld>(
     requires are_edits { All IsEdit edits.now }
     ensures does { SpelledBy edits.now (λ lines. ForSound live.old (λ total book. HostsFor P.Streams 1 lines total book result live.old live.new)) }
     ensures sends { SpelledBy edits.now (λ lines. OnOk result (SendsFor P.Streams MayAnswerHost followed_behind lines live.old live.new)) }
+    ensures blames { SpelledBy edits.now (λ lines. IfErr result (BlamesFor P.Streams MayAnswerHost followed_behind BlamesHost lines live.old live.new)) }
     ensures goes { Goes (side_of P.Streams live.old) (side_of P.Streams live.new) }
     ensures cause { IfErr result (λ e. CausesEnd e (side_of P.Streams live.old) (side_of P.Streams live.new)) }
     ensures faults { CountsFault (fault_in end_fault result) (its.view live.old) (its.view live.new) }
@@ -89,6 +92,7 @@ pub(crate) fn settle<P: PageWorld>(
     requires are_edits { All IsEdit turns.old.edits.items }
     ensures does { SpelledBy turns.old.edits.items (λ lines. ForSound live.old (λ total book. HostsFor P.Streams 1 lines total book result live.old live.new)) }
     ensures sends { SpelledBy turns.old.edits.items (λ lines. OnOk result (SendsFor P.Streams MayAnswerHost followed_behind lines live.old live.new)) }
+    ensures blames { SpelledBy turns.old.edits.items (λ lines. IfErr result (BlamesFor P.Streams MayAnswerHost followed_behind BlamesHost lines live.old live.new)) }
     ensures none { turns.new.edits.items ≡ [] }
     ensures goes { Goes (side_of P.Streams live.old) (side_of P.Streams live.new) }
     ensures cause { IfErr result (λ e. CausesEnd e (side_of P.Streams live.old) (side_of P.Streams live.new)) }

@@ -10,6 +10,7 @@ use Rattle.chart_service.specs.Alone.{session_named}
 use Rattle.chart_world.specs.Faults.{CountsFault, fault_in}
 use Rattle.chart_service.specs.Faulting.{step_fault}
 use Rattle.chart_service.specs.Called.{AnswersSo, CommitsOnly, ForLast, IsCause, IsCauseOfLine, LineBlamed, ReadsFewFor, RequestBlamed}
+use Rattle.chart_service.specs.EditDamage.{NamesBadForEdit}
 use Rattle.chart_service.specs.EditGroups.{AnswersSome, IsEditReply, RepliesToEdits}
 use Rattle.chart_service.specs.Kinds.{MayAnswerLine, MayShow}
 use Rattle.chart_service.specs.LastShown.{LastsBy, OfRowsLine}
@@ -90,4 +91,5 @@ module _ {P : Type 0} {g : Ghosts P} where
     pub disk : error ≡ DiskFault → HasRisen (shown.view old).faults (shown.view new).faults
     pub faults : CountsFault (step_fault error) (shown.view old) (shown.view new)
     pub bad : NamesBad (shown.IsTold new) (shown.view new).size (shown.image new) error
+    pub blames : NamesBadForEdit (shown.IsTold new) (shown.view new).size (shown.image new) error
     pub sound : error ≢ DiskFault → (shown.view new).fit

@@ -4,6 +4,7 @@ ghost use Rattle.block_disk.specs.Counts.{HasRisen};
 ghost use Rattle.block_disk.specs.View.{Now};
 ghost use Rattle.chart_frames.specs.Frames.{Fits};
 ghost use Rattle.chart_service.specs.Called.{CommitsOnly, LineBlamed};
+ghost use Rattle.chart_service.specs.EditDamage.{NamesBadForEdit};
 ghost use Rattle.chart_service.specs.EditGroups.{IsEditReply};
 ghost use Rattle.chart_service.specs.Faulting.{step_fault};
 ghost use Rattle.chart_service.specs.LastShown.{LastsBy, OfRowsLine};
@@ -106,6 +107,8 @@ pub fn step_edits<P: PageWorld>(
     ensures disk { result ≡ Err ServiceError.DiskFault → HasRisen (its.view live.old).faults (its.view live.new).faults }
     ensures faults { CountsFault (fault_in step_fault result) (its.view live.old) (its.view live.new) }
     ensures bad { IfErr result (NamesBad (shown.IsTold (its.service live.new)) (its.view live.new).size (its.view live.new).image) }
+    // a page that is called damaged is so for an edit
+    ensures blames { IfErr result (NamesBadForEdit (shown.IsTold (its.service live.new)) (its.view live.new).size (its.view live.new).image) }
     ensures moves { shown.MovesSo (its.service live.old) (its.service live.new) }
     ensures goes_on { GoesOn (shown.under (its.service live.old)) (shown.under (its.service live.new)) }
     ensures sound { result ≢ Err ServiceError.DiskFault → (its.view live.new).fit }

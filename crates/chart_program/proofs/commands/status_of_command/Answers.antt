@@ -431,7 +431,7 @@ returns-in-Host-clause-does g c =
     let P : Command → Type 0 = λ command. Does command (course view s.left s.sent old new) c.status_of-in-Host.result in
     let end = c.host-end.result.0 in
     let e = c.host-end.ensures in
-    let did = of_host (view old) (view new) (traffic s.left s.sent s.read_faults s.send_faults old new) end e.ends e.away e.costs e.answers in
+    let did = of_host (view old) (view new) (traffic s.left s.sent s.read_faults s.send_faults old new) end e.ends e.away e.costs e.answers e.blames in
     subst P (sym c.in-Host.is) (hosting_end end, c.status_of-in-Host.ensures.status ∙ ap (λ (e : End). status_of e) c.hosting_end.ensures, did)
 
 pub returns-in-Derive-clause-does : goal.returns-in-Derive-clause-does

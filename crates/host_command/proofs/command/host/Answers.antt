@@ -10,9 +10,12 @@ use Rattle.store_commands.proofs.WorldLemmas.{away_over, traffic_over, unopened_
 use Rattle.store_commands.specs.Faulting.{counts_unopened_end}
 use Rattle.store_commands.specs.Traffic.{Traffic, traffic}
 use Rattle.host_command.specs.Ended.{HostEnds}
-use Rattle.host_command.proofs.DiskLemmas.{costs_on, costs_unopened, host_ends, unopened_ends, opening_done}
+use Rattle.host_command.proofs.DiskLemmas.{costs_on, costs_unopened, host_ends, unopened_ends, opening_done, opening_unblamed}
 use Rattle.hosted_lines.specs.Answers.{MayAnswerHost, followed_behind}
+use Rattle.gate_pages.specs.Journal.{page_count}
+use Rattle.hosted_lines.specs.Blaming.{BlamesHost}
 use Rattle.hosted_lines.proofs.AnswersLemmas.{answers_over}
+use Rattle.hosted_lines.proofs.BlameLemmas.{blames_over}
 use Rattle.host_command.proofs.command.host.Goals as goal
 
 pub returns-in-Ok-clause-ends : goal.returns-in-Ok-clause-ends
@@ -97,3 +100,20 @@ returns-in-Ok-clause-answers g c =
 
 pub returns-in-Err-clause-answers : goal.returns-in-Err-clause-answers
 returns-in-Err-clause-answers g c = λ done. absurd (opening_done c.in-Err.field-0.cause (sym c.opening_end.ensures ∙ done))
+
+pub returns-in-Ok-clause-blames : goal.returns-in-Ok-clause-blames
+returns-in-Ok-clause-blames g c =
+    let view = g.W.Disk.view in
+    let left = g.W.Streams.left in
+    let sent = g.W.Streams.sent in
+    let old = c.args.world in
+    let opened = stored.pages c.in-Ok.store in
+    let start = opened.disk in
+    let w = g.met.W.World in
+    let e = c.in-Ok.ensures in
+    let beside = e.opens.beside_is in
+    blames_over MayAnswerHost followed_behind BlamesHost opened.count (page_count (view old).size) (view c.serve_store.result.1) (left start) (left old) (sent start) (sent old) (sent c.serve_store.result.1) c.serve_store.result.0 e.count
+    (sym (w.beside_left start) ∙ ap (λ (b : Beside). b.left) beside ∙ w.beside_left old) (sym (w.beside_sent start) ∙ ap (λ (b : Beside). b.sent) beside ∙ w.beside_sent old) c.serve_store.ensures.blames
+
+pub returns-in-Err-clause-blames : goal.returns-in-Err-clause-blames
+returns-in-Err-clause-blames g c = opening_unblamed c.in-Err.field-0.cause c.opening_end.result _ c.opening_end.ensures

@@ -21,7 +21,10 @@ use Rattle.host_command.proofs.DiskLemmas.{costs_from, served_by}
 use Rattle.live_service.proofs.LiveShown.{begun_service, ended_store}
 use Rattle.chart_world.specs.Faults.{CountsFault}
 use Rattle.hosted_lines.specs.Answers.{MayAnswerHost, SendsAnswers, followed_behind, watched}
+use Rattle.hosted_lines.specs.Blaming.{BlamesHost, BlamesOnDisk}
 use Rattle.hosted_lines.proofs.AnswersLemmas.{sends_answers}
+use Rattle.hosted_lines.proofs.BlameLemmas.{disk_blames}
+use Rattle.hosted_lines.proofs.HostBlames.{host_current, host_told}
 use Rattle.host_command.proofs.command.serve_service.Goals as goal
 
 pub returns-clause-serves : goal.returns-clause-serves
@@ -117,3 +120,28 @@ returns-clause-answers g c =
     let S : Service _ _ → Type 0 = λ s. end ≡ Done → IfSome (left (shown.pages s).disk) (λ input. SendsAnswers MayAnswerHost followed_behind input (sent (shown.pages s).disk) (sent c.disk_of.result)) in
     subst S is_service (subst D (sym same_disk)
     (λ done. sends_answers MayAnswerHost followed_behind (left disk) (watched start) (watched after) (sent disk) (sent new) alone c.new-live.ensures.none (c.host_lines-end.ensures.answers done)))
+
+pub returns-clause-blames : goal.returns-clause-blames
+returns-clause-blames g c =
+    let view = g.W.Disk.view in
+    let left = g.W.Streams.left in
+    let sent = g.W.Streams.sent in
+    let service = c.args.service in
+    let start = c.new-live.result in
+    let after = c.host_lines-end.new.live in
+    let end = c.host_lines-end.result in
+    let disk = (shown.pages (its.service start)).disk in
+    let new = (shown.pages (its.service after)).disk in
+    let store = c.into_store.result in
+    let is_service = begun_service start c.new.result service c.new-live.ensures.stepper c.new.ensures in
+    let is_store = ended_store after c.into_stepper.result c.into_service-service.result store c.into_stepper.ensures c.into_service-service.ensures c.into_store.ensures in
+    let same_disk = c.disk_of.ensures.disk ∙ store_disk store (its.service after).store is_store in
+    let alone = ap (λ (s : Service _ _). s.sessions) is_service ∙ c.requires.alone in
+    let pages = shown.pages (its.service start) in
+    let end_pages = shown.pages (its.service after) in
+    let made = c.host_lines-end.ensures in
+    let blames = disk_blames MayAnswerHost followed_behind BlamesHost host_current pages.count end_pages.count (view new) (left disk) (sent disk) (sent new) end made.goes.size
+    (host_told (shown.IsTold (its.service after)) (its.view after).size (its.view after).image end (left disk) (watched start) (sent disk) (sent new) alone c.new-live.ensures.none made.blames) in
+    let D : g.row.W.Denot → Type 0 = λ d. BlamesOnDisk MayAnswerHost followed_behind BlamesHost pages.count (view d) (left disk) (sent disk) (sent d) end in
+    let S : Service _ _ → Type 0 = λ s. BlamesOnDisk MayAnswerHost followed_behind BlamesHost (shown.pages s).count (view c.disk_of.result) (left (shown.pages s).disk) (sent (shown.pages s).disk) (sent c.disk_of.result) end in
+    subst S is_service (subst D (sym same_disk) blames)

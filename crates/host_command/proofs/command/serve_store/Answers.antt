@@ -10,6 +10,7 @@ use Rattle.host_command.specs.Ending.{Served}
 use Rattle.host_command.proofs.DiskLemmas.{costs_untaken, served_none}
 use Rattle.chart_world.specs.Faults.{CountsFault}
 use Rattle.hosted_lines.specs.Answers.{MayAnswerHost, SendsAnswers, followed_behind}
+use Rattle.hosted_lines.specs.Blaming.{BlamesHost, BlamesOnDisk}
 use Rattle.host_command.proofs.command.serve_store.Goals as goal
 
 pub serve_service-requires-clause-sound : goal.serve_service-requires-clause-sound
@@ -90,3 +91,17 @@ returns-in-Ok-clause-answers g c =
     let end = c.serve_service.result.0 in
     let D : g.row.W.Denot → Type 0 = λ d. end ≡ Done → IfSome (left d) (λ input. SendsAnswers MayAnswerHost followed_behind input (sent d) (sent new)) in
     subst D (store_disk made store c.in-Ok.ensures.store) c.serve_service.ensures.answers
+
+pub returns-in-Ok-clause-blames : goal.returns-in-Ok-clause-blames
+returns-in-Ok-clause-blames g c =
+    let view = g.W.Disk.view in
+    let left = g.W.Streams.left in
+    let sent = g.W.Streams.sent in
+    let store = c.args.store in
+    let made = c.in-Ok.service.store in
+    let disk = (stored.pages store).disk in
+    let new = c.serve_service.result.1 in
+    let end = c.serve_service.result.0 in
+    let D : g.row.W.Denot → Type 0 = λ d. BlamesOnDisk MayAnswerHost followed_behind BlamesHost (stored.pages made).count (view new) (left d) (sent d) (sent new) end in
+    let C : ℕ → Type 0 = λ n. BlamesOnDisk MayAnswerHost followed_behind BlamesHost n (view new) (left disk) (sent disk) (sent new) end in
+    subst C (store_count made store c.in-Ok.ensures.store) (subst D (store_disk made store c.in-Ok.ensures.store) c.serve_service.ensures.blames)

@@ -1,4 +1,4 @@
-use Rattle.std.proofs.Common.{◌≡◌, [], Some, length, ap, arith}
+use Rattle.std.proofs.Common.{◌≡◌, [], Some, length, ap, arith, Result, Err}
 use Rattle.chart_service.specs.Serving.{unless_empty}
 use Rattle.chart_service.specs.Syncing.{edits_of}
 use Rattle.hosted_lines.specs.Doing.{held_by, held_with}
@@ -8,6 +8,12 @@ use Rattle.hosted_lines.proofs.RowLemmas.{passed_line}
 use Rattle.hosted_lines.proofs.WorkLemmas.{no_edits}
 use Rattle.hosted_lines.specs.Answers.{MayAnswerHost, followed_behind, watched}
 use Rattle.hosted_lines.proofs.AnswersLemmas.{sends_host, sends_then}
+use Rattle.chart_service.specs.Shown as shown
+use Rattle.live_service.specs.Shown as its
+use Rattle.hosted_lines.specs.Blaming.{BlamesHost}
+use Rattle.std.specs.Prelude.{⊤}
+use Rattle.hosted_lines.proofs.BlameLemmas.{behind_blames}
+use Rattle.hosted_lines.proofs.HostBlames.{before_blames, host_blames}
 use Rattle.hosted_lines.proofs.keeping.answer_other.Goals as goal
 
 pub returns-in-Ok-clause-does : goal.returns-in-Ok-clause-does
@@ -48,3 +54,20 @@ returns-in-Ok-clause-sends g c = λ lines spell.
     let behind = watched new in
     sends_then MayAnswerHost followed_behind c.answer_line.result lines more (watched old) between behind (sent (pages old)) (sent (pages mid)) (sent (pages new)) (c.in-Ok.ensures.sends lines spell)
     (sends_host c.answer_line.result more between behind (sent (pages mid)) (sent (pages new)) (passed_line c.args.line.now c.requires.passed) c.answer_line.ensures.sends)
+
+pub returns-in-Ok-clause-blames : goal.returns-in-Ok-clause-blames
+returns-in-Ok-clause-blames g c = λ lines spell.
+    let sent = g.P.Streams.sent in
+    let old = c.args.live.now in
+    let mid = c.settle.new.live in
+    let new = c.answer_line.new.live in
+    behind_blames MayAnswerHost followed_behind BlamesHost (shown.IsTold (its.service new)) (its.view new).size (its.view new).image c.answer_line.result lines (unless_empty (Some c.args.line.now)) (watched old) (watched mid) (sent (pages old)) (sent (pages mid)) (sent (pages new)) (c.in-Ok.ensures.sends lines spell)
+    (host_blames (shown.IsTold (its.service new)) (its.view new).size (its.view new).image c.answer_line.result (unless_empty (Some c.args.line.now)) (watched mid) (sent (pages mid)) (sent (pages new)) (passed_line c.args.line.now c.requires.passed) c.answer_line.ensures.blames)
+
+pub returns-in-Err-clause-blames : goal.returns-in-Err-clause-blames
+returns-in-Err-clause-blames g c = λ lines spell.
+    let sent = g.P.Streams.sent in
+    let old = c.args.live.now in
+    let new = c.settle.new.live in
+    let failed : Result ⊤ _ = Err c.in-Err.end in
+    before_blames (shown.IsTold (its.service new)) (its.view new).size (its.view new).image failed lines (unless_empty (Some c.args.line.now)) (watched old) (sent (pages old)) (sent (pages new)) (c.in-Err.ensures.blames lines spell)

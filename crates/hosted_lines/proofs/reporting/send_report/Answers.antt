@@ -1,11 +1,11 @@
-use Rattle.std.proofs.Common.{◌∙◌, length, ap, sym, subst, Some}
+use Rattle.std.proofs.Common.{◌∙◌, length, ap, sym, subst, Some, inl, ◌≡◌, [], ◌∷◌}
 use Rattle.block_disk.specs.View.{Beside, Image}
 use Rattle.chart_frames.specs.Frames.{spelling}
 use Rattle.chart_world.specs.FaultLaws.{counts_then}
 use Rattle.chart_world.specs.Faults.{fault_in}
 use Rattle.gate_pages.proofs.Moving.{sent_same}
 use Rattle.host_lines.specs.declared.asked.HostLine.{HostLine}
-use Rattle.host_replies.specs.Replies.{ReadsReportOver, Reported}
+use Rattle.host_replies.specs.Replies.{IsReportCause, ReadsReportOver, Reported}
 use Rattle.run_ends.specs.Faults.{end_fault}
 use Rattle.stored_book.specs.Standing.{StandsForBook}
 use Rattle.hosted_lines.specs.Doing.{held_by, held_with, side_of}
@@ -16,6 +16,11 @@ use Rattle.hosted_lines.proofs.ReportLemmas.{report_costs, report_moments, repor
 use Rattle.hosted_lines.specs.Answers.{MayAnswerHost, followed_behind, watched}
 use Rattle.hosted_lines.proofs.AnswersLemmas.{may_report, report_after, report_lasts, sends_answer, watched_same}
 use Rattle.live_view.specs.Live as follows
+use Rattle.chart_service.specs.Shown as shown
+use Rattle.live_service.specs.Shown as its
+use Rattle.hosted_lines.specs.Blaming.{BlamesHost}
+use Rattle.hosted_lines.proofs.BlameLemmas.{blames_now, step_damaged, unsent_blames}
+use Rattle.hosted_lines.proofs.HostBlames.{report_blamed}
 use Rattle.hosted_lines.proofs.reporting.send_report.Goals as goal
 
 pub returns-in-Ok-clause-does : goal.returns-in-Ok-clause-does
@@ -96,3 +101,19 @@ returns-in-Ok-clause-sends g c = λ line asks.
     (watched_same (watched new) (watched mid) made.beside.changed.sessions made.beside.followed_same) (sym (w.beside_sent (pages mid)) ∙ ap (λ (b : Beside). b.sent) e.looks.beside ∙ w.beside_sent (pages old)) made.whole (Some line) (may_report line c.args.asked.now frame asks e.may)
     (report_after line c.args.asked.now frame (follows.followed old) (follows.followed mid) asks e.may c.in-Ok.ensures.followed)
     (report_lasts line c.args.asked.now frame (watched old).sessions (watched mid).sessions asks e.may e.sessions)
+
+pub returns-in-Ok-clause-blames : goal.returns-in-Ok-clause-blames
+returns-in-Ok-clause-blames g c = λ line asks. unsent_blames c.send_frame.result c.in-Ok.frame _ _ _ c.send_frame.ensures.stops
+
+pub returns-in-Err-clause-blames : goal.returns-in-Err-clause-blames
+returns-in-Err-clause-blames g c = λ line asks.
+    let sent = g.P.Streams.sent in
+    let w = g.met.P.PageWorld in
+    let old = c.args.live.now in
+    let mid = c.make_report.new.live in
+    let e = c.in-Err.ensures.makes in
+    let is_told = shown.IsTold (its.service mid) in
+    let unsent : sent (pages mid) ≡ sent (pages old) = sym (w.beside_sent (pages mid)) ∙ ap (λ (b : Beside). b.sent) e.looks.beside ∙ w.beside_sent (pages old) in
+    step_damaged c.in-Err.error c.step_end.result _ (λ error. IsReportCause c.args.asked.now error is_told (its.view old) (its.view mid)) c.step_end.ensures e.cause
+    (λ page cause. blames_now MayAnswerHost followed_behind BlamesHost is_told (its.view mid).size (its.view mid).image page (Some line ∷ []) (watched old) (sent (pages old)) (sent (pages mid)) unsent
+    (inl (report_blamed line c.args.asked.now _ is_told (its.view old) (its.view mid) page asks cause)))

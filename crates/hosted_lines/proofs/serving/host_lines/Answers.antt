@@ -18,11 +18,13 @@ use Rattle.hosted_lines.specs.HostCauses.{IsHostCause}
 use Rattle.hosted_lines.specs.Input.{most_bytes}
 use Rattle.hosted_lines.specs.Served.{EndsOn}
 use Rattle.hosted_lines.specs.Shown.{pages}
-use Rattle.hosted_lines.specs.Standing.{Any, IsNamed, Over}
+use Rattle.hosted_lines.specs.Standing.{Any, IsNamed, Over, Stands}
 use Rattle.hosted_lines.specs.Working.{CausesEnd, IsHosted}
 use Rattle.hosted_lines.proofs.AnyLemmas.{all_sends}
 use Rattle.hosted_lines.proofs.OverLemmas.{over_done, over_lasts, over_stops}
 use Rattle.hosted_lines.proofs.EndLemmas.{costs_so, ends_so, first_at, lasts_so, none_costs, none_ends, none_lasts, sound_behind}
+use Rattle.hosted_lines.specs.Blaming.{BlamesHost, BlamesInput}
+use Rattle.hosted_lines.proofs.HostBlames.{all_blames}
 use Rattle.hosted_lines.proofs.serving.host_lines.Goals as goal
 
 pub returns-in_default-clause-ends : goal.returns-in_default-clause-ends
@@ -173,3 +175,21 @@ returns-clause-answers g c =
     (came_to_end (λ end s s'. CausesEnd end (side s) (side s')) old new c.run_lines-answer.result (λ none. none.cause)
     (all_sends own work.edits.items (shown.IsTold (its.service new)) (its.view new) (held_by new) (sent (pages old)) (sent (pages new)) (pieces (pages old)) (pieces (pages new)) c.run_lines-answer.result (left (pages old))
     (e.done (Any (record { ahead = []; watched = own })) here)) e.cause)
+
+pub returns-clause-blames : goal.returns-clause-blames
+returns-clause-blames g c =
+    let left = g.P.Streams.left in
+    let sent = g.P.Streams.sent in
+    let pieces = g.P.Streams.pieces in
+    let old = c.args.live.now in
+    let new = c.run_lines-answer.new.from in
+    let work = c.run_lines-answer.new.work in
+    let e = c.run_lines-answer.ensures in
+    let own = watched old in
+    let none : c.new.result.items ≡ [] = search rules in
+    let here : IsNamed (record { ahead = []; watched = own }) c.new.result.items (held_by old) = record { spell = subst (SpellEdits []) (sym none) tt; watched_are = refl } in
+    let view = its.view new in
+    let A : End → Type 0 = λ end. BlamesInput g.P.Streams MayAnswerHost followed_behind BlamesHost old new end in
+    subst A (sym c.run_end.ensures)
+    (all_blames most_bytes own (shown.IsTold (its.service new)) view.size view.image (sent (pages old)) (sent (pages new)) view.reads view.syncs (pieces (pages old)) (pieces (pages new)) (left (pages new))
+    (λ s. Stands s work.edits.items (shown.IsTold (its.service new)) view (held_by new) (sent (pages new))) c.run_lines-answer.result (left (pages old)) (e.stops (Any (record { ahead = []; watched = own })) here))

@@ -1,4 +1,4 @@
-use Rattle.std.proofs.Common.{◌∙◌, List, length, ap, sym, subst, ◌≡◌}
+use Rattle.std.proofs.Common.{◌∙◌, List, length, ap, sym, subst, ◌≡◌, inl}
 use Rattle.block_disk.specs.View.{Beside}
 use Rattle.chart_frames.specs.declared.frame.Frame.{Frame}
 use Rattle.gate_pages.proofs.Moving.{sent_same}
@@ -12,7 +12,13 @@ use Rattle.hosted_lines.proofs.SpelledLemmas.{sound_edits}
 use Rattle.std.specs.Prelude.{OnOk}
 use Rattle.block_disk.specs.Streams.{sent_after}
 use Rattle.hosted_lines.proofs.AnswersLemmas.{sends_group, watched_same}
-use Rattle.hosted_lines.specs.Answers.{watched}
+use Rattle.hosted_lines.specs.Answers.{MayAnswerHost, followed_behind, watched}
+use Rattle.chart_service.specs.Shown as shown
+use Rattle.live_service.specs.Shown as its
+use Rattle.chart_service.specs.EditDamage.{NamesBadForEdit}
+use Rattle.hosted_lines.specs.Blaming.{BlamesHost}
+use Rattle.hosted_lines.proofs.BlameLemmas.{blames_now, step_damaged}
+use Rattle.hosted_lines.proofs.HostBlames.{group_blamed, unsent_frames}
 use Rattle.hosted_lines.proofs.settling.answer_group.Goals as goal
 
 pub returns-in-Ok-clause-does : goal.returns-in-Ok-clause-does
@@ -69,3 +75,18 @@ returns-in-Ok-clause-sends g c = λ lines spell.
     let W : List Frame → Type 0 = λ f. OnOk c.send_frames.result (sent (pages new) ≡ sent_after (spelled f) (sent (pages mid))) in
     sends_group c.send_frames.result lines c.args.edits.now frames (watched old) (watched mid) (watched new) (sent (pages old)) (sent (pages mid)) (sent (pages new)) spell e.each e.replies e.fits e.sessions e.followed
     (watched_same (watched new) (watched mid) made.beside.changed.sessions made.beside.followed_same) (sym (w.beside_sent (pages mid)) ∙ ap (λ (b : Beside). b.sent) e.moves.beside ∙ w.beside_sent (pages old)) (subst W c.as_slice.ensures.value made.whole)
+
+pub returns-in-Ok-clause-blames : goal.returns-in-Ok-clause-blames
+returns-in-Ok-clause-blames g c = λ lines spell. unsent_frames c.send_frames.result _ _ _ _ c.send_frames.ensures.stops
+
+pub returns-in-Err-clause-blames : goal.returns-in-Err-clause-blames
+returns-in-Err-clause-blames g c = λ lines spell.
+    let sent = g.P.Streams.sent in
+    let w = g.met.P.PageWorld in
+    let old = c.args.live.now in
+    let mid = c.step_edits.new.live in
+    let e = c.in-Err.ensures in
+    let unsent : sent (pages mid) ≡ sent (pages old) = sym (w.beside_sent (pages mid)) ∙ ap (λ (b : Beside). b.sent) e.moves.beside ∙ w.beside_sent (pages old) in
+    step_damaged c.in-Err.error c.step_end.result _ (NamesBadForEdit (shown.IsTold (its.service mid)) (its.view mid).size (its.view mid).image) c.step_end.ensures e.blames
+    (λ page bad. blames_now MayAnswerHost followed_behind BlamesHost (shown.IsTold (its.service mid)) (its.view mid).size (its.view mid).image page lines (watched old) (sent (pages old)) (sent (pages mid)) unsent
+    (inl (group_blamed _ (shown.IsTold (its.service mid)) (its.view mid).size (its.view mid).image page lines c.args.edits.now spell c.requires.some bad)))

@@ -1,4 +1,4 @@
-use Rattle.std.proofs.Common.{◌≡◌, [], length, sym, arith, ℕ, List, Option, subst}
+use Rattle.std.proofs.Common.{◌≡◌, [], ◌++◌, length, sym, arith, ℕ, List, Option, subst}
 use Rattle.std.proofs.lemmas.Grind.{common_steps}
 use Rattle.std.proofs.lemmas.List.{append-nil}
 use Rattle.hosted_lines.specs.Doing.{held_by, held_with}
@@ -7,6 +7,11 @@ use Rattle.hosted_lines.proofs.HostLemmas.{host_then, lines_so, live_does, none_
 use Rattle.hosted_lines.proofs.SpelledLemmas.{spell_none}
 use Rattle.hosted_lines.specs.Answers.{MayAnswerHost, Sends, followed_behind, watched}
 use Rattle.hosted_lines.proofs.AnswersLemmas.{sends_host, sends_none, sends_so, sends_then}
+use Rattle.chart_service.specs.Shown as shown
+use Rattle.live_service.specs.Shown as its
+use Rattle.hosted_lines.specs.Blaming.{BlamesHost}
+use Rattle.hosted_lines.proofs.BlameLemmas.{behind_blames, lines_blame}
+use Rattle.hosted_lines.proofs.HostBlames.{host_blames}
 use Rattle.hosted_lines.proofs.settling.do_group.Goals as goal
 
 pub returns-then-is_empty-clause-does : goal.returns-then-is_empty-clause-does
@@ -52,3 +57,13 @@ returns-in-Ok-clause-sends g c = λ lines spell.
     sends_so MayAnswerHost followed_behind c.send_pushes.result _ lines own behind (sent (pages old)) (sent (pages new)) (append-nil lines)
     (sends_then MayAnswerHost followed_behind c.send_pushes.result lines [] own between behind (sent (pages old)) (sent (pages mid)) (sent (pages new)) (c.in-Ok.ensures.sends lines spell)
     (sends_host c.send_pushes.result [] between behind (sent (pages mid)) (sent (pages new)) tt c.send_pushes.ensures.sends))
+
+pub returns-in-Ok-clause-blames : goal.returns-in-Ok-clause-blames
+returns-in-Ok-clause-blames g c = λ lines spell.
+    let sent = g.P.Streams.sent in
+    let old = c.args.live.now in
+    let mid = c.answer_group.new.live in
+    let new = c.send_pushes.new.live in
+    lines_blame MayAnswerHost followed_behind BlamesHost (shown.IsTold (its.service new)) (its.view new).size (its.view new).image c.send_pushes.result (lines ++ []) lines (watched old) (sent (pages old)) (sent (pages new)) (append-nil lines)
+    (behind_blames MayAnswerHost followed_behind BlamesHost (shown.IsTold (its.service new)) (its.view new).size (its.view new).image c.send_pushes.result lines [] (watched old) (watched mid) (sent (pages old)) (sent (pages mid)) (sent (pages new)) (c.in-Ok.ensures.sends lines spell)
+    (host_blames (shown.IsTold (its.service new)) (its.view new).size (its.view new).image c.send_pushes.result [] (watched mid) (sent (pages mid)) (sent (pages new)) tt c.send_pushes.ensures.blames))

@@ -1,9 +1,15 @@
-use Rattle.std.proofs.Common.{[], ◌∷◌, Some}
+use Rattle.std.proofs.Common.{[], ◌∷◌, Some, Result, Err}
 use Rattle.hosted_lines.specs.Doing.{held_by, held_with}
 use Rattle.hosted_lines.specs.Shown.{pages}
 use Rattle.hosted_lines.proofs.HostLemmas.{fails_wide, host_then}
 use Rattle.hosted_lines.specs.Answers.{MayAnswerHost, followed_behind, watched}
 use Rattle.hosted_lines.proofs.AnswersLemmas.{sends_then}
+use Rattle.chart_service.specs.Shown as shown
+use Rattle.live_service.specs.Shown as its
+use Rattle.hosted_lines.specs.Blaming.{BlamesHost}
+use Rattle.std.specs.Prelude.{⊤}
+use Rattle.hosted_lines.proofs.BlameLemmas.{behind_blames}
+use Rattle.hosted_lines.proofs.HostBlames.{before_blames}
 use Rattle.hosted_lines.proofs.sweeping.answer_step.Goals as goal
 
 pub returns-in-Ok-clause-does : goal.returns-in-Ok-clause-does
@@ -36,3 +42,20 @@ returns-in-Ok-clause-sends g c = λ line asks lines spell.
     let new = c.do_step.new.live in
     sends_then MayAnswerHost followed_behind c.do_step.result lines (Some line ∷ []) (watched old) (watched mid) (watched new) (sent (pages old)) (sent (pages mid)) (sent (pages new))
     (c.in-Ok.ensures.sends lines spell) (c.do_step.ensures.sends line asks)
+
+pub returns-in-Ok-clause-blames : goal.returns-in-Ok-clause-blames
+returns-in-Ok-clause-blames g c = λ line asks lines spell.
+    let sent = g.P.Streams.sent in
+    let old = c.args.live.now in
+    let mid = c.settle.new.live in
+    let new = c.do_step.new.live in
+    behind_blames MayAnswerHost followed_behind BlamesHost (shown.IsTold (its.service new)) (its.view new).size (its.view new).image c.do_step.result lines (Some line ∷ []) (watched old) (watched mid) (sent (pages old)) (sent (pages mid)) (sent (pages new)) (c.in-Ok.ensures.sends lines spell)
+    (c.do_step.ensures.blames line asks)
+
+pub returns-in-Err-clause-blames : goal.returns-in-Err-clause-blames
+returns-in-Err-clause-blames g c = λ line asks lines spell.
+    let sent = g.P.Streams.sent in
+    let old = c.args.live.now in
+    let new = c.settle.new.live in
+    let failed : Result ⊤ _ = Err c.in-Err.end in
+    before_blames (shown.IsTold (its.service new)) (its.view new).size (its.view new).image failed lines (Some line ∷ []) (watched old) (sent (pages old)) (sent (pages new)) (c.in-Err.ensures.blames lines spell)

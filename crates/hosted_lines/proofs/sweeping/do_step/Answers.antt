@@ -4,6 +4,11 @@ use Rattle.hosted_lines.specs.Shown.{pages}
 use Rattle.hosted_lines.proofs.HostLemmas.{host_then, live_does}
 use Rattle.hosted_lines.specs.Answers.{MayAnswerHost, followed_behind, watched}
 use Rattle.hosted_lines.proofs.AnswersLemmas.{sends_host, sends_then}
+use Rattle.chart_service.specs.Shown as shown
+use Rattle.live_service.specs.Shown as its
+use Rattle.hosted_lines.specs.Blaming.{BlamesHost}
+use Rattle.hosted_lines.proofs.BlameLemmas.{behind_blames}
+use Rattle.hosted_lines.proofs.HostBlames.{host_blames}
 use Rattle.hosted_lines.proofs.sweeping.do_step.Goals as goal
 
 pub returns-in-Ok-clause-does : goal.returns-in-Ok-clause-does
@@ -30,3 +35,12 @@ returns-in-Ok-clause-sends g c = λ line asks.
     let behind = watched new in
     sends_then MayAnswerHost followed_behind c.send_pushes.result (Some line ∷ []) [] (watched old) between behind (sent (pages old)) (sent (pages mid)) (sent (pages new)) (c.in-Ok.ensures.sends line asks)
     (sends_host c.send_pushes.result [] between behind (sent (pages mid)) (sent (pages new)) tt c.send_pushes.ensures.sends)
+
+pub returns-in-Ok-clause-blames : goal.returns-in-Ok-clause-blames
+returns-in-Ok-clause-blames g c = λ line asks.
+    let sent = g.P.Streams.sent in
+    let old = c.args.live.now in
+    let mid = c.send_step.new.live in
+    let new = c.send_pushes.new.live in
+    behind_blames MayAnswerHost followed_behind BlamesHost (shown.IsTold (its.service new)) (its.view new).size (its.view new).image c.send_pushes.result (Some line ∷ []) [] (watched old) (watched mid) (sent (pages old)) (sent (pages mid)) (sent (pages new)) (c.in-Ok.ensures.sends line asks)
+    (host_blames (shown.IsTold (its.service new)) (its.view new).size (its.view new).image c.send_pushes.result [] (watched mid) (sent (pages mid)) (sent (pages new)) tt c.send_pushes.ensures.blames)

@@ -1,4 +1,4 @@
-use Rattle.std.proofs.Common.{◌∙◌, length, ap, sym, Some}
+use Rattle.std.proofs.Common.{◌∙◌, length, ap, sym, Some, inl, ◌≡◌, [], ◌∷◌}
 use Rattle.block_disk.specs.View.{Beside}
 use Rattle.chart_frames.specs.Frames.{spelling}
 use Rattle.chart_world.specs.FaultLaws.{counts_then}
@@ -12,6 +12,12 @@ use Rattle.hosted_lines.proofs.FaultLemmas.{unmade_counts}
 use Rattle.hosted_lines.proofs.SweepLemmas.{step_costs, step_sends, step_unmade}
 use Rattle.hosted_lines.specs.Answers.{MayAnswerHost, followed_behind, watched}
 use Rattle.hosted_lines.proofs.AnswersLemmas.{may_step, sends_answer, step_after, step_lasts, step_stays, watched_same}
+use Rattle.chart_service.specs.Shown as shown
+use Rattle.live_service.specs.Shown as its
+use Rattle.hosted_lines.specs.Blaming.{BlamesHost}
+use Rattle.chart_service.specs.Stepping.{NamesBad}
+use Rattle.hosted_lines.proofs.BlameLemmas.{blames_now, step_damaged, unsent_blames}
+use Rattle.hosted_lines.proofs.HostBlames.{step_blamed}
 use Rattle.hosted_lines.proofs.sweeping.send_step.Goals as goal
 
 pub returns-in-Ok-clause-does : goal.returns-in-Ok-clause-does
@@ -82,3 +88,19 @@ returns-in-Ok-clause-sends g c = λ line asks.
     (step_stays frame _ _ _ own.sessions between.sessions e.sessions e.tells) (watched_same (watched new) (watched mid) made.beside.changed.sessions made.beside.followed_same) (sym (w.beside_sent (pages mid)) ∙ ap (λ (b : Beside). b.sent) e.carries.beside ∙ w.beside_sent (pages old)) made.whole
     (Some line) (may_step line c.args.rule.now frame _ _ _ asks e.tells) (step_after line c.args.rule.now frame own.followed between.followed asks e.followed)
     (step_lasts line c.args.rule.now frame _ _ _ own.sessions between.sessions asks e.tells e.sessions)
+
+pub returns-in-Ok-clause-blames : goal.returns-in-Ok-clause-blames
+returns-in-Ok-clause-blames g c = λ line asks. unsent_blames c.send_frame.result c.in-Ok.frame _ _ _ c.send_frame.ensures.stops
+
+pub returns-in-Err-clause-blames : goal.returns-in-Err-clause-blames
+returns-in-Err-clause-blames g c = λ line asks.
+    let sent = g.P.Streams.sent in
+    let w = g.met.P.PageWorld in
+    let old = c.args.live.now in
+    let mid = c.sweep_step.new.live in
+    let e = c.in-Err.ensures in
+    let is_told = shown.IsTold (its.service mid) in
+    let unsent : sent (pages mid) ≡ sent (pages old) = sym (w.beside_sent (pages mid)) ∙ ap (λ (b : Beside). b.sent) e.carries.beside ∙ w.beside_sent (pages old) in
+    step_damaged c.in-Err.error c.step_end.result _ (NamesBad is_told (its.view mid).size (its.view mid).image) c.step_end.ensures e.bad
+    (λ page bad. blames_now MayAnswerHost followed_behind BlamesHost is_told (its.view mid).size (its.view mid).image page (Some line ∷ []) (watched old) (sent (pages old)) (sent (pages mid)) unsent
+    (inl (step_blamed _ is_told (its.view mid).size (its.view mid).image page line c.args.rule.now asks bad)))

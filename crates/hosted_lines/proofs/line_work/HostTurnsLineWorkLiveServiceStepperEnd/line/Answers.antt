@@ -13,6 +13,8 @@ use Rattle.hosted_lines.specs.Answers.{MayAnswerHost, followed_behind, watched}
 use Rattle.hosted_lines.specs.Doing.{held_by, held_with}
 use Rattle.hosted_lines.specs.Shown.{pages}
 use Rattle.hosted_lines.proofs.AnswersLemmas.{sends_so}
+use Rattle.hosted_lines.specs.Blaming.{BlamesHost}
+use Rattle.hosted_lines.proofs.BlameLemmas.{lines_blame}
 use Rattle.hosted_lines.proofs.CountLemmas.{by_fewer, by_many, by_other}
 use Rattle.hosted_lines.proofs.HostLemmas.{lines_so}
 use Rattle.hosted_lines.proofs.SpelledLemmas.{spell_more}
@@ -47,7 +49,7 @@ returns-in-Ok-clause-stops g c = λ stand stands.
     let new = c.answer_alone.new.live in
     let sent = g.P.Streams.sent in
     stand_stops c.args.self.now.edits.items (shown.IsTold (its.service it)) (its.view it) (held_by it) (sent (pages it)) (Line c.args.at (Some c.args.line.now)) c.answer_alone.result (its.view new) (held_by new) (sent (pages new))
-    c.answer_alone.ensures.does stand stands
+    c.answer_alone.ensures.does (shown.IsTold (its.service new)) c.answer_alone.ensures.blames stand stands
 
 pub returns-in-Ok-clause-leaves : goal.returns-in-Ok-clause-leaves
 returns-in-Ok-clause-leaves g c = λ stand stands lasting.
@@ -120,7 +122,9 @@ returns-else-len-lt-MOST_EDITS-clause-stops g c = λ stand stands.
     λ lines spell. let S : List Edit → Type 0 = λ l. SpellEdits (lines ++ line ∷ []) l in subst S (sym pushed) (spell_more lines edits line edit spell spells) in
     stand_stops edits (shown.IsTold (its.service it)) (its.view it) (held_by it) (sent (pages it)) (Line c.args.at line) c.settle.result (its.view new) (held_by new) (sent (pages new))
     (λ lines spell total book told stands sound. lines_so 1 (lines ++ line ∷ []) (lines ++ unless_empty line) total (held_with total book (held_by it)) c.settle.result (its.view it) (its.view new) (held_by new) (sent (pages it)) (sent (pages new))
-    (sym (ap (λ l. lines ++ l) (line_spells c.args.line.now edit spells))) (c.settle.ensures.does (lines ++ line ∷ []) (all lines spell) total book told stands sound)) stand stands
+    (sym (ap (λ l. lines ++ l) (line_spells c.args.line.now edit spells))) (c.settle.ensures.does (lines ++ line ∷ []) (all lines spell) total book told stands sound))
+    (shown.IsTold (its.service new)) (λ lines spell. lines_blame MayAnswerHost followed_behind BlamesHost (shown.IsTold (its.service new)) (its.view new).size (its.view new).image c.settle.result (lines ++ line ∷ []) (lines ++ unless_empty line) (watched it) (sent (pages it)) (sent (pages new))
+    (sym (ap (λ l. lines ++ l) (line_spells c.args.line.now edit spells))) (c.settle.ensures.blames (lines ++ line ∷ []) (all lines spell))) stand stands
 
 pub returns-else-len-lt-MOST_EDITS-clause-leaves : goal.returns-else-len-lt-MOST_EDITS-clause-leaves
 returns-else-len-lt-MOST_EDITS-clause-leaves g c = λ stand stands lasting.

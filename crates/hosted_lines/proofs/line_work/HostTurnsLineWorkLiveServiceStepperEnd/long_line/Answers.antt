@@ -24,7 +24,7 @@ returns-clause-stops g c = λ stand stands.
     let new = c.refuse_long.new.live in
     let sent = g.P.Streams.sent in
     stand_stops c.args.self.now.edits.items (shown.IsTold (its.service it)) (its.view it) (held_by it) (sent (pages it)) (Line c.args.at None) c.refuse_long.result (its.view new) (held_by new) (sent (pages new)) c.refuse_long.ensures.does
-    stand stands
+    (shown.IsTold (its.service new)) c.refuse_long.ensures.blames stand stands
 
 pub returns-clause-leaves : goal.returns-clause-leaves
 returns-clause-leaves g c = λ stand stands lasting.

@@ -7,6 +7,8 @@ use Rattle.hosted_lines.specs.Answers.{MayAnswerHost, followed_behind, watched}
 use Rattle.hosted_lines.specs.Doing.{held_by, held_with}
 use Rattle.hosted_lines.specs.Shown.{pages}
 use Rattle.hosted_lines.proofs.AnswersLemmas.{sends_so}
+use Rattle.hosted_lines.specs.Blaming.{BlamesHost}
+use Rattle.hosted_lines.proofs.BlameLemmas.{lines_blame}
 use Rattle.hosted_lines.proofs.CountLemmas.{by_pause}
 use Rattle.hosted_lines.proofs.HostLemmas.{lines_so}
 use Rattle.hosted_lines.proofs.StandLemmas.{stand_does, stand_leaves, stand_stops}
@@ -33,7 +35,9 @@ returns-clause-stops g c = λ stand stands.
     let sent = g.P.Streams.sent in
     stand_stops c.args.self.now.edits.items (shown.IsTold (its.service it)) (its.view it) (held_by it) (sent (pages it)) Pause c.settle.result (its.view new) (held_by new) (sent (pages new))
     (λ lines spell total book told stands sound. lines_so 1 lines (lines ++ []) total (held_with total book (held_by it)) c.settle.result (its.view it) (its.view new) (held_by new) (sent (pages it)) (sent (pages new)) (sym (append-nil lines))
-    (c.settle.ensures.does lines spell total book told stands sound)) stand stands
+    (c.settle.ensures.does lines spell total book told stands sound))
+    (shown.IsTold (its.service new)) (λ lines spell. lines_blame MayAnswerHost followed_behind BlamesHost (shown.IsTold (its.service new)) (its.view new).size (its.view new).image c.settle.result lines (lines ++ []) (watched it) (sent (pages it)) (sent (pages new))
+    (sym (append-nil lines)) (c.settle.ensures.blames lines spell)) stand stands
 
 pub returns-clause-leaves : goal.returns-clause-leaves
 returns-clause-leaves g c = λ stand stands lasting.
