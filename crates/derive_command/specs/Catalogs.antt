@@ -25,7 +25,7 @@ use Rattle.derive_command.specs.declared.request.Request.{Request}
 -- ---- what a catalog says of names
 
 -- it has no series of a name; and two names are of series on one grid, or on no common one
-pub record Catalogue : Type 1 where
+pub record SaidOfNames : Type 1 where
   pub lacks : List ℕ → Type 0
   pub on_grid : List ℕ → List ℕ → Type 0
   pub off_grid : List ℕ → List ℕ → Type 0
@@ -45,7 +45,7 @@ pub record IsPicture (OnGrid : List ℕ → List ℕ → Type 0) (r : Request) (
   pub text_is : text ≡ picture canvas
 
 -- Why a request is refused: the first of these that applies. Which sums are too large isn't told by a catalog.
-abbrev pub IsRefusedBy : Catalogue → Request → DeriveRefusal → Type 0
+abbrev pub IsRefusedBy : SaidOfNames → Request → DeriveRefusal → Type 0
 IsRefusedBy c r UnknownSeries = c.lacks r.first ⊎ c.lacks r.second
 IsRefusedBy c r NotOneGrid = c.off_grid r.first r.second
 IsRefusedBy c r BadWindow = c.on_grid r.first r.second × IsBadWindow r.t0 r.t1
@@ -54,7 +54,7 @@ IsRefusedBy c r BadRange = c.on_grid r.first r.second × IsWindow r.t0 r.t1 × I
 IsRefusedBy c r TooLarge = IsDrawable c.on_grid r
 
 -- A page is called damaged for a request that no other reason stands against. It is so of the two names.
-abbrev pub by_catalog : Catalogue → (List ℕ → List ℕ → ℕ → Type 0) → Answering
+abbrev pub by_catalog : SaidOfNames → (List ℕ → List ℕ → ℕ → Type 0) → Answering
 by_catalog c IsDamaged = record {
   answers = IsPicture c.on_grid;
   refuses = IsRefusedBy c;
@@ -107,7 +107,7 @@ IsBadOf count image first second page = SaysNumbers count image (IsDamagedOf ima
 -- ---- catalogs
 
 -- the one that was read
-abbrev pub in_memory : List StoredSeries → Catalogue
+abbrev pub in_memory : List StoredSeries → SaidOfNames
 in_memory catalog = record { lacks = LacksName catalog; on_grid = HasTwoIn AreOnGrid catalog; off_grid = HasTwoIn AreOffGrid catalog }
 
 -- over these pages, which are as they are told where reads give so
@@ -120,7 +120,7 @@ abbrev pub SaysTwo : (Axis → Axis → Type 0) → ℕ → View → List ℕ �
 SaysTwo AreSo count disk first second =
     Honest disk → SaysNumbers count (book_pages count disk.image) (HasTwo AreSo (book_pages count disk.image) first second)
 
-abbrev pub on_disk : ℕ → View → Catalogue
+abbrev pub on_disk : ℕ → View → SaidOfNames
 on_disk count disk = record { lacks = LacksRecord count disk; on_grid = SaysTwo AreOnGrid count disk; off_grid = SaysTwo AreOffGrid count disk }
 
 -- over the pages of the disk, which are so many
