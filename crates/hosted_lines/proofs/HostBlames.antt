@@ -19,7 +19,7 @@ use Rattle.gate_pages.specs.Journal.{pages_of}
 use Rattle.host_lines.specs.Grammar.{host_line}
 use Rattle.host_lines.specs.declared.asked.HostLine.{HostLine}
 use Rattle.host_lines.specs.declared.asked.HostLine.TheVariants.{List as ListLine, Values, Sum, Sweep, Bad, Other}
-use Rattle.host_replies.specs.Replies.{IsBadForReport, IsReportCause}
+use Rattle.host_replies.specs.Replies.{IsReportCause}
 use Rattle.line_runs.specs.Given.{AreBeforeWithin, Given, IsNextWithin, Line, Pause, End as EndOf}
 use Rattle.line_runs.specs.Runs.{StopsSoWithin}
 use Rattle.line_runs.specs.Ends.{run_end, stop_end}
@@ -35,12 +35,14 @@ use Rattle.retention.specs.declared.rule.Rule.{Rule}
 use Rattle.run_ends.specs.declared.ending.End.{End}
 use Rattle.run_ends.specs.declared.ending.End.TheVariants as end
 use Rattle.series_book.specs.declared.edits.Edit.{Edit}
+use Rattle.series_pair.specs.Damage.{IsBadForChart}
 use Rattle.served_lines.proofs.BlameLemmas.{more_blamed}
 use Rattle.served_lines.proofs.Carried.{lines_all, said_first, told_are}
 use Rattle.served_lines.specs.Turning.{lines_of}
 use Rattle.stored_book.proofs.CurrentLemmas.{spelled_current}
 use Rattle.stored_book.specs.Damage.{IsBadForRequest}
 use Rattle.stored_book.specs.Standing.{book_pages}
+use Rattle.store_commands.specs.Exported.{IsBadForExport}
 use Rattle.hosted_lines.specs.Answers.{MayAnswerHost, Sends, Watched, followed_behind}
 use Rattle.hosted_lines.specs.Blaming.{BlamesAlone, BlamesBy, BlamesFirst, BlamesHost, BlamesNext, FirstBlames, NextBlames, OfDamaged}
 use Rattle.hosted_lines.specs.Hosting.{FramesStop}
@@ -221,11 +223,11 @@ module _ (limit : ℕ) where
 
 alone_more : (asked : HostLine) (text : List ℕ) (one other : ℕ → ℕ → Type 0) (is_told : Type 0) (count : ℕ) (image : Image) (page : ℕ) → ((n id : ℕ) → one n id → other n id)
     → BlamesAlone asked text one is_told count image page → BlamesAlone asked text other is_told count image page
-alone_more ListLine text one other is_told count image page more blames = blames
+alone_more ListLine text one other is_told count image page more blames = absurd blames
 alone_more (Values name t0 t1) text one other is_told count image page more blames = blames
 alone_more (Sum session request) text one other is_told count image page more blames = blames
 alone_more (Sweep rule) text one other is_told count image page more blames = blames
-alone_more (Bad at) text one other is_told count image page more blames = blames
+alone_more (Bad at) text one other is_told count image page more blames = absurd blames
 alone_more Other text one other is_told count image page more blames = more_blamed (Some text) one other is_told count image page more blames
 
 host_more : (line : Option (List ℕ)) (one other : ℕ → ℕ → Type 0) (is_told : Type 0) (count : ℕ) (image : Image) (page : ℕ) → ((n id : ℕ) → one n id → other n id)
@@ -240,15 +242,13 @@ host_told is_told count image e o old before now none alone blames =
     told_blames MayAnswerHost followed_behind BlamesHost is_told count image (λ page line one other more blamed. host_more line one other is_told count image page more blamed) e o old before now none alone blames
 
 -- what page 0 says of the pages of a disk, they say where they are of version 2
-report_current : (asked : HostLine) (count : ℕ) (image : Image) (page : ℕ) → IsBadForReport asked count (pages_of count image) page → IsBadForReport asked count (book_pages count image) page
-report_current ListLine count image page bad = absurd bad
-report_current (Values name t0 t1) count image page bad =
-    let Says : Image → Type 0 = λ pages. IsBadForReport (Values name t0 t1) count pages page in subst Says (sym (spelled_current (pages_of count image) bad.numbers bad.keeps.spelled)) bad
-report_current (Sum session request) count image page bad =
-    let Says : Image → Type 0 = λ pages. IsBadForReport (Sum session request) count pages page in subst Says (sym (spelled_current (pages_of count image) bad.numbers bad.keeps.spelled)) bad
-report_current (Sweep rule) count image page bad = absurd bad
-report_current (Bad at) count image page bad = absurd bad
-report_current Other count image page bad = absurd bad
+values_current : (name : List ℕ) (count : ℕ) (image : Image) (page : ℕ) → IsBadForExport name count (pages_of count image) page → IsBadForExport name count (book_pages count image) page
+values_current name count image page bad =
+    let Says : Image → Type 0 = λ pages. IsBadForExport name count pages page in subst Says (sym (spelled_current (pages_of count image) bad.numbers bad.keeps.spelled)) bad
+
+sum_current : (count : ℕ) (image : Image) (page : ℕ) → IsBadForChart count (pages_of count image) page → IsBadForChart count (book_pages count image) page
+sum_current count image page bad =
+    let Says : Image → Type 0 = λ pages. IsBadForChart count pages page in subst Says (sym (spelled_current (pages_of count image) bad.numbers bad.keeps.spelled)) bad
 
 request_current : (count : ℕ) (image : Image) (page : ℕ) → IsBadForRequest count (pages_of count image) page → IsBadForRequest count (book_pages count image) page
 request_current count image page bad =
@@ -256,11 +256,11 @@ request_current count image page bad =
 
 alone_current : (asked : HostLine) (text : List ℕ) (last : ℕ → ℕ → Type 0) (is_told : Type 0) (count : ℕ) (image : Image) (page : ℕ) → BlamesAlone asked text last is_told count (pages_of count image) page
     → BlamesAlone asked text last is_told count (book_pages count image) page
-alone_current ListLine text last is_told count image page blames = (blames.0, λ t. report_current ListLine count image page (blames.1 t))
-alone_current (Values name t0 t1) text last is_told count image page blames = (blames.0, λ t. report_current (Values name t0 t1) count image page (blames.1 t))
-alone_current (Sum session request) text last is_told count image page blames = (blames.0, λ t. report_current (Sum session request) count image page (blames.1 t))
+alone_current ListLine text last is_told count image page blames = absurd blames
+alone_current (Values name t0 t1) text last is_told count image page blames = (blames.0, λ t. values_current name count image page (blames.1 t))
+alone_current (Sum session request) text last is_told count image page blames = (blames.0, λ t. sum_current count image page (blames.1 t))
 alone_current (Sweep rule) text last is_told count image page blames = (blames.0, λ t. request_current count image page (blames.1 t))
-alone_current (Bad at) text last is_told count image page blames = (blames.0, λ t. report_current (Bad at) count image page (blames.1 t))
+alone_current (Bad at) text last is_told count image page blames = absurd blames
 alone_current Other text last is_told count image page blames = line_current (Some text) last is_told count image page blames
 
 pub host_current : (line : Option (List ℕ)) (last : ℕ → ℕ → Type 0) (is_told : Type 0) (count : ℕ) (image : Image) (page : ℕ) → BlamesHost line last is_told count (pages_of count image) page

@@ -16,8 +16,7 @@ use Rattle.chart_service.specs.declared.failure.ServiceError.{ServiceError}
 use Rattle.gate_pages.specs.declared.pages.Pages.{Ghosts}
 use Rattle.host_lines.specs.Grammar.{host_line}
 use Rattle.host_lines.specs.declared.asked.HostLine.{HostLine}
-use Rattle.host_lines.specs.declared.asked.HostLine.TheVariants.{Other, Sweep}
-use Rattle.host_replies.specs.Replies.{IsBadForReport}
+use Rattle.host_lines.specs.declared.asked.HostLine.TheVariants.{List as ListLine, Values, Sum, Sweep, Bad, Other}
 use Rattle.live_service.specs.Blaming.{PushBlames}
 use Rattle.live_service.specs.Kinds.{MayAnswerBy}
 use Rattle.live_service.specs.Pushing.{FollowedBy}
@@ -27,7 +26,9 @@ use Rattle.live_view.specs.declared.live.Live.{Live}
 use Rattle.live_view.specs.declared.stepper.Stepper.{Ghosts as StepperGhosts}
 use Rattle.run_ends.specs.declared.ending.End.{End}
 use Rattle.run_ends.specs.declared.ending.End.TheVariants.{DamagedPage}
+use Rattle.series_pair.specs.Damage.{IsBadForChart}
 use Rattle.stored_book.specs.Standing.{book_pages}
+use Rattle.store_commands.specs.Exported.{IsBadForExport}
 use Rattle.hosted_lines.specs.Answers.{AreSentBy, Sends, ShownLast, Watched, watched}
 use Rattle.hosted_lines.specs.Lives.{Event, lines_in, spelled}
 use Rattle.hosted_lines.specs.Shown.{pages}
@@ -36,12 +37,15 @@ use Rattle.hosted_lines.specs.Shown.{pages}
 abbrev pub BlamesBy : Type 1
 BlamesBy = Option (List ℕ) → (ℕ → ℕ → Type 0) → Type 0 → ℕ → Image → ℕ → Type 0
 
--- which page a line of a host may blame, by what it asks of the host alone: of values one of the tree of the series that it
--- names, of a sum one on the way to a key, and of a step one that an edit or a look may
+-- Which page a line of a host may blame, by what it asks of the host alone: of values one of the tree of the series that it
+-- names, of a sum one on the way to a key, and of a step one that an edit or a look may. The list and a bad line blame none.
 abbrev pub BlamesAlone : HostLine → List ℕ → (ℕ → ℕ → Type 0) → Type 0 → ℕ → Image → ℕ → Type 0
-BlamesAlone Other text last is_told count image page = Blames (Some text) last is_told count image page
+BlamesAlone ListLine text last is_told count image page = ⊥
+BlamesAlone (Values name t0 t1) text last is_told count image page = (page < count) × (is_told → IsBadForExport name count image page)
+BlamesAlone (Sum session request) text last is_told count image page = (page < count) × (is_told → IsBadForChart count image page)
 BlamesAlone (Sweep rule) text last is_told count image page = IsBadPage is_told count image page
-BlamesAlone asked text last is_told count image page = (page < count) × (is_told → IsBadForReport asked count image page)
+BlamesAlone (Bad at) text last is_told count image page = ⊥
+BlamesAlone Other text last is_told count image page = Blames (Some text) last is_told count image page
 
 -- and by its text, where it isn't too long
 abbrev pub BlamesHost : BlamesBy

@@ -3,14 +3,10 @@ use Rattle.std.specs.Prelude.{ℕ, List, IfSome}
 use Rattle.block_disk.specs.View.{sent_now}
 use Rattle.block_disk.specs.declared.streams.Streams.{Ghosts as StreamGhosts}
 use Rattle.block_disk.specs.declared.streams.Streams as streams
-use Rattle.chart_service.specs.Blaming.{Blames}
 use Rattle.chart_service.specs.Moments.{Since}
-use Rattle.chart_service.specs.Serving.{told as told_by}
 use Rattle.chart_service.specs.Shown as shown
 use Rattle.chart_service.specs.declared.failure.ServiceError.{ServiceError}
 use Rattle.gate_pages.specs.declared.pages.Pages.{Ghosts}
-use Rattle.live_service.specs.Kinds.{MayAnswerLive}
-use Rattle.live_service.specs.Pushing.{followed_after}
 use Rattle.live_service.specs.Shown as its
 use Rattle.live_service.specs.declared.stepper.ServiceStepper.{ServiceStepper}
 use Rattle.live_view.specs.declared.live.Live.{Live}
@@ -18,8 +14,6 @@ use Rattle.live_view.specs.declared.stepper.Stepper.{Ghosts as StepperGhosts}
 use Rattle.run_ends.specs.declared.ending.End.{End}
 use Rattle.series_book.specs.declared.one_series.Series.{Series}
 use Rattle.stored_book.specs.Standing.{StandsForBook}
-use Rattle.hosted_lines.specs.Answers.{watched}
-use Rattle.hosted_lines.specs.Blaming.{BlamesFirst, OfDamaged}
 use Rattle.hosted_lines.specs.Reads.{ReadsLines}
 use Rattle.hosted_lines.specs.Shown.{pages}
 use Rattle.live_command.specs.Running.{SendsAll, EndsSo, IsAhead}
@@ -45,9 +39,3 @@ module _ {P : Type 0} {g : Ghosts P} {h : StepperGhosts (ServiceStepper P g) Ser
   -- the lines and the pushes read no more blocks than they may, and no other block was read
   abbrev pub ReadsFew : Type 0
   ReadsFew = IfSome (told.left (pages old)) (λ input. ReadsLines input (its.state old total book) (its.view old).reads (its.view new).reads)
-
-module _ {P : Type 0} {g : Ghosts P} {h : StepperGhosts (ServiceStepper P g) ServiceError} {beside : StreamGhosts (ServiceStepper P g)} (at : streams.Ghosts P) (old new : Live (ServiceStepper P g) ServiceError h beside) where
-  -- where the end calls a page damaged, some first lines are answered, and the next one blames the page, or a push does
-  abbrev pub BlamesOn : End → Type 0
-  BlamesOn end = OfDamaged (λ page. IfSome (at.left (pages old)) (λ input.
-      BlamesFirst MayAnswerLive followed_after Blames (told_by input) (watched old) (at.sent (pages old)) (at.sent (pages new)) (shown.IsTold (its.service new)) (its.view new).size (its.view new).image page)) end

@@ -1,5 +1,6 @@
 //! The lines of a live service's streams are answered, and the pushes behind them made.
 ghost use Rattle.std.specs.Prelude.{◌≡◌, ◌≢◌, ◌≤◌, ◌<◌, ◌^◌, Err, length, IfErr, IfSome, OnOk};
+ghost use Rattle.chart_service.specs.Blaming.{Blames};
 ghost use Rattle.chart_service.specs.Serving.{told};
 ghost use Rattle.chart_world.specs.Faults.{CountsFault, fault_in};
 ghost use Rattle.chart_world.specs.Reading.{IsReadUp, unread_input};
@@ -9,10 +10,11 @@ ghost use Rattle.live_service.specs.Shown as its;
 ghost use Rattle.live_view.specs.Live as follows;
 ghost use Rattle.run_ends.specs.Faults.{end_fault};
 ghost use Rattle.hosted_lines.specs.Answers.{SendsFor};
+ghost use Rattle.hosted_lines.specs.Blaming.{BlamesInput};
 ghost use Rattle.hosted_lines.specs.Doing.{Goes, IsCause, side_of};
 ghost use Rattle.live_command.specs.Syncs.{SyncsLines};
 ghost use Rattle.hosted_lines.specs.Shown.{HoldsSound, pages};
-ghost use Rattle.live_command.specs.Shown.{AreAnswered, BlamesOn, EndsOn, LastsFor, ReadsFew};
+ghost use Rattle.live_command.specs.Shown.{AreAnswered, EndsOn, LastsFor, ReadsFew};
 
 use chart_world::{LineAnswer, Lines};
 use gate_pages::PageWorld;
@@ -39,7 +41,7 @@ pub fn serve_live<P: PageWorld>(alloc: Global, live: &mut Live<ServiceStepper<P>
     ensures syncs { IfSome (P.left (pages live.old)) (λ input. SyncsLines input (its.view live.old).syncs (its.view live.new).syncs) }
     // whatever the pages are
     // a page that is called damaged is so for the line behind the answered ones, or for a push
-    ensures blames { BlamesOn P.Streams live.old live.new result }
+    ensures blames { BlamesInput P.Streams MayAnswerLive followed_after Blames live.old live.new result }
     // each frame names sessions that are open by those before it, and after `Done` one answers each line; the others are pushes
     ensures answers { result ≡ End.Done → IfSome (P.left (pages live.old)) (λ input. SendsFor P.Streams MayAnswerLive followed_after (told input) live.old live.new) }
     ensures whole { result ≡ End.Done → IsReadUp (P.left (pages live.old)) (P.left (pages live.new)) }
@@ -74,7 +76,7 @@ fn answer_lines<P: PageWorld>(
     ensures crash { its.ForBook live.old (λ total book. LastsFor P.Streams total book live.old live.new) }
     ensures reads { its.ForBook live.old (λ total book. ReadsFew P.Streams total book live.old live.new) }
     ensures syncs { IfSome (P.left (pages live.old)) (λ input. SyncsLines input (its.view live.old).syncs (its.view live.new).syncs) }
-    ensures blames { IfErr result (BlamesOn P.Streams live.old live.new) }
+    ensures blames { IfErr result (BlamesInput P.Streams MayAnswerLive followed_after Blames live.old live.new) }
     ensures answers { OnOk result (IfSome (P.left (pages live.old)) (λ input. SendsFor P.Streams MayAnswerLive followed_after (told input) live.old live.new)) }
     ensures whole { OnOk result (IsReadUp (P.left (pages live.old)) (P.left (pages live.new))) }
     ensures long { result ≡ Err End.InputTooLong → IfSome (P.left (pages live.old)) (λ input. 2 ^ 32 < length input) }
