@@ -54,12 +54,12 @@ module _ (old new : View) (t : Traffic) where
   derive_good ReadFault cause input sent r = tt
   derive_good SendFault cause input sent r = tt
   derive_good DiskFault cause input sent r = absurd (r.whole cause)
-  derive_good (BadInput offset) cause input sent r = absurd (bad_never r.book input t.sent t.sent_now offset r.text r.answers (sent r.total r.book r.holds))
+  derive_good (BadInput offset) cause input sent r = absurd (bad_never r.book input t.sent t.sent_now offset r.requests (sent r.total r.book r.holds))
   derive_good (DamagedPage page) cause input sent r = absurd (sent r.total r.book r.holds).damages.damaged
   derive_good InputTooLong cause input sent r = absurd (omega (arith, r.short, (sent r.total r.book r.holds).past))
   derive_good (RefusedLine offset number) cause input sent r =
       let is = sent r.total r.book r.holds in
-      absurd (refused_never r.book input t.sent t.sent_now offset is.why r.text r.answers is.draws)
+      absurd (refused_never r.book input t.sent t.sent_now offset is.why r.requests is.draws)
   derive_good end cause input sent r = absurd (sent r.total r.book r.holds)
 
   pub of_derive : (end : End) → DeriveEnds old new t end → TurnsAway old t (status_of end) → OfDerive at end

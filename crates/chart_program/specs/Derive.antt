@@ -4,9 +4,8 @@ use Rattle.block_disk.specs.Counts.{HasRisen}
 use Rattle.block_disk.specs.View.{View}
 use Rattle.chart_service.specs.Serving.{told}
 use Rattle.derive_command.specs.Derived.{IsBadForChart, DerivesAll, DerivesFirst, DerivesPart, DerivesTaken, DerivesToBad, DerivesToRefused, DerivesWithin}
-use Rattle.derive_command.specs.Answers.{IsAnswer}
 use Rattle.derive_command.specs.Catalogs.{by_disk}
-use Rattle.derive_command.specs.Lines.{AreAnswers, EndsAnyhow}
+use Rattle.derive_command.specs.Lines.{AreUnrefused, EndsAnyhow}
 use Rattle.disk_store.specs.Held.{HoldsBook}
 use Rattle.gate_pages.specs.Journal.{page_count}
 use Rattle.run_ends.specs.Statuses.{refused_at}
@@ -32,15 +31,14 @@ DeriveDoes c (TooSmall blocks) = HasFewBlocks c blocks
 DeriveDoes c (RefusedLine at refusal) = Told c (λ count old new input. DerivesToRefused count old input (refused_at at refusal))
 DeriveDoes c end = ⊥
 
--- The lines are no more than it takes, the disk holds a book, each line that isn't empty is a request with an answer, and no
+-- The lines are no more than it takes, the disk holds a book, each line that isn't empty is a request that isn't refused, and no
 -- call of the disk failed.
 pub record AreDerived (old new : View) (input : List ℕ) : Type 0 where
   pub short : length input ≤ 2 ^ 32
   pub total : ℕ
   pub book : List Series
   pub holds : HoldsBook (page_count old.size) total book old
-  pub text : List ℕ
-  pub answers : AreAnswers (IsAnswer book) (told input) text
+  pub requests : AreUnrefused book (told input)
   pub whole : HasRisen old.faults new.faults → ⊥
 
 -- The same, and what is so however it ended. Whatever the disk holds, a picture of its size answered each line before the one that

@@ -1,4 +1,4 @@
--- Where all lines of an input are requests that are answered, none is bad, and none is refused.
+-- A request that is answered isn't refused, and of lines that say requests which aren't none stops a run.
 use Rattle.std.proofs.Common.{◌≡◌, ◌∙◌, ℕ, ℤ, true, cond, List, [], ◌∷◌, ◌++◌, Option, Some, None, refl, ap, sym, subst, arith, inl, inr}
 use Rattle.std.proofs.lemmas.List.Elements.{All-contains}
 use Rattle.std.specs.List.{filter}
@@ -18,8 +18,8 @@ use Rattle.series_pair.proofs.ChartLemmas.{same_series}
 use Rattle.series_pair.specs.Derived.{AreAlike, AreShifted, HasLargeSum, IsDerivedChart, axis_of}
 use Rattle.view_keys.proofs.Grids.{grid_same}
 use Rattle.whole_number.specs.Range.{IsValue}
-use Rattle.derive_command.specs.Answers.{AnswersLine, AreNamed, AreOnOneGrid, IsAnswer, IsGridOf, IsRefused, asked_range, by_book}
-use Rattle.derive_command.specs.Lines.{AreAnswers, DrawsToBad, DrawsToRefused, FirstLines}
+use Rattle.derive_command.specs.Answers.{AreNamed, AreOnOneGrid, IsAnswer, IsGridOf, IsRefused, IsUnrefused, asked_range, by_book}
+use Rattle.derive_command.specs.Lines.{AreUnrefused, DrawsToBad, DrawsToRefused, FirstLines}
 use Rattle.derive_command.specs.Requests.{Says}
 use Rattle.derive_command.specs.declared.derive_refusal.DeriveRefusal.{DeriveRefusal}
 use Rattle.derive_command.specs.declared.derive_refusal.DeriveRefusal.TheVariants as refusal
@@ -148,32 +148,29 @@ says_one : (line : Option (List ℕ)) (first second : Request) → Says line fir
 says_one None first second one two = absurd one
 says_one (Some text) first second one two = one_request text first second one two
 
--- behind some first lines the others have answers too
-split : (book : List Series) (first others : List (Option (List ℕ))) (text : List ℕ) → AreAnswers (IsAnswer book) (first ++ others) text → (later : List ℕ) × AreAnswers (IsAnswer book) others later
-split book [] others text are = (text, are)
-split book (l ∷ ls) others text (first, rest, one, more, whole) = split book ls others rest more
+-- the lines behind some first ones are so, too
+split : (book : List Series) (first others : List (Option (List ℕ))) → AreUnrefused book (first ++ others) → AreUnrefused book others
+split book [] others are = are
+split book (l ∷ ls) others are = split book ls others are.1
 
-first_of : (book : List Series) (line : Option (List ℕ)) (others : List (Option (List ℕ))) (text : List ℕ) → AreAnswers (IsAnswer book) (line ∷ others) text → (said : List ℕ) × AnswersLine (IsAnswer book) line said
-first_of book line others text (first, rest, one, more, whole) = (first, one)
-
--- the next line has an answer
-at_next : (book : List Series) (input text : List ℕ) (first : FirstLines (IsAnswer book) input) (given : ℕ) (line : Option (List ℕ)) → AreAnswers (IsAnswer book) (told input) text → NextLine given first.rest line → says line ≡ true → (said : List ℕ) × AnswersLine (IsAnswer book) line said
-at_next book input text first given line are next some =
+-- the next line is so
+at_next : (book : List Series) (input : List ℕ) (answers : Request → List ℕ → Type 0) (first : FirstLines answers input) (given : ℕ) (line : Option (List ℕ)) → AreUnrefused book (told input)
+    → NextLine given first.rest line → says line ≡ true → IsUnrefused book line
+at_next book input answers first given line are next some =
     let whole = whole_front first.front first.rest first.begins.whole (some_left first.rest line next.later next.lines_are) in
-    let P : List (Option (List ℕ)) → Type 0 = λ l. AreAnswers (IsAnswer book) l text in
+    let P : List (Option (List ℕ)) → Type 0 = λ l. AreUnrefused book l in
     let behind : told first.rest ≡ line ∷ filter says next.later = ap (filter says) next.lines_are ∙ ap (λ b. cond b (line ∷ filter says next.later) (filter says next.later)) some in
     let all : told input ≡ told first.front ++ line ∷ filter says next.later = ap told first.begins.split ∙ told_behind first.front first.rest whole ∙ ap (λ l. told first.front ++ l) behind in
-    let others = split book (told first.front) (line ∷ filter says next.later) text (subst P all are) in
-    first_of book line (filter says next.later) others.0 others.1
+    (split book (told first.front) (line ∷ filter says next.later) (subst P all are)).0
 
-pub bad_never : (book : List Series) (input : List ℕ) (before now : Option (List ℕ)) (place : ℕ) (text : List ℕ) → AreAnswers (IsAnswer book) (told input) text → DrawsToBad (by_book book) input before now place → ⊥
-bad_never book input before now place text are bad =
-    let next = at_next book input text bad.drawn.first _ bad.line are bad.next bad.some in
-    bad.none next.1.request next.1.says_it
+pub bad_never : (book : List Series) (input : List ℕ) (before now : Option (List ℕ)) (place : ℕ) → AreUnrefused book (told input) → DrawsToBad (by_book book) input before now place → ⊥
+bad_never book input before now place are bad =
+    let next = at_next book input (IsAnswer book) bad.drawn.first _ bad.line are bad.next bad.some in
+    bad.none next.request next.says_it
 
-pub refused_never : (book : List Series) (input : List ℕ) (before now : Option (List ℕ)) (at : ℕ) (why : DeriveRefusal) (text : List ℕ) → AreAnswers (IsAnswer book) (told input) text → DrawsToRefused (by_book book) input before now at why → ⊥
-refused_never book input before now at why text are stop =
-    let next = at_next book input text stop.drawn.first _ stop.line are stop.next (says_true stop.line stop.refuses.request stop.refuses.says_it) in
-    let same = says_one stop.line stop.refuses.request next.1.request stop.refuses.says_it next.1.says_it in
+pub refused_never : (book : List Series) (input : List ℕ) (before now : Option (List ℕ)) (at : ℕ) (why : DeriveRefusal) → AreUnrefused book (told input) → DrawsToRefused (by_book book) input before now at why → ⊥
+refused_never book input before now at why are stop =
+    let next = at_next book input (IsAnswer book) stop.drawn.first _ stop.line are stop.next (says_true stop.line stop.refuses.request stop.refuses.says_it) in
+    let same = says_one stop.line stop.refuses.request next.request stop.refuses.says_it next.says_it in
     let P : Request → Type 0 = λ r. IsRefused book r why in
-    not_refused book next.1.request next.0 next.1.answer why (subst P same stop.refuses.refused)
+    next.unrefused why (subst P same stop.refuses.refused)

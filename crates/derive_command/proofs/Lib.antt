@@ -8,3 +8,5 @@ pub mod RecordLemmas
 pub mod DiskLemmas
 pub mod PictureLemmas
 pub mod GoodLemmas
+pub mod DrawnLemmas
+pub mod AnsweredLemmas

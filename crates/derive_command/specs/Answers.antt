@@ -1,5 +1,5 @@
 -- What a request is answered over a book: the picture of its chart, or why it is refused.
-use Rattle.std.specs.Prelude.{◌≡◌, ◌⊎◌, ℕ, ℤ, List, Option, None, Some}
+use Rattle.std.specs.Prelude.{◌≡◌, ◌⊎◌, ◌<◌, ℕ, ℤ, List, Option, None, Some, slice_get}
 use Rattle.series_book.specs.declared.refusal_numbers.TheConstants.{OTHER_GRID, SUM_TOO_LARGE}
 use Rattle.chart_grid.specs.Limits.{IsWindow, IsSide, IsBadWindow, IsBadSide}
 use Rattle.chart_grid.specs.Projection.{ShowsWindow, HasCanvas}
@@ -86,6 +86,10 @@ number_of BadCanvas = number_for_lines line.BadCanvas
 number_of BadRange = number_for_lines line.BadRange
 number_of TooLarge = SUM_TOO_LARGE
 
+-- each series of the book has a step
+abbrev pub HaveSteps : List Series → Type 0
+HaveSteps book = (id : ℕ) (series : Series) → slice_get book id ≡ Some series → 0 < series.step
+
 -- ---- lines
 
 -- What the answer to a request is, why it is refused, and which page is called damaged for it.
@@ -115,3 +119,9 @@ pub record DamagesLine (damages : Request → ℕ → Type 0) (line : Option (Li
   pub request : Request
   pub says_it : Says line request
   pub damaged : damages request page
+
+-- a line says a request that isn't refused over the book
+pub record IsUnrefused (book : List Series) (line : Option (List ℕ)) : Type 0 where
+  pub request : Request
+  pub says_it : Says line request
+  pub unrefused : (why : DeriveRefusal) → IsRefused book request why → ⊥

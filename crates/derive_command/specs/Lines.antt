@@ -1,5 +1,5 @@
 -- How far the lines of an input are answered.
-use Rattle.std.specs.Prelude.{◌≡◌, ℕ, ◌-◌, ◌^◌, ◌<◌, ◌≤◌, List, [], ◌∷◌, ◌++◌, length, take, Option, IfSome, IsTrue}
+use Rattle.std.specs.Prelude.{◌≡◌, ℕ, ◌-◌, ◌^◌, ◌<◌, ◌≤◌, List, [], ◌∷◌, ◌++◌, length, take, Option, IfSome, IsTrue, ⊤}
 use Rattle.block_disk.specs.Streams.{sent_after, PartSent}
 use Rattle.chart_service.specs.Serving.{told}
 use Rattle.chart_world.specs.Fronts.{says, BeginsWith, IsWhole}
@@ -9,7 +9,8 @@ use Rattle.line_runs.specs.Runs.{Unended}
 use Rattle.run_ends.specs.declared.ending.End.{End}
 use Rattle.run_ends.specs.declared.ending.End.TheVariants.{Done, NoMemory, ReadFault, SendFault, DiskFault, DamagedBlock, DamagedPage}
 use Rattle.run_ends.specs.declared.ending.End.TheVariants.{BadInput, InputTooLong, TooSmall, RefusedLine}
-use Rattle.derive_command.specs.Answers.{Answering, AnswersLine, DamagesLine, RefusesLine, number_of}
+use Rattle.series_book.specs.declared.one_series.Series.{Series}
+use Rattle.derive_command.specs.Answers.{Answering, AnswersLine, DamagesLine, IsUnrefused, RefusesLine, number_of}
 use Rattle.derive_command.specs.Requests.{SaysNone}
 use Rattle.derive_command.specs.declared.derive_refusal.DeriveRefusal.{DeriveRefusal}
 use Rattle.derive_command.specs.declared.request.Request.{Request}
@@ -19,6 +20,11 @@ abbrev pub AreAnswers : (Request → List ℕ → Type 0) → List (Option (List
 AreAnswers answers [] text = text ≡ []
 AreAnswers answers (line ∷ lines) text =
     (first : List ℕ) × (rest : List ℕ) × AnswersLine answers line first × AreAnswers answers lines rest × (text ≡ first ++ rest)
+
+-- each of these lines says a request that isn't refused over the book
+abbrev pub AreUnrefused : List Series → List (Option (List ℕ)) → Type 0
+AreUnrefused book [] = ⊤
+AreUnrefused book (line ∷ lines) = IsUnrefused book line × AreUnrefused book lines
 
 -- some first lines of the input, with their answers, and this stands behind them
 pub record FirstLines (answers : Request → List ℕ → Type 0) (input : List ℕ) : Type 0 where

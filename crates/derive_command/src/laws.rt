@@ -1,11 +1,12 @@
 //! What follows from the definitions. The functions do nothing: their contracts are the laws.
-ghost use Rattle.std.specs.Prelude.{◌≡◌, ℕ, List};
+ghost use Rattle.std.specs.Prelude.{◌≡◌, ◌⊎◌, ℕ, List};
 ghost use Rattle.series_book.specs.declared.one_series.Series.{Series};
-ghost use Rattle.derive_command.specs.Answers.{IsAnswer, IsRefused};
+ghost use Rattle.derive_command.specs.Answers.{HaveSteps, IsAnswer, IsRefused};
 ghost use Rattle.derive_command.specs.Requests.{Spells};
 ghost use Rattle.derive_command.specs.declared.derive_refusal.DeriveRefusal.{DeriveRefusal};
 ghost use Rattle.derive_command.specs.declared.request.Request.{Request};
 
+use derived_chart::laws::kept_sums_are_the_samples;
 use series_pair::laws::charts_are_one;
 
 /// A line spells one request at most.
@@ -20,4 +21,11 @@ pub fn requests_have_one_answer()
     ensures apart { (book : List Series) (request : Request) (text : List ℕ) (why : DeriveRefusal) → IsAnswer book request text → IsRefused book request why → ⊥ }
 {
     charts_are_one();
+}
+
+/// A request that isn't refused has an answer, over any book whose series have a step.
+pub fn requests_have_an_answer()
+    ensures { (book : List Series) (request : Request) → HaveSteps book → ((why : DeriveRefusal) × IsRefused book request why) ⊎ ((text : List ℕ) × IsAnswer book request text) }
+{
+    kept_sums_are_the_samples();
 }
